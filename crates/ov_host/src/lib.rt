@@ -46,7 +46,8 @@ mod tests {
         assert_eq!(rt; host.read(Area::Journal, 0, &mut [1, 2])?, 0);
         assert_eq!(rt; NullSource::new(false).read(&mut [1, 2])?, 0);
         let mut stage = NullStage::new(false);
-        assert_eq!(rt; stage.find("a.csv")?, Found::Missing);
+        assert_eq!(rt; stage.find("a.csv")?, Found::Yes);
+        assert_eq!(rt; stage.read(&mut [1, 2])?, 0);
         stage.create("b.csv")?;
         stage.write(b"gone")?;
         stage.finish()?;
