@@ -2,15 +2,15 @@
 --     value_cmp_total, key_cmp_total      each is a total order up to ties
 --     value_cmp-ties      values that tie are the same value
 --     key_cmp-ties      rows tie where their keys are the same
-use Rattle.std.specs.Prelude.{◌≡◌, ℕ, ℤ, pos, Bool, true, false, List, [], ◌∷◌, nat_eq, refl}
-use Rattle.std.proofs.Common.{sym, ◌∙◌, ap, subst}
+use Rattle.std.specs.Prelude.{◌≡◌, ℕ, ℤ, pos, Bool, true, false, List, [], refl}
+use Rattle.std.proofs.Common.{ap, subst}
 use Rattle.std.specs.Ordering.{nat_cmp, int_cmp, bool_cmp, on, then_cmp, ordering_then, is_eq, eq_by_cmp}
 use Rattle.std.specs.Bool.{Decides}
 use Rattle.std.specs.declared.cmp.Ordering.{Ordering}
 use Rattle.std.specs.declared.cmp.Ordering.TheVariants.{Less, Equal, Greater}
-use Rattle.std.specs.Cmp.{IsTotalOrder, nat_cmp_total, int_cmp_total, bool_cmp_total, then_total, on_total}
+use Rattle.std.specs.Cmp.{IsTotalOrder, nat_cmp_total, int_cmp_total, bool_cmp_total, then_total, on_total, eq_by_cmp_equiv}
 use Rattle.std.specs.Cmp.Lexicographic.{slice_cmp, nat_list_cmp_total, lists_total}
-use Rattle.std.specs.FinSet.{IsAntisymmetric, nat_cmp-IsAntisymmetric, int_cmp-IsAntisymmetric, slice_cmp-IsAntisymmetric}
+use Rattle.std.specs.FinSet.{nat_cmp-IsAntisymmetric, int_cmp-IsAntisymmetric, slice_cmp-IsAntisymmetric}
 use Rattle.ov_value.specs.declared.value.Value.{Value}
 use Rattle.ov_value.specs.declared.value.Value.TheVariants.{Int, Text, Flag, Null}
 use Rattle.ov_value.specs.Shapes.{Shape}
@@ -78,3 +78,21 @@ key_cmp_total schema = on_total (key_of schema) (lists_total value_cmp_total)
 
 pub key_cmp-ties : (schema : Shape) (a b : List Value) → key_cmp schema a b ≡ Equal → key_of schema a ≡ key_of schema b
 key_cmp-ties schema a b e = slice_cmp-IsAntisymmetric value_cmp-ties (key_of schema a) (key_of schema b) e
+
+ordering_is_equal : (r : Ordering) → is_eq r ≡ true → r ≡ Equal
+ordering_is_equal Less e = cc
+ordering_is_equal Equal e = refl
+ordering_is_equal Greater e = cc
+
+-- a value ties with itself alone
+pub value_tie_decides : (v w : Value) → Decides (eq_by_cmp value_cmp v w) (v ≡ w)
+value_tie_decides v w =
+    (λ e. value_cmp-ties v w (ordering_is_equal _ e), λ e. subst (λ u. eq_by_cmp value_cmp v u ≡ true) e ((eq_by_cmp_equiv value_cmp_total).refl v))
+
+pub key_cmp-ties_decide : (schema : Shape) (a b : List Value) → (key_cmp schema a b ≡ Equal → key_of schema a ≡ key_of schema b) × (key_of schema a ≡ key_of schema b → key_cmp schema a b ≡ Equal)
+key_cmp-ties_decide schema a b = (
+  key_cmp-ties schema a b,
+  λ e.
+      subst (λ k. slice_cmp value_cmp (key_of schema a) k ≡ Equal) e
+      (ordering_is_equal _ ((eq_by_cmp_equiv (lists_total value_cmp_total)).refl (key_of schema a))),
+)

@@ -40,7 +40,7 @@ key_of schema row = map (value_at row) schema.key
 
 pub record Fits (schema : Shape) (row : List Value) : Type 0 where
   pub kinds : HasKinds row schema.columns
-  pub keyed : All (λ value. value ≢ Null) (key_of schema row)
+  pub keyed : All (λ place. value_at row place ≢ Null) schema.key
 
 -- where two values of unlike kinds stand; in one column of rows that fit there are none
 abbrev pub rank : Value → ℕ

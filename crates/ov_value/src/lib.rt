@@ -8,6 +8,7 @@
 #![tactic(auto)]
 
 mod column;
+mod laws;
 mod names;
 mod row;
 mod schema;
@@ -16,6 +17,7 @@ mod txt;
 mod value;
 
 pub use column::{Column, Kind};
+pub use laws::key_order;
 pub use names::{is_column_name, is_name};
 pub use row::Row;
 pub use schema::Schema;

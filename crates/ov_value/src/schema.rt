@@ -1,9 +1,10 @@
 //! A schema: the columns of a dataset and which of them are its key.
 
 ghost use Rattle.std.specs.Prelude.{◌≡◌, ◌≢◌, ◌↔◌, ◌≤◌, IsTrue, IfOk, OnOk, IfErr, length, None, Some, map, Ok, Err, [], ◌++◌};
+ghost use Rattle.ov_value.specs.Naming.{is_column_name as is_column_name_of};
 ghost use Rattle.ov_value.specs.Shapes.{IsSound, names};
 ghost use Rattle.ov_value.specs.Making.{schema_of, widened, column_refusal, key_refusal, place_of as place_named, name_refusal, is_among};
-ghost use Rattle.ov_value.specs.Rows.{Fits, HasKinds, key_cmp, value_at, value_cmp};
+ghost use Rattle.ov_value.specs.Rows.{Fits, HasKinds, key_of, key_cmp, value_at, value_cmp};
 
 use crate::column::Column;
 use crate::names::is_column_name;
@@ -123,11 +124,15 @@ impl Schema {
 fn have_kinds(values: &[Value], columns: &[Column]) -> bool
     ensures { IsTrue result ↔ HasKinds values.now columns.now }
 {
-    values.len() == columns.len()
-        && values
-            .iter()
-            .zip(columns)
-            .all(|(value, column)| column.kind.takes(value))
+    if values.len() != columns.len() {
+        return false;
+    }
+    for (i, column) in columns.iter().enumerate() {
+        if !column.kind.takes(&values[i]) {
+            return false;
+        }
+    }
+    true
 }
 
 fn has_value_at(values: &[Value], place: u8) -> bool
@@ -169,6 +174,7 @@ fn append_copies(
     Ok(())
 }
 
+#[tactic(auto, unfolding(crate::specs::Making::column_refusal))]
 fn check_columns(alloc: Global, columns: &[Column]) -> Result<(), SchemaErr>
     ensures ok { OnOk result (column_refusal columns.now ≡ None) }
     ensures err { IfErr result (λ why. why ≢ SchemaErr.Memory → column_refusal columns.now ≡ Some why) }
@@ -182,9 +188,10 @@ fn check_columns(alloc: Global, columns: &[Column]) -> Result<(), SchemaErr>
     check_names(alloc, columns)
 }
 
+#[tactic(auto, unfolding(crate::specs::Making::name_refusal))]
 fn check_names(alloc: Global, columns: &[Column]) -> Result<(), SchemaErr>
-    ensures ok { OnOk result (name_refusal [] (names columns.now) ≡ None) }
-    ensures err { IfErr result (λ why. why ≢ SchemaErr.Memory → name_refusal [] (names columns.now) ≡ Some why) }
+    ensures ok { OnOk result (name_refusal is_column_name_of SchemaErr.BadName SchemaErr.RepeatedName [] (names columns.now) ≡ None) }
+    ensures err { IfErr result (λ why. why ≢ SchemaErr.Memory → name_refusal is_column_name_of SchemaErr.BadName SchemaErr.RepeatedName [] (names columns.now) ≡ Some why) }
 {
     for (i, column) in columns.iter().enumerate() {
         if !is_column_name(column.name.as_str()) {
@@ -204,9 +211,15 @@ fn check_names(alloc: Global, columns: &[Column]) -> Result<(), SchemaErr>
 fn has_name(columns: &[Column], name: &Txt) -> bool
     ensures { result ≡ is_among name.now (names columns.now) }
 {
-    columns.iter().any(|column| *name == column.name)
+    for column in columns {
+        if *name == column.name {
+            return true;
+        }
+    }
+    false
 }
 
+#[tactic(auto, unfolding(crate::specs::Making::key_refusal, crate::specs::Making::name_refusal))]
 fn check_key(alloc: Global, columns: &[Column], key: &[Txt]) -> Result<(), SchemaErr>
     ensures ok { OnOk result (key_refusal columns.now key.now ≡ None) }
     ensures err { IfErr result (λ why. why ≢ SchemaErr.Memory → key_refusal columns.now key.now ≡ Some why) }
@@ -232,7 +245,12 @@ fn check_key(alloc: Global, columns: &[Column], key: &[Txt]) -> Result<(), Schem
 fn stands_in(names: &[Txt], name: &Txt) -> bool
     ensures { result ≡ is_among name.now names.now }
 {
-    names.iter().any(|other| *name == *other)
+    for other in names {
+        if *name == *other {
+            return true;
+        }
+    }
+    false
 }
 
 fn places_of(alloc: Global, columns: &[Column], key: &[Txt]) -> Result<Vec<u8>, AllocError>
@@ -250,9 +268,10 @@ fn place_of(columns: &[Column], name: &Txt) -> u8
     requires { length columns.now ≤ 64 }
     ensures { result ≡ place_named columns.now name.now }
 {
-    let place = columns
-        .iter()
-        .position(|column| *name == column.name)
-        .unwrap_or(columns.len());
-    place as u8
+    for (i, column) in columns.iter().enumerate() {
+        if *name == column.name {
+            return i as u8;
+        }
+    }
+    columns.len() as u8
 }
