@@ -1,0 +1,5 @@
+pub mod Naming
+pub mod Shapes
+pub mod Rows
+pub mod Making
+pub mod Order

@@ -1,0 +1,26 @@
+//! Values, rows and schemas, and the bytes of a row.
+//!
+//! A value is an int, a text, a flag or NULL. A row is a list of values, one a column. A schema names its
+//! columns with their kinds and says which of them are the key, by which rows are ordered.
+//!
+//! Contracts see a `Txt` as its bytes, a `Row` as the list of its values and a `Schema` as its columns and
+//! the positions of its key columns. The definitions stand in `specs/`.
+#![tactic(auto)]
+
+mod column;
+mod laws;
+mod names;
+mod row;
+mod schema;
+mod schema_err;
+mod txt;
+mod value;
+
+pub use column::{Column, Kind};
+pub use laws::key_order;
+pub use names::{is_column_name, is_name};
+pub use row::Row;
+pub use schema::Schema;
+pub use schema_err::SchemaErr;
+pub use txt::Txt;
+pub use value::Value;
