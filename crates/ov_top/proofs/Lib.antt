@@ -1,0 +1,4 @@
+pub mod Readers
+pub mod Fields
+pub mod LineForms
+pub mod Options

@@ -1,0 +1,14 @@
+//! The program over its ends: the words, the script's lines one after another, and their replies.
+#![tactic(auto)]
+
+mod errors;
+mod named;
+mod read_file;
+mod read_line;
+mod reader;
+mod reply;
+mod split;
+mod status;
+mod words;
+
+pub use status::Status;
