@@ -1,3 +1,5 @@
+pub mod Ending
+pub mod Errors
 pub mod FileForm
 pub mod LineForm
 pub mod Lines
@@ -5,4 +7,5 @@ pub mod Named
 pub mod Options
 pub mod Play
 pub mod Reader
+pub mod Serving
 pub mod Words

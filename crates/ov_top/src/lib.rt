@@ -7,6 +7,8 @@ mod read_file;
 mod read_line;
 mod reader;
 mod reply;
+mod run;
+mod serve;
 mod split;
 mod status;
 mod words;
