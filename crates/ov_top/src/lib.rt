@@ -13,4 +13,5 @@ mod split;
 mod status;
 mod words;
 
+pub use run::run;
 pub use status::Status;

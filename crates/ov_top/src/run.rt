@@ -1,11 +1,12 @@
 // A whole run.
-ghost use Rattle.std.specs.Prelude.{◌≡◌, ◌<◌, ◌≤◌, ◌+◌, ◌^◌, ◌⊎◌, true, List, [], length, IsErrOf, IfOk, IsOk};
+ghost use Rattle.std.specs.Prelude.{◌≡◌, ◌<◌, ◌||◌, ◌+◌, ◌^◌, ◌⊎◌, true, List, ℕ, [], length, IsErrOf, IfOk, IsOk};
 ghost use Rattle.ov_host.specs.Host.{Rose, bytes_of};
 ghost use Rattle.ov_store.specs.Held.{IsAt, IsNew, Passes, AreEmpty};
 ghost use Rattle.ov_top.specs.Lines.{lines_of};
 ghost use Rattle.ov_top.specs.Named.{Looks};
 ghost use Rattle.ov_top.specs.Serving.{Played};
 ghost use Rattle.ov_top.specs.Ending.{Cause, Plays, AllTold};
+ghost use Rattle.ov_top.specs.Words.{are_words as are_words_of};
 
 use crate::errors::RunErr;
 use crate::reader::Reader;
@@ -16,6 +17,12 @@ use ov_host::{Area, Host, Source, Stage};
 use ov_store::{OpenErr, Store};
 use ov_value::Txt;
 use std::alloc::Global;
+
+fn either(a: bool, b: bool) -> bool
+    ensures { result ≡ (a || b) }
+{
+    a || b
+}
 
 // Serves the lines of the script, and says whether a reply is an error.
 fn serve_all<H: Host, S: Source, T: Stage>(alloc: Global, store: Store, host: &mut H, source: &mut S, stage: &mut T) -> Result<bool, RunErr>
@@ -38,14 +45,14 @@ fn serve_all<H: Host, S: Source, T: Stage>(alloc: Global, store: Store, host: &m
     let mut failed = false;
     'lines: while reader.next_line(source, &mut line)? {
         let refused = serve(alloc, &mut store, host, stage, line.as_slice())?;
-        failed = failed || refused;
+        failed = either(failed, refused);
     }
     Ok(failed)
 }
 
 // Opens the store, and serves the lines of the script over it.
 fn run_script<H: Host, S: Source, T: Stage>(alloc: Global, host: &mut H, source: &mut S, stage: &mut T) -> Status
-    ensures began { IsCaused result
+    ensures cause { (words : List (List ℕ)) → are_words_of words ≡ true → Cause result words
         (record { host = H.state host.old; script = S.script source.old; stage = T.staged stage.old })
         (record { host = H.state host.new; script = S.script source.new; stage = T.staged stage.new }) }
     ensures plays { AllTold (record { host = H.state host.old; script = S.script source.old; stage = T.staged stage.old })
