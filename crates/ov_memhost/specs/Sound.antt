@@ -1,7 +1,6 @@
 -- What reads of an area is never shorter than its synced length, nor longer than its greatest length.
-use Rattle.std.specs.Prelude.{◌≡◌, ◌≤◌, ℕ, ◌+◌, ◌-◌, List, [], ◌∷◌, ◌++◌, length, take, drop}
+use Rattle.std.specs.Prelude.{◌≡◌, ◌≤◌, ℕ, ◌+◌, List, [], ◌∷◌, ◌++◌, length, take, drop}
 use Rattle.std.proofs.Common.{arith, refl, length-append, length-take, length-drop}
-use Rattle.ov_host.specs.declared.area.Area.{Area}
 use Rattle.ov_host.specs.declared.area.Area.TheVariants.{Pages, Journal}
 use Rattle.ov_host.specs.Disk.{Stored, Disk, MayLeave, as_read, settled}
 use Rattle.ov_host.specs.Tape.{Call, Looks, Writes, Syncs, Prints, Tape, onto, done, marked, overwritten}

@@ -1,5 +1,5 @@
 -- What contracts see of a source in memory.
-use Rattle.std.specs.Prelude.{◌≡◌, ℕ, true, List, drop}
+use Rattle.std.specs.Prelude.{true, drop}
 use Rattle.ov_host.specs.Source.{Script}
 use Rattle.ov_memhost.specs.declared.source.MemSource.{MemSource}
 

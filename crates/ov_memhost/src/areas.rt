@@ -2,9 +2,8 @@
 ghost use Rattle.std.specs.Prelude.{◌≡◌, length, IfOk, OnOk, OnErr};
 ghost use Rattle.ov_host.specs.Tape.{overwritten};
 
-use std::alloc::{AllocError, Global};
-
 use ov_host::Area;
+use std::alloc::{AllocError, Global};
 
 /// Puts bytes over what is there from a place on, and past the end. A place past the end counts as the end.
 pub fn overwrite(bytes: &mut Vec<u8>, at: u64, new: &[u8]) -> Result<(), AllocError>

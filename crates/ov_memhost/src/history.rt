@@ -2,11 +2,9 @@
 ghost use Rattle.std.specs.Prelude.{◌≡◌, ◌+◌, ◌<◌, ◌^◌, [], ◌∷◌, ◌++◌, IfOk, OnOk, vec_len, vec_capacity};
 ghost use Rattle.ov_host.specs.Tape.{Writes};
 
-use std::alloc::{AllocError, Global};
-
-use ov_host::Area;
-
 use crate::areas::Areas;
+use ov_host::Area;
+use std::alloc::{AllocError, Global};
 
 /// A write that was done.
 #[derive(Drop)]

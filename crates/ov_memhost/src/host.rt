@@ -4,13 +4,12 @@ ghost use Rattle.ov_host.specs.Host.{given};
 ghost use Rattle.ov_memhost.specs.Kept.{Agrees, tape_by};
 ghost use Rattle.ov_memhost.specs.Done.{contents, kept_in};
 
-use std::alloc::{AllocError, Global};
-
-use ov_host::{Area, Failed, Host};
-
 use crate::areas::Areas;
 use crate::counts::Counts;
+use crate::give::give;
 use crate::history::{Did, History, Write};
+use ov_host::{Area, Failed, Host};
+use std::alloc::{AllocError, Global};
 
 /// A host in memory.
 #[derive(Drop)]
@@ -221,7 +220,5 @@ fn read_at(bytes: &[u8], at: u64, buf: &mut [u8]) -> usize
     ensures bytes { take result buf.new ≡ take result (drop at bytes.now) }
 {
     let from = at.min(bytes.len() as u64) as usize;
-    let count = buf.len().min(bytes.len() - from);
-    buf[..count].copy_from_slice(&bytes[from..from + count]);
-    count
+    give(&bytes[from..], buf)
 }

@@ -1,11 +1,10 @@
 // A source in memory.
-ghost use Rattle.std.specs.Prelude.{◌≡◌, ◌<◌, ◌≤◌, true, [], length, is_ok, IfOk, vec_len};
-
-use std::alloc::Global;
-
-use ov_host::{Failed, Source};
+ghost use Rattle.std.specs.Prelude.{◌≡◌, ◌<◌, ◌≤◌, true, [], length, is_ok, IfOk, OnErr, vec_len};
 
 use crate::counts::Counts;
+use crate::give::give;
+use ov_host::{Failed, Source};
+use std::alloc::Global;
 
 /// A script in memory, which tells its bytes. `read` takes no memory, and fails exactly where its number is listed.
 #[derive(Drop)]
@@ -54,13 +53,13 @@ impl Source for MemSource {
         ensures bytes { IfOk result (λ n. (script_of self.old).tells ≡ true
             → Gives n (script_of self.old).left (script_of self.new).left buf.new) }
         ensures counts { AnsweredAlways (is_ok result) self.old.counts self.new.counts }
+        ensures nothing { OnErr result (((script_of self.new).left ≡ (script_of self.old).left) × (buf.new ≡ buf.old)) }
     {
         if self.counts.enter() {
             return Err(Failed);
         }
         let left = &self.bytes.as_slice()[self.read..];
-        let count = left.len().min(buf.len());
-        buf[..count].copy_from_slice(&left[..count]);
+        let count = give(left, buf);
         self.read += count;
         Ok(count)
     }

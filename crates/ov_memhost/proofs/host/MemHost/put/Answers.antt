@@ -1,6 +1,5 @@
-use Rattle.std.proofs.Common.{◌≡◌, ℕ, List, [], ◌∷◌, ◌++◌, refl, ◌∙◌, ap, take, arith}
+use Rattle.std.proofs.Common.{ℕ, List, [], ◌∷◌, ◌++◌, refl, ◌∙◌, ap, take, arith}
 use Rattle.ov_host.specs.Tape.{Writes}
-use Rattle.ov_memhost.specs.Kept.{Kept}
 use Rattle.ov_memhost.specs.Done.{contents, kept_in}
 use Rattle.ov_memhost.specs.Host.{tape_of}
 use Rattle.ov_memhost.proofs.Grown.{does_more, tape_more, agrees_wrote}

@@ -1,4 +1,4 @@
-use Rattle.std.proofs.Common.{◌≡◌, ℕ, List, [], ◌∷◌, ◌++◌, refl, ◌∙◌, ap, take, vec_len, arith}
+use Rattle.std.proofs.Common.{◌≡◌, ℕ, List, [], ◌∷◌, ◌++◌, ◌∙◌, ap, take, arith}
 use Rattle.std.proofs.lemmas.List.{take-append-le}
 use Rattle.ov_host.specs.Tape.{Prints}
 use Rattle.ov_memhost.specs.Done.{contents, kept_in}

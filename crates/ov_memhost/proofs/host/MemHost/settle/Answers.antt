@@ -1,4 +1,4 @@
-use Rattle.std.proofs.Common.{◌≡◌, ℕ, List, refl, take, arith}
+use Rattle.std.proofs.Common.{ℕ, List, refl, take, arith}
 use Rattle.ov_host.specs.Tape.{Syncs}
 use Rattle.ov_memhost.specs.Done.{contents}
 use Rattle.ov_memhost.specs.Host.{tape_of}
