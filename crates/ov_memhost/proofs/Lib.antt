@@ -1,2 +1,5 @@
+pub mod Allowed
+pub mod Crashed
+pub mod Doubts
 pub mod Files
 pub mod Grown

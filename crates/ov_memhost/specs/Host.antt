@@ -1,6 +1,6 @@
 -- What contracts see of a host in memory.
 use Rattle.std.specs.Prelude.{◌≡◌, ℕ, true, List, [], ◌∷◌, ◌++◌, take}
-use Rattle.ov_host.specs.Disk.{MayLeave, as_read}
+use Rattle.ov_host.specs.Disk.{Disk, Image, MayLeave, as_read}
 use Rattle.ov_host.specs.Host.{State}
 use Rattle.ov_host.specs.Tape.{Call, Tape, fresh, onto, done}
 use Rattle.ov_memhost.specs.declared.host.MemHost.{MemHost}
@@ -26,6 +26,14 @@ reads_of m =
     in let text : List ℕ = take m.before m.printed.items
     in sound_reads (tape_of m).disk (sound_replayed (kept_by m) (fresh (at_rest first text)) (sound_start first text))
 
+-- the disk when the host was made
+abbrev pub start_of : MemHost → Disk
+start_of m = at_rest (at_start (kept_by m) (contents m.history.first) (contents m.areas)) (take m.before m.printed.items)
+
+-- what it reads now, as an image
+abbrev pub image_of : MemHost → Image
+image_of m = as_read (tape_of m).disk
+
 -- a new host of these contents and these printed bytes: nothing is pending, and nothing was counted
 abbrev pub new_state : Contents → List ℕ → State
 new_state c printed = record { tells = true; keeps = true; tape = fresh (at_rest c printed); faults = 0; fetched = 0 }
@@ -40,3 +48,11 @@ pub record Idle (old new : MemHost) : Type 0 where
   pub tape : tape_of new ≡ tape_of old
   pub kept : kept_by new ≡ kept_by old
   pub fetched : new.fetched ≡ old.fetched
+
+-- A host that was just made of an image: nothing is pending, no call is listed, and none was made.
+pub record IsNew (c : Image) (m : MemHost) : Type 0 where
+  pub state : state_of m ≡ new_state (record { pages = c.pages; journal = c.journal }) c.printed
+  pub kept : kept_by m ≡ []
+  pub unlisted : m.counts.fail.items ≡ []
+  pub calls : m.counts.calls ≡ 0
+  pub starved : m.counts.starved ≡ 0

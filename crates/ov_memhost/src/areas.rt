@@ -21,8 +21,8 @@ pub fn overwrite(bytes: &mut Vec<u8>, at: u64, new: &[u8]) -> Result<(), AllocEr
 /// What both areas read.
 #[derive(Drop)]
 pub struct Areas {
-    pages: Vec<u8>,
-    journal: Vec<u8>,
+    pub pages: Vec<u8>,
+    pub journal: Vec<u8>,
 }
 
 impl Areas {

@@ -9,9 +9,9 @@ use std::alloc::{AllocError, Global};
 /// A write that was done.
 #[derive(Drop)]
 pub struct Write {
-    area: Area,
-    at: u64,
-    bytes: Vec<u8>,
+    pub area: Area,
+    pub at: u64,
+    pub bytes: Vec<u8>,
     ghost fits: { at + vec_len bytes < 2 ^ 64 },
 }
 
@@ -39,8 +39,8 @@ pub enum Did {
 /// A call that changed something, and its number among all calls, counted from 0.
 #[derive(Drop)]
 pub struct Past {
-    number: u64,
-    did: Did,
+    pub number: u64,
+    pub did: Did,
 }
 
 /// The calls that changed something, in order, and the areas before the first of them.
@@ -78,6 +78,24 @@ impl History {
             self.first = now.copy(alloc)?;
         }
         Ok(())
+    }
+
+    /// The areas at the start; `now` is what they read now.
+    pub fn start(&self, alloc: Global, now: &Areas) -> Result<Areas, AllocError>
+        ensures { IfOk result (λ start. contents start
+            ≡ at_start (kept_in self.now.past.items) (contents self.now.first) (contents now.now)) }
+    {
+        if self.past.is_empty() {
+            return now.copy(alloc);
+        }
+        self.first.copy(alloc)
+    }
+
+    /// The calls that changed something, in order.
+    pub fn past(&self) -> &[Past]
+        ensures { result.now ≡ self.now.past.items }
+    {
+        self.past.as_slice()
     }
 
     /// Keeps a call. There is room.

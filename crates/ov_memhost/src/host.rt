@@ -14,13 +14,13 @@ use std::alloc::{AllocError, Global};
 /// A host in memory.
 #[derive(Drop)]
 pub struct MemHost {
-    alloc: Global,
+    pub(crate) alloc: Global,
     counts: Counts,
-    history: History,
-    areas: Areas,
-    printed: Vec<u8>,
+    pub(crate) history: History,
+    pub(crate) areas: Areas,
+    pub(crate) printed: Vec<u8>,
     // how many of the printed bytes were there when the host was made
-    before: usize,
+    pub(crate) before: usize,
     fetched: u64,
     ghost had: { before ≤ vec_len printed },
     ghost agrees: { Agrees (tape_by (kept_in history.past.items) (contents history.first) (contents areas) (take before printed.items))
@@ -39,13 +39,22 @@ impl MemHost {
         ensures kept { kept_by result ≡ [] }
         ensures counts { result.counts ≡ record { fail = fail; calls = 0; faults = 0; starved = 0 } }
     {
+        MemHost::settled(alloc, Areas::new(pages, journal), Vec::new(alloc), fail)
+    }
+
+    /// A host of these bytes, with nothing pending and this printed.
+    pub(crate) fn settled(alloc: Global, areas: Areas, printed: Vec<u8>, fail: Vec<u64>) -> MemHost
+        ensures state { state_of result ≡ new_state (contents areas) printed.items }
+        ensures kept { kept_by result ≡ [] }
+        ensures counts { result.counts ≡ record { fail = fail; calls = 0; faults = 0; starved = 0 } }
+    {
         MemHost {
             alloc,
             counts: Counts::new(fail),
             history: History::new(alloc),
-            areas: Areas::new(pages, journal),
-            printed: Vec::new(alloc),
-            before: 0,
+            areas,
+            before: printed.len(),
+            printed,
             fetched: 0,
         }
     }

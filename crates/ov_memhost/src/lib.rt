@@ -7,14 +7,21 @@
 
 mod areas;
 mod counts;
+mod crash;
 mod give;
 mod history;
 mod host;
+mod laws;
 mod named;
+mod pending;
+mod replica;
 mod source;
 mod stage;
 
 pub use host::MemHost;
+pub use laws::{
+    named_images_are_left_by_stops, one_image_is_named, stops_in_a_call_are_since_it_began,
+};
 pub use source::MemSource;
 pub use stage::MemStage;
 
