@@ -1,13 +1,14 @@
 -- The new host after a crash has the image that the arguments name.
-use Rattle.std.proofs.Common.{◌≡◌, refl, sym, ◌∙◌, ap, subst, ℕ, ◌+◌, ◌%◌, List, length, arith}
+use Rattle.std.proofs.Common.{◌≡◌, ◌<◌, ◌-◌, ◌^◌, true, refl, sym, ◌∙◌, ap, subst, ℕ, ◌+◌, ◌%◌, List, length, arith}
 use Rattle.ov_host.specs.Disk.{Disk, Image, as_read}
-use Rattle.ov_host.specs.Tape.{left_since}
+use Rattle.ov_host.specs.Tape.{fresh, left_since}
 use Rattle.ov_memhost.specs.declared.host.MemHost.{MemHost}
-use Rattle.ov_memhost.specs.Kept.{Kept, Contents}
+use Rattle.ov_memhost.specs.Kept.{Kept, Contents, is_numbered}
 use Rattle.ov_memhost.specs.Host.{state_of, tape_of, kept_by, start_of, image_of, new_state}
 use Rattle.ov_memhost.specs.Picked.{IsPicked, IsNamed, doubts_below}
 use Rattle.ov_memhost.specs.Stopped.{stopped, StopIn, moments_before}
 use Rattle.ov_memhost.specs.Sound.{sound_start}
+use Rattle.ov_memhost.proofs.Numbers.{stopped_last}
 use Rattle.ov_memhost.proofs.Allowed.{named_stop, stop_since, picked_from}
 
 -- the bytes that were taken are those that the arguments name
@@ -42,3 +43,9 @@ crash_stop m call cut pages journal pick i named =
 
 pub crash_left : (m : MemHost) (call : ℕ) (i : Image) → StopIn (kept_by m) call (start_of m) i → left_since (tape_of m) (moments_before (kept_by m) call) i
 crash_left m call i stop = stop_since (kept_by m) call (start_of m) i stop
+
+-- after the last call, the disk is the one that there is
+pub crash_last : (m : MemHost) (call cut pages journal : ℕ) (pick : List ℕ) (i : Image) → call ≡ m.counts.calls → call < 2 ^ 64 - 1 → IsNamed (stopped (kept_by m) call cut (start_of m)) pages journal pick i → IsNamed (tape_of m).disk pages journal pick i
+crash_last m call cut pages journal pick i last small named =
+    let numbered : is_numbered 0 (kept_by m) call ≡ true = ap (is_numbered 0 (kept_by m)) last ∙ m.numbered
+    in subst (λ d. IsNamed d pages journal pick i) (stopped_last 0 (kept_by m) call cut (fresh (start_of m)) small numbered) named

@@ -3,3 +3,4 @@ pub mod Crashed
 pub mod Doubts
 pub mod Files
 pub mod Grown
+pub mod Numbers

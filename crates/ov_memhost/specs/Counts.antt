@@ -16,7 +16,7 @@ is_listed counts = list_any (λ n. n == counts.calls) counts.fail.items
 pub record Answered (ok : Bool) (old new : Counts) : Type 0 where
   pub list : new.fail ≡ old.fail
   pub calls : new.calls ≡ next old.calls
-  pub later : old.faults ≤ new.faults
+  pub later : (old.faults ≤ new.faults) × (old.calls ≤ new.calls)
   pub listed : is_listed old ≡ true → ok ≡ false
   pub faults : new.faults ≡ (if ok then old.faults else next old.faults)
   pub starved : new.starved ≡ (if ok then old.starved else if is_listed old then old.starved else next old.starved)
@@ -25,7 +25,7 @@ pub record Answered (ok : Bool) (old new : Counts) : Type 0 where
 pub record AnsweredAlways (ok : Bool) (old new : Counts) : Type 0 where
   pub list : new.fail ≡ old.fail
   pub calls : new.calls ≡ next old.calls
-  pub later : old.faults ≤ new.faults
+  pub later : (old.faults ≤ new.faults) × (old.calls ≤ new.calls)
   pub listed : is_listed old ≡ true → ok ≡ false
   pub failed : ok ≡ false → is_listed old ≡ true
   pub faults : new.faults ≡ (if ok then old.faults else next old.faults)

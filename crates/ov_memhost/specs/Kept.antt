@@ -1,12 +1,18 @@
 -- What a host in memory keeps of its past: the calls that changed something, with their numbers.
-use Rattle.std.specs.Prelude.{◌≡◌, ℕ, List, [], ◌∷◌}
+use Rattle.std.specs.Prelude.{◌≡◌, ℕ, Bool, ◌&&◌, nat_le, List, [], ◌∷◌}
 use Rattle.ov_host.specs.Disk.{Disk, settled}
 use Rattle.ov_host.specs.Tape.{Call, Tape, fresh, onto, done}
+use Rattle.ov_memhost.specs.Counts.{next}
 
 -- a call that changed something, and its number, counted from 0 over all calls
 pub record Kept : Type 0 where
   pub number : ℕ
   pub call : Call
+
+-- the numbers ascend from `low` on, and are below the number of calls; at their last value they stand still
+abbrev pub is_numbered : ℕ → List Kept → ℕ → Bool
+is_numbered low [] calls = nat_le low calls
+is_numbered low (k ∷ ks) calls = nat_le low k.number && is_numbered (next k.number) ks calls
 
 -- these calls, one after another, onto a tape
 abbrev pub replayed : List Kept → Tape → Tape

@@ -1,7 +1,7 @@
 // A host in memory.
 ghost use Rattle.std.specs.Prelude.{◌≡◌, ◌≤◌, true, [], take, drop, length, is_ok, IfOk, OnOk, OnErr, vec_len};
 ghost use Rattle.ov_host.specs.Host.{given};
-ghost use Rattle.ov_memhost.specs.Kept.{Agrees, tape_by};
+ghost use Rattle.ov_memhost.specs.Kept.{Agrees, is_numbered, tape_by};
 ghost use Rattle.ov_memhost.specs.Done.{contents, kept_in};
 
 use crate::areas::Areas;
@@ -25,11 +25,13 @@ pub struct MemHost {
     ghost had: { before ≤ vec_len printed },
     ghost agrees: { Agrees (tape_by (kept_in history.past.items) (contents history.first) (contents areas) (take before printed.items))
         (contents areas) printed.items },
+    ghost numbered: { is_numbered 0 (kept_in history.past.items) counts.calls ≡ true },
 }
 
 impl MemHost {
     ghost use Rattle.ov_host.specs.Host.{bytes_of};
     ghost use Rattle.ov_host.specs.Tape.{Writes, Syncs, Prints};
+    ghost use Rattle.ov_memhost.specs.Counts.{next};
     ghost use Rattle.ov_memhost.specs.Host.{state_of, new_state, kept_by, Does, Idle};
 
     /// A host of these bytes, with nothing pending and nothing printed, of which the calls with these numbers fail,
@@ -89,6 +91,8 @@ impl MemHost {
 
     // A write, as the call of this number.
     fn put(&mut self, number: u64, area: Area, at: u64, bytes: &[u8]) -> Result<(), AllocError>
+        requires numbered { is_numbered 0 (kept_by self.old) number ≡ true }
+        requires counted { next number ≤ self.old.counts.calls }
         ensures ok { OnOk result (Does (Writes area at bytes.now) number self.old self.new) }
         ensures err { OnErr result (Idle self.old self.new) }
         ensures counts { self.new.counts ≡ self.old.counts }
@@ -103,6 +107,8 @@ impl MemHost {
 
     // A sync, as the call of this number.
     fn settle(&mut self, number: u64, area: Area) -> Result<(), AllocError>
+        requires numbered { is_numbered 0 (kept_by self.old) number ≡ true }
+        requires counted { next number ≤ self.old.counts.calls }
         ensures ok { OnOk result (Does (Syncs area) number self.old self.new) }
         ensures err { OnErr result (Idle self.old self.new) }
         ensures counts { self.new.counts ≡ self.old.counts }
@@ -115,6 +121,8 @@ impl MemHost {
 
     // A print, as the call of this number.
     fn say(&mut self, number: u64, bytes: &[u8]) -> Result<(), AllocError>
+        requires numbered { is_numbered 0 (kept_by self.old) number ≡ true }
+        requires counted { next number ≤ self.old.counts.calls }
         ensures ok { OnOk result (Does (Prints bytes.now) number self.old self.new) }
         ensures err { OnErr result (Idle self.old self.new) }
         ensures counts { self.new.counts ≡ self.old.counts }
@@ -128,6 +136,7 @@ impl MemHost {
     }
 }
 
+#[tactic(auto, using(crate::proofs::Numbers::numbered_later))]
 impl Host for MemHost {
     ghost use Rattle.ov_host.specs.Host.{Calls, bytes_of, fetched_by, gave, Reads};
     ghost use Rattle.ov_host.specs.Tape.{Looks, Writes, Syncs, Prints};

@@ -3,7 +3,7 @@ use Rattle.ov_memhost.specs.Done.{kept_in, contents}
 use Rattle.ov_memhost.specs.Host.{kept_by, start_of, image_of}
 use Rattle.ov_memhost.specs.Replica.{disk_of}
 use Rattle.ov_memhost.specs.Stopped.{stopped}
-use Rattle.ov_memhost.proofs.Crashed.{crash_named, crash_stop, crash_left}
+use Rattle.ov_memhost.proofs.Crashed.{crash_named, crash_last, crash_stop, crash_left}
 use Rattle.ov_memhost.proofs.host.MemHost.crash_at.Goals as goal
 
 pub returns-clause-named : goal.returns-clause-named
@@ -24,3 +24,8 @@ returns-clause-stop c =
 
 pub returns-clause-left : goal.returns-clause-left
 returns-clause-left c = crash_left c.args.self.now c.args.call (image_of c.settled.result) (returns-clause-stop c)
+
+pub returns-clause-last : goal.returns-clause-last
+returns-clause-last c is small =
+    crash_last c.args.self.now c.args.call (slice_index c.args.pick.now 0) c.args.pages c.args.journal c.args.pick.now
+    (image_of c.settled.result) is small (returns-clause-named c)
