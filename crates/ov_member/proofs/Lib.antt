@@ -1,0 +1,7 @@
+pub mod RidLemmas
+pub mod RunLemmas
+pub mod RangeLemmas
+pub mod EdgeLemmas
+pub mod WalkLemmas
+pub mod ReadLemmas
+pub mod SetLemmas
