@@ -1,14 +1,12 @@
 -- Reading ranges one by one.
-use Rattle.std.proofs.Common.{◌≡◌, ℕ, ◌+◌, ◌-◌, ◌<◌, ◌≤◌, ◌^◌, false, List, [], ◌∷◌, ◌++◌, length, Result, Ok, Err, refl, sym, ap, subst, ◌∙◌, append_assoc, arith}
-use Rattle.std.specs.Prelude.{IfOk}
-use Rattle.std.specs.Global.{Vec}
-use Rattle.std.specs.declared.alloc.AllocError.{AllocError}
+use Rattle.std.proofs.Common.{◌≡◌, ℕ, ◌+◌, ◌-◌, ◌<◌, ◌≤◌, ◌^◌, false, List, [], ◌∷◌, ◌++◌, length, refl, sym, ap, subst, ◌∙◌, append_assoc, arith}
 use Rattle.std.proofs.lemmas.List.{append-nil, length-append}
 use Rattle.std.proofs.lemmas.List.Concat.{flat_map-append}
 use Rattle.ov_member.specs.Lists.{Range, AreApart, range_bytes, bytes_of, Spells, ranges_of, spelling}
 use Rattle.ov_member.specs.Edges.{Ascend, ends, AreEdges, ranges_between, rids_between}
 use Rattle.ov_member.proofs.RangeLemmas.{front-same, fits-apart, continues, ranges_of-rids_of}
-use Rattle.ov_member.proofs.EdgeLemmas.{top, AreApart-between}
+use Rattle.ov_member.proofs.EdgeLemmas.{AreApart-between}
+use Rattle.ov_member.proofs.PutLemmas.{top}
 
 -- one past the last rid of ranges, or the number that they are above
 abbrev pub past_all : ℕ → List Range → ℕ
@@ -123,11 +121,3 @@ is_written edges rids bytes h e written =
       spells = record { ranges = ranges_between edges; apart = apart; written = written; listed = sym e };
       spelling = written ∙ ap bytes_of (sym ranges);
     }
-
-pub spells_if_ok : (r : Result (Vec ℕ) AllocError) (edges rids : List ℕ) → AreEdges edges → rids_between edges ≡ rids → IfOk r (λ bytes. bytes.items ≡ bytes_of (ranges_between edges)) → IfOk r (λ bytes. Spells bytes.items rids)
-spells_if_ok (Ok bytes) edges rids h e written = (is_written edges rids bytes.items h e written).spells
-spells_if_ok (Err error) edges rids h e written = tt
-
-pub spelling_if_ok : (r : Result (Vec ℕ) AllocError) (edges rids : List ℕ) → AreEdges edges → rids_between edges ≡ rids → IfOk r (λ bytes. bytes.items ≡ bytes_of (ranges_between edges)) → IfOk r (λ bytes. bytes.items ≡ spelling rids)
-spelling_if_ok (Ok bytes) edges rids h e written = (is_written edges rids bytes.items h e written).spelling
-spelling_if_ok (Err error) edges rids h e written = tt

@@ -21,7 +21,7 @@ pub fn same_set()
 {}
 
 /// What is in both of two sets, and what is in the first alone, are sets, and these are in them.
-pub fn has_of_set()
+pub fn parts_of_set()
     ensures shared_set { (xs ys : List ℕ) → AreRids xs → AreRids (shared xs ys) }
     ensures left_out_set { (xs ys : List ℕ) → AreRids xs → AreRids (left_out xs ys) }
     ensures in_shared { (xs ys : List ℕ) (rid : ℕ) → has (shared xs ys) rid ≡ (has xs rid && has ys rid) }

@@ -4,11 +4,13 @@
 
 mod edges;
 mod laws;
+mod list_bytes;
 mod lists;
 mod members;
 mod walk;
 
-pub use laws::{has_of_set, one_reading, one_spelling, same_set};
+pub use laws::{one_reading, one_spelling, parts_of_set, same_set};
+pub use list_bytes::ListBytes;
 pub use lists::read_list;
 pub use members::{LAST_RID, Members};
 

@@ -1,6 +1,6 @@
 //! Lists of rids in bytes.
 
-ghost use Rattle.std.specs.Prelude.{◌≡◌, ℕ, ◌+◌, ◌*◌, ◌<◌, ◌≤◌, ◌^◌, List, length, IfOk, MatchOption};
+ghost use Rattle.std.specs.Prelude.{◌≡◌, ◌↔◌, IsTrue, ℕ, ◌+◌, ◌*◌, ◌<◌, ◌≤◌, ◌^◌, List, length, IfOk, IfSome, IfNone, MatchOption};
 ghost use Rattle.ov_member.specs.Rids.{AreRids};
 ghost use Rattle.ov_member.specs.Lists.{Spells, bytes_of, range_bytes};
 ghost use Rattle.ov_member.specs.Edges.{AreEdges, ranges_between, rids_between};
@@ -38,6 +38,13 @@ fn numbers_of(range: &[u8]) -> (u32, u32)
     )
 }
 
+/// Whether a range may come next, where `past` is one past the last rid before it.
+fn follows(past: u32, first: u32, count: u32) -> bool
+    ensures { IsTrue result ↔ ((past < first) × (0 < count) × (first + count ≤ 2 ^ 31 + 1)) }
+{
+    past < first && first <= LAST_RID && 0 < count && count <= LAST_RID - first + 1
+}
+
 /// The edges of the set whose list the bytes are, or `None` where they are none.
 fn edges_read(alloc: Global, bytes: &[u8]) -> Result<Option<Vec<u32>>, AllocError>
     ensures { IfOk result (λ found. MatchOption found ((rids : List ℕ) → Spells bytes.now rids → ⊥) (λ edges. AreEdges edges.items × Spells bytes.now (rids_between edges.items))) }
@@ -51,7 +58,7 @@ fn edges_read(alloc: Global, bytes: &[u8]) -> Result<Option<Vec<u32>>, AllocErro
         }
         let (range, others) = rest.split_at(RANGE_BYTES);
         let (first, count) = numbers_of(range);
-        if first <= past || first > LAST_RID || count == 0 || count > LAST_RID - first + 1 {
+        if !follows(past, first, count) {
             return Ok(None);
         }
         past = first + count;
@@ -65,7 +72,9 @@ fn edges_read(alloc: Global, bytes: &[u8]) -> Result<Option<Vec<u32>>, AllocErro
 /// The set whose list the bytes are, all of the bytes. `None` where they are no list.
 /// It takes no more memory than there are bytes.
 pub fn read_list(alloc: Global, bytes: &[u8]) -> Result<Option<Members>, AllocError>
-    ensures { IfOk result (λ found. MatchOption found ((rids : List ℕ) → Spells bytes.now rids → ⊥) (λ members. AreRids members × Spells bytes.now members)) }
+    ensures found { IfOk result (λ found. IfSome found (Spells bytes.now)) }
+    ensures none { IfOk result (λ found. IfNone found ((rids : List ℕ) → Spells bytes.now rids → ⊥)) }
+    ensures set { IfOk result (λ found. IfSome found AreRids) }
 {
     match edges_read(alloc, bytes)? {
         None => Ok(None),

@@ -1,10 +1,12 @@
 //! A set of record ids.
 
-ghost use Rattle.std.specs.Prelude.{◌≡◌, ◌≤◌, ◌^◌, length, IfOk, MatchOption};
+ghost use Rattle.std.specs.Prelude.{◌≡◌, ◌≤◌, ◌^◌, length, IfOk};
+ghost use Rattle.std.specs.Option.{SomeIff};
 ghost use Rattle.ov_member.specs.Rids.{AreRids, has, shared, left_out, IsUnion};
 ghost use Rattle.ov_member.specs.Lists.{spelling, Spells};
 ghost use Rattle.ov_member.specs.Edges.{AreEdges, rids_between};
 
+use crate::list_bytes::ListBytes;
 use crate::walk::Rule;
 use crate::{edges, lists, walk};
 use std::alloc::{AllocError, Global};
@@ -35,7 +37,7 @@ impl Members {
     /// The set of these rids. `None` where they don't ascend strictly, or where one isn't from 1 to
     /// [`LAST_RID`].
     pub fn of(alloc: Global, rids: &[u32]) -> Result<Option<Members>, AllocError>
-        ensures { IfOk result (λ found. MatchOption found (AreRids rids.now → ⊥) (λ members. AreRids rids.now × (members ≡ rids.now))) }
+        ensures { IfOk result (λ found. SomeIff found (AreRids rids.now) rids.now) }
     {
         match edges::edges_of(alloc, rids)? {
             None => Ok(None),
@@ -52,29 +54,19 @@ impl Members {
     }
 
     /// The rids that are in one of the sets, or in both.
-    pub fn union(&self, other: &Members) -> Result<Members, AllocError>
+    pub fn union(&self, alloc: Global, other: &Members) -> Result<Members, AllocError>
         ensures { IfOk result (IsUnion self.now other.now) }
     {
-        let edges = walk::made(
-            *self.edges.allocator(),
-            Rule::Either,
-            &self.edges,
-            &other.edges,
-        )?;
+        let edges = walk::made(alloc, Rule::Either, &self.edges, &other.edges)?;
         Ok(Members { edges })
     }
 
     /// The rids of this set that are not in the other.
-    pub fn without(&self, other: &Members) -> Result<Members, AllocError>
+    pub fn without(&self, alloc: Global, other: &Members) -> Result<Members, AllocError>
         ensures set { IfOk result AreRids }
         ensures members { IfOk result (λ members. members ≡ left_out self.now other.now) }
     {
-        let edges = walk::made(
-            *self.edges.allocator(),
-            Rule::LeftOnly,
-            &self.edges,
-            &other.edges,
-        )?;
+        let edges = walk::made(alloc, Rule::LeftOnly, &self.edges, &other.edges)?;
         Ok(Members { edges })
     }
 
@@ -92,9 +84,10 @@ impl Members {
         edges::contains(&self.edges, rid)
     }
 
-    /// How many rids the set has, at most [`LAST_RID`].
+    /// How many rids the set has.
     pub fn len(&self) -> u32
         ensures count { result ≡ length self.now }
+        ensures at_most { result ≤ 2 ^ 31 }
         ensures set { AreRids self.now }
     {
         edges::count(&self.edges)
@@ -102,10 +95,11 @@ impl Members {
 
     /// The bytes of the set's list: ranges of successive rids, as few as there can be, in ascending order.
     /// A range takes eight bytes, its first rid and its number of rids, the greater byte first.
-    pub fn list_bytes(&self) -> Result<Vec<u8>, AllocError>
-        ensures spells { IfOk result (λ bytes. Spells bytes.items self.now) }
-        ensures spelling { IfOk result (λ bytes. bytes.items ≡ spelling self.now) }
+    pub fn list_bytes(&self, alloc: Global) -> Result<ListBytes, AllocError>
+        ensures spells { IfOk result (λ bytes. Spells bytes self.now) }
+        ensures spelling { IfOk result (λ bytes. bytes ≡ spelling self.now) }
     {
-        lists::list_of(*self.edges.allocator(), &self.edges)
+        let bytes = lists::list_of(alloc, &self.edges)?;
+        Ok(ListBytes::new(bytes))
     }
 }

@@ -3,7 +3,7 @@ use Rattle.std.specs.List.{slice_get}
 use Rattle.std.specs.Option.{option_eq}
 use Rattle.ov_member.specs.Edges.{rids_between}
 use Rattle.ov_member.proofs.RidLemmas.{RiseFrom-right}
-use Rattle.ov_member.proofs.EdgeLemmas.{put_rid, taken_off, is_last-some}
+use Rattle.ov_member.proofs.PutLemmas.{put_rid, taken_off, is_last-some}
 use Rattle.ov_member.proofs.edges.push_rid.Goals.{then-eq, else-eq+in_ok-push}
 use Rattle.ov_member.proofs.edges.push_rid.Goals as goal
 

@@ -1,8 +1,7 @@
 use Rattle.std.proofs.Common.{◌≡◌, ◌<◌, ◌+◌, ◌++◌, ◌∷◌, [], length, sym, subst, ◌∙◌, append_assoc, arith}
-use Rattle.std.proofs.lemmas.Bool.{eqb-true, eqb-false}
+use Rattle.std.proofs.lemmas.Bool.{eqb-true, eqb-false, false≢true}
 use Rattle.std.proofs.lemmas.List.{take-append-drop, nil_from_length}
 use Rattle.ov_member.proofs.ReadLemmas.{Reads, next_range, next_is_long, next_fits, reads_none, reads_on, reads_all}
-use Rattle.ov_member.proofs.lists.edges_read.Goals.{then-first-past-via-then-first-past, then-first-past-via-else-first-past+then-first-gt-LAST_RID, then-first-past-via-else-first-past+else-first-gt-LAST_RID+then-count-eq0, then-first-past-via-else-first-past+else-first-gt-LAST_RID+else-count-eq0+then-count-first}
 use Rattle.ov_member.proofs.lists.edges_read.Goals as goal
 
 pub loop-rest-init : goal.loop-rest-init
@@ -15,18 +14,13 @@ returns-then-rest-lt-RANGE_BYTES c = λ rids spells.
     let long = next_is_long _ _ (next_range _ _ _ rids _ c.loop-rest.invariant more spells) in
     omega arith
 
-pub returns-then-first-past : goal.returns-then-first-past
-returns-then-first-past c = λ rids spells.
+pub returns-then-not-follows : goal.returns-then-not-follows
+returns-then-not-follows c = λ rids spells.
     let some = eqb-false _ _ (sym c.loop-rest-test.ensures) in
     let more : 0 < length c.loop-rest.rest.now = omega arith in
     let parts : c.loop-rest.rest.now ≡ c.split_at.result.0.now ++ c.split_at.result.1.now = sym (rw (c.split_at.ensures.front, c.split_at.ensures.back) (take-append-drop 8 c.loop-rest.rest.now)) in
     let fits = next_fits _ c.loop-rest.rest.now c.split_at.result.0.now c.split_at.result.1.now c.numbers_of-first.result.0 c.numbers_of-first.result.1 (next_range _ _ _ rids _ c.loop-rest.invariant more spells) (omega arith) (omega arith) parts c.numbers_of-first.ensures in
-    elim c.then-first-past.branch [
-      | then-first-past-via-then-first-past w ↦ omega arith
-      | then-first-past-via-else-first-past+then-first-gt-LAST_RID w ↦ omega arith
-      | then-first-past-via-else-first-past+else-first-gt-LAST_RID+then-count-eq0 w ↦ omega arith
-      | then-first-past-via-else-first-past+else-first-gt-LAST_RID+else-count-eq0+then-count-first w ↦ omega arith
-    ]
+    false≢true (c.if-not-follows.ensures.1 fits)
 
 pub loop-rest-preserved : goal.loop-rest-preserved
 loop-rest-preserved c =

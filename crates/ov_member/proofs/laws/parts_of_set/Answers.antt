@@ -1,7 +1,7 @@
 use Rattle.std.proofs.Common.{not}
 use Rattle.ov_member.specs.Rids.{has}
 use Rattle.ov_member.proofs.RidLemmas.{RiseFrom-filter, has-filter}
-use Rattle.ov_member.proofs.laws.has_of_set.Goals as goal
+use Rattle.ov_member.proofs.laws.parts_of_set.Goals as goal
 
 pub returns-clause-shared_set : goal.returns-clause-shared_set
 returns-clause-shared_set c = λ xs ys h. RiseFrom-filter (has ys) 1 xs h
