@@ -23,7 +23,7 @@ pub record AreEdges (edges : List ℕ) : Type 0 where
   pub ascend : Ascend 0 edges
   pub closed : ends false edges ≡ false
 
--- from two edges to the next two
+-- the ranges that begin and end at these edges, the first from the first edge up to the second
 abbrev pub ranges_between : List ℕ → List Range
 ranges_between [] = []
 ranges_between (first ∷ []) = []

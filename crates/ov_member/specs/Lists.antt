@@ -1,4 +1,5 @@
--- A list in bytes: ranges of rids, each as its first rid and its number of rids, in four bytes each.
+-- A list in bytes: ranges of rids, each as its first rid and its number of rids, in four bytes each, with the
+-- greatest byte first.
 use Rattle.std.specs.Prelude.{◌≡◌, ℕ, zero, suc, ◌+◌, ◌^◌, ◌<◌, ◌≤◌, ◌==◌, if◌then◌else◌, List, [], ◌∷◌, ◌++◌}
 use Rattle.std.specs.List.{flat_map}
 use Rattle.std.specs.Int.{w32, to_be_bytes}
@@ -44,7 +45,7 @@ abbrev pub in_front : ℕ → List Range → List Range
 in_front rid [] = record { first = rid; count = 1 } ∷ []
 in_front rid (range ∷ ranges) = if range.first == suc rid then record { first = rid; count = suc range.count } ∷ ranges else record { first = rid; count = 1 } ∷ range ∷ ranges
 
--- the fewest ranges that have these ascending rids
+-- the ranges of ascending rids: successive rids share one
 abbrev pub ranges_of : List ℕ → List Range
 ranges_of [] = []
 ranges_of (rid ∷ rids) = in_front rid (ranges_of rids)

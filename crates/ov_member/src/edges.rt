@@ -1,6 +1,6 @@
 //! A set as its edges: where each of its ranges begins, and one past where it ends, ascending.
 
-ghost use Rattle.std.specs.Prelude.{◌≡◌, ℕ, ◌+◌, ◌<◌, ◌≤◌, ◌^◌, [], ◌∷◌, ◌++◌, length, IfOk, OnOk, MatchOption};
+ghost use Rattle.std.specs.Prelude.{◌≡◌, [], ◌∷◌, ◌++◌, length, IfOk, OnOk, MatchOption};
 ghost use Rattle.ov_member.specs.Rids.{AreRids, has};
 ghost use Rattle.ov_member.specs.Edges.{AreEdges, rids_between};
 

@@ -1,6 +1,6 @@
 //! Lists of rids in bytes.
 
-ghost use Rattle.std.specs.Prelude.{◌≡◌, ◌↔◌, IsTrue, ℕ, ◌+◌, ◌*◌, ◌<◌, ◌≤◌, ◌^◌, List, length, IfOk, IfSome, IfNone, MatchOption};
+ghost use Rattle.std.specs.Prelude.{◌≡◌, ◌↔◌, ℕ, ◌+◌, ◌<◌, ◌≤◌, ◌^◌, List, length, IsTrue, IfOk, IfSome, IfNone, MatchOption};
 ghost use Rattle.ov_member.specs.Rids.{AreRids};
 ghost use Rattle.ov_member.specs.Lists.{Spells, bytes_of, range_bytes};
 ghost use Rattle.ov_member.specs.Edges.{AreEdges, ranges_between, rids_between};
@@ -69,8 +69,8 @@ fn edges_read(alloc: Global, bytes: &[u8]) -> Result<Option<Vec<u32>>, AllocErro
     Ok(Some(edges))
 }
 
-/// The set whose list the bytes are, all of the bytes. `None` where they are no list.
-/// It takes no more memory than there are bytes.
+/// The set whose list the bytes are, all of the bytes, as [`Members::list_bytes`] writes it. `None` where they
+/// are no list. It takes no more memory than there are bytes.
 pub fn read_list(alloc: Global, bytes: &[u8]) -> Result<Option<Members>, AllocError>
     ensures found { IfOk result (λ found. IfSome found (Spells bytes.now)) }
     ensures none { IfOk result (λ found. IfNone found ((rids : List ℕ) → Spells bytes.now rids → ⊥)) }

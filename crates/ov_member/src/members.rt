@@ -15,8 +15,8 @@ use std::marker::Model;
 /// The greatest record id, 2^31. The least is 1.
 pub const LAST_RID: u32 = 2_147_483_648;
 
-/// A set of record ids. It is kept as its ranges of successive rids, so that its size and the time of each
-/// call but [`Members::of`] go by the number of ranges. Contracts see it as the list of its rids, ascending.
+/// A set of record ids. It is kept as its ranges of successive rids, so that its size, and the time of the calls
+/// that take one or two sets, go by the number of ranges. Contracts see it as the list of its rids, ascending.
 #[derive(Debug, Drop)]
 pub struct Members {
     edges: Vec<u32>,
@@ -84,7 +84,7 @@ impl Members {
         edges::contains(&self.edges, rid)
     }
 
-    /// How many rids the set has.
+    /// How many rids the set has, at most [`LAST_RID`].
     pub fn len(&self) -> u32
         ensures count { result ≡ length self.now }
         ensures at_most { result ≤ 2 ^ 31 }
@@ -93,8 +93,8 @@ impl Members {
         edges::count(&self.edges)
     }
 
-    /// The bytes of the set's list: ranges of successive rids, as few as there can be, in ascending order.
-    /// A range takes eight bytes, its first rid and its number of rids, the greater byte first.
+    /// The bytes of the set's list: its ranges, ascending, where successive rids share a range. A range takes
+    /// eight bytes: its first rid and its number of rids, each in four bytes with the greatest byte first.
     pub fn list_bytes(&self, alloc: Global) -> Result<ListBytes, AllocError>
         ensures spells { IfOk result (λ bytes. Spells bytes self.now) }
         ensures spelling { IfOk result (λ bytes. bytes ≡ spelling self.now) }

@@ -1,7 +1,7 @@
 //! Walking along the edges of two sets at once, in the time of their ranges.
 
-ghost use Rattle.std.specs.Prelude.{◌≡◌, ℕ, ◌+◌, ◌<◌, ◌≤◌, ◌^◌, false, List, [], ◌∷◌, length, IfOk, IfSome, MatchOption};
-ghost use Rattle.ov_member.specs.Edges.{Ascend, AreEdges, rids_between};
+ghost use Rattle.std.specs.Prelude.{◌≡◌, ℕ, ◌<◌, ◌≤◌, ◌+◌, ◌^◌, false, List, [], ◌∷◌, length, IfOk, IfSome, MatchOption};
+ghost use Rattle.ov_member.specs.Edges.{Ascend, rids_between};
 ghost use Rattle.ov_member.specs.Walks.{takes, nearest, rest_past, inside_past, AreTurns, Awaits, IsAbove, edges_left};
 
 use std::alloc::{AllocError, Global};
