@@ -1,0 +1,169 @@
+// The host on files: a folder with a file for each area, and standard output.
+ghost use Rattle.std.specs.Prelude.{[], ◌≤◌, IfOk, length};
+ghost use Rattle.ov_host.specs.Host.{silent};
+ghost use Rattle.ov_host.specs.Disk.{settled_reads};
+
+use crate::count::Count;
+use crate::reads::read_full_at;
+use ov_host::{Area, Failed, Host};
+use std::fs;
+use std::fs::{File, OpenOptions};
+use std::io;
+use std::io::ErrorKind;
+use std::os::unix::fs::FileExt;
+use std::path::{Path, PathBuf};
+
+// The open files of the two areas.
+#[derive(Drop)]
+struct Areas {
+    pages: File,
+    journal: File,
+}
+
+// Makes the folder and its files where they are absent, and opens them. Their names are settled too, since without them a
+// stop could lose a file whose bytes were synced.
+fn open_areas(rt: HostRuntime, folder: &str) -> io::Result<Areas> {
+    make_folder(rt, folder)?;
+    let areas = Areas {
+        pages: open_area(rt, folder, "pages")?,
+        journal: open_area(rt, folder, "journal")?,
+    };
+    settle_names(rt, folder)?;
+    Ok(areas)
+}
+
+fn make_folder(rt: HostRuntime, folder: &str) -> io::Result<()> {
+    match fs::create_dir(&rt, folder) {
+        Ok(()) => settle_names(rt, folder_above(folder)),
+        Err(e) if e.kind() == ErrorKind::AlreadyExists => Ok(()),
+        Err(e) => Err(e),
+    }
+}
+
+fn folder_above(folder: &str) -> &str {
+    match Path::new(folder).parent() {
+        Some(above) if !above.as_os_str().is_empty() => above.as_os_str(),
+        _ => ".",
+    }
+}
+
+// From here on a stop leaves the names that the folder has.
+fn settle_names(rt: HostRuntime, folder: &str) -> io::Result<()> {
+    fs::open(&rt, folder)?.sync_all()
+}
+
+fn open_area(rt: HostRuntime, folder: &str, name: &str) -> io::Result<File> {
+    let mut path = PathBuf::from_str(rt.alloc(), folder)?;
+    path.push(name)?;
+    OpenOptions::new()
+        .read(true)
+        .write(true)
+        .create(true)
+        .open(&rt, path)
+}
+
+// The folder of a store, whose files are opened where they are first needed.
+#[derive(Drop)]
+struct Folder {
+    rt: HostRuntime,
+    name: String,
+    areas: Option<Areas>,
+}
+
+impl Folder {
+    fn open(&mut self) -> io::Result<&Areas> {
+        if self.areas.is_none() {
+            self.areas = Some(open_areas(self.rt, self.name.as_str())?);
+        }
+        match &self.areas {
+            Some(areas) => Ok(areas),
+            None => unreachable!(),
+        }
+    }
+
+    fn file(&mut self, area: Area) -> io::Result<&File> {
+        let areas = self.open()?;
+        match area {
+            Area::Pages => Ok(&areas.pages),
+            Area::Journal => Ok(&areas.journal),
+        }
+    }
+
+    fn len(&mut self, area: Area) -> io::Result<u64> {
+        Ok(self.file(area)?.metadata()?.len())
+    }
+
+    fn read(&mut self, area: Area, at: u64, buf: &mut [u8]) -> io::Result<usize>
+        ensures { IfOk result (λ n. n ≤ length buf.old) }
+    {
+        read_full_at(self.file(area)?, at, buf)
+    }
+
+    fn write(&mut self, area: Area, at: u64, bytes: &[u8]) -> io::Result<()> {
+        self.file(area)?.write_all_at(bytes, at)
+    }
+
+    fn sync(&mut self, area: Area) -> io::Result<()> {
+        self.file(area)?.sync_data()
+    }
+
+    fn print(&mut self, bytes: &[u8]) -> io::Result<()> {
+        self.open()?;
+        self.rt.write_all(bytes)
+    }
+}
+
+/// A host that keeps its areas in the files `pages` and `journal` of a folder, and prints to standard output. It tells no
+/// bytes. Its first call makes the folder and the files where they are absent, and opens them; what fails there is that
+/// call's failure.
+#[derive(Drop)]
+pub struct FileHost {
+    folder: Folder,
+    faults: Count,
+    fetched: Count,
+}
+
+impl FileHost {
+    /// The host on the folder of this name, with all counts at 0. Nothing is touched yet.
+    pub fn new(rt: HostRuntime, folder: String) -> FileHost {
+        FileHost {
+            folder: Folder {
+                rt,
+                name: folder,
+                areas: None,
+            },
+            faults: Count::new(),
+            fetched: Count::new(),
+        }
+    }
+}
+
+impl Host for FileHost {
+    ghost state = { λ h. silent h.faults h.fetched };
+
+    ghost reads = { λ h. settled_reads [] [] [] };
+
+    fn len(&mut self, area: Area) -> Result<u64, Failed> {
+        self.faults.checked(self.folder.len(area))
+    }
+
+    fn read(&mut self, area: Area, at: u64, buf: &mut [u8]) -> Result<usize, Failed> {
+        let n = self.faults.checked(self.folder.read(area, at, buf))?;
+        if area == Area::Pages {
+            self.fetched.add(n as u64);
+        }
+        Ok(n)
+    }
+
+    fn write(&mut self, area: Area, at: u64, bytes: &[u8]) -> Result<(), Failed> {
+        self.faults.checked(self.folder.write(area, at, bytes))
+    }
+
+    fn sync(&mut self, area: Area) -> Result<(), Failed> {
+        self.faults.checked(self.folder.sync(area))
+    }
+
+    fn print(&mut self, bytes: &[u8]) -> Result<(), Failed> {
+        self.faults.checked(self.folder.print(bytes))
+    }
+}

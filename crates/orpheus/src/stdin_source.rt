@@ -1,0 +1,31 @@
+// The script on standard input.
+ghost use Rattle.ov_host.specs.Source.{silent_script};
+
+use crate::count::Count;
+use crate::reads::read_some;
+use ov_host::{Failed, Source};
+
+/// The source that gives the bytes of standard input. It tells none.
+#[derive(Drop)]
+pub struct StdinSource {
+    rt: HostRuntime,
+    faults: Count,
+}
+
+impl StdinSource {
+    /// The source, with its count at 0. Nothing is read yet.
+    pub fn new(rt: HostRuntime) -> StdinSource {
+        StdinSource {
+            rt,
+            faults: Count::new(),
+        }
+    }
+}
+
+impl Source for StdinSource {
+    ghost script = { λ s. silent_script s.faults };
+
+    fn read(&mut self, buf: &mut [u8]) -> Result<usize, Failed> {
+        self.faults.checked(read_some(&mut self.rt.stdin(), buf))
+    }
+}
