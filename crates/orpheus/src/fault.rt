@@ -1,6 +1,6 @@
 // How a run ends the program.
 ghost use Rattle.std.specs.Prelude.{◌≡◌};
-ghost use Rattle.orpheus.specs.Exits.{ending_of, exit_of};
+ghost use Rattle.orpheus.specs.Exits.{exit_of, fault_of};
 
 use crate::top::Status;
 use ov_host::Area;
@@ -36,35 +36,81 @@ pub fn file_name(area: Area) -> &'static str {
 }
 
 impl Fault {
-    /// The program's exit status after the fault.
-    pub fn exit(&self) -> u8
-        ensures { result ≡ exit_of self.now }
+    /// The fault that ended a run, where it was not read to its end.
+    pub fn of(status: Status) -> Option<Fault>
+        ensures { result ≡ fault_of status }
     {
-        match self {
-            Fault::Usage => 2,
-            Fault::Store => 3,
-            Fault::Input => 4,
-            Fault::Memory => 5,
-            Fault::NotAStore | Fault::Damaged { .. } | Fault::Format { .. } => 6,
-            Fault::ScriptTooLong => 7,
-        }
+        Some(match status {
+            Status::Done | Status::Refused => return None,
+            Status::Usage => Fault::Usage,
+            Status::HostFault => Fault::Store,
+            Status::InputFault => Fault::Input,
+            Status::Memory => Fault::Memory,
+            Status::NotAStore => Fault::NotAStore,
+            Status::Damaged { area, at } => Fault::Damaged { area, at },
+            Status::Format { found } => Fault::Format { found },
+            Status::ScriptTooLong => Fault::ScriptTooLong,
+        })
     }
 }
 
-/// The exit status of a run that read its script to the end, or the fault that ended it before.
-pub fn ending(status: Status) -> Result<u8, Fault>
-    ensures { result ≡ ending_of status }
+/// The exit status of the program after a run.
+pub fn exit_status(status: Status) -> u8
+    ensures { result ≡ exit_of status }
 {
     match status {
-        Status::Done => Ok(0),
-        Status::Refused => Ok(1),
-        Status::Usage => Err(Fault::Usage),
-        Status::HostFault => Err(Fault::Store),
-        Status::InputFault => Err(Fault::Input),
-        Status::Memory => Err(Fault::Memory),
-        Status::NotAStore => Err(Fault::NotAStore),
-        Status::Damaged { area, at } => Err(Fault::Damaged { area, at }),
-        Status::Format { found } => Err(Fault::Format { found }),
-        Status::ScriptTooLong => Err(Fault::ScriptTooLong),
+        Status::Done => 0,
+        Status::Refused => 1,
+        Status::Usage => 2,
+        Status::HostFault => 3,
+        Status::InputFault => 4,
+        Status::Memory => 5,
+        Status::NotAStore | Status::Damaged { .. } | Status::Format { .. } => 6,
+        Status::ScriptTooLong => 7,
+    }
+}
+
+#[cfg(test)]
+mod tests {
+    use super::*;
+    use std::test::Fail;
+
+    // What a status ends the program with, and the line after `orpheus: `.
+    const ENDINGS: [(Status, u8, &str); 9] = [
+        (Status::Usage, 2, "usage: orpheus <folder> [--steps N]"),
+        (Status::HostFault, 3, "store fault"),
+        (Status::InputFault, 4, "input fault"),
+        (Status::Memory, 5, "out of memory"),
+        (Status::NotAStore, 6, "not a store"),
+        (
+            Status::Damaged {
+                area: Area::Pages,
+                at: 4096,
+            },
+            6,
+            "damaged store: pages 4096",
+        ),
+        (
+            Status::Damaged {
+                area: Area::Journal,
+                at: u64::MAX,
+            },
+            6,
+            "damaged store: journal 18446744073709551615",
+        ),
+        (Status::Format { found: 3 }, 6, "unknown format 3"),
+        (Status::ScriptTooLong, 7, "script too long"),
+    ];
+
+    #[test]
+    fn a_run_ends_the_program(rt: HostRuntime) -> Result<(), Fail> {
+        assert_eq!(rt; exit_status(Status::Done), 0);
+        assert_eq!(rt; exit_status(Status::Refused), 1);
+        for (status, exit, line) in ENDINGS {
+            assert_eq!(rt; exit_status(status), exit, "at {line}");
+            let fault = Fault::of(status).ok_or("no fault")?;
+            assert_eq!(rt; format!(in rt.alloc(); "{fault}")?.as_str(), line);
+        }
+        Ok(())
     }
 }

@@ -6,12 +6,11 @@ ghost use Rattle.ov_host.specs.Disk.{settled_reads};
 use crate::count::Count;
 use crate::reads::read_full_at;
 use ov_host::{Area, Failed, Host};
-use std::fs;
 use std::fs::{File, OpenOptions};
-use std::io;
 use std::io::ErrorKind;
 use std::os::unix::fs::FileExt;
 use std::path::{Path, PathBuf};
+use std::{fs, io};
 
 // The open files of the two areas.
 #[derive(Drop)]
@@ -165,5 +164,67 @@ impl Host for FileHost {
 
     fn print(&mut self, bytes: &[u8]) -> Result<(), Failed> {
         self.faults.checked(self.folder.print(bytes))
+    }
+}
+
+#[cfg(test)]
+mod tests {
+    use super::*;
+    use std::test::Fail;
+
+    const FOLDER: &str = "store_of_a_test";
+
+    // What is written from which place on.
+    const WRITES: [(Area, u64, &[u8]); 4] = [
+        (Area::Journal, 0, b"head"),
+        (Area::Journal, 4, b""),
+        (Area::Journal, 3, b"dline"),
+        (Area::Pages, 2, b"page"),
+    ];
+
+    // What a buffer of eight bytes then takes from which place on.
+    const READS: [(Area, u64, &[u8]); 5] = [
+        (Area::Pages, 0, b"\0\0page"),
+        (Area::Journal, 0, b"headline"),
+        (Area::Journal, 5, b"ine"),
+        (Area::Journal, 8, b""),
+        (Area::Journal, 900, b""),
+    ];
+
+    #[test]
+    fn a_folder_keeps_its_areas(rt: HostRuntime) -> Result<(), Fail> {
+        let _ = fs::remove_dir_all(&rt, FOLDER);
+        let mut host = FileHost::new(rt, String::from_str(rt.alloc(), FOLDER)?);
+        assert!(rt;
+            !fs::exists(&rt, FOLDER)?,
+            "nothing is touched before the first call"
+        );
+        for (area, at, bytes) in WRITES {
+            host.write(area, at, bytes)?;
+            host.sync(area)?;
+        }
+        let mut host = FileHost::new(rt, String::from_str(rt.alloc(), FOLDER)?);
+        assert_eq!(rt; host.len(Area::Journal)?, 8);
+        for (area, at, bytes) in READS {
+            let mut buf = [0; 8];
+            let n = host.read(area, at, &mut buf)?;
+            assert_eq!(rt; &buf[..n], bytes, "from {at} on");
+        }
+        host.print(b"")?;
+        assert_eq!(rt;
+            host.write(Area::Journal, u64::MAX, b"x"),
+            Err(Failed),
+            "no file is so long"
+        );
+        fs::remove_dir_all(&rt, FOLDER)?;
+        Ok(())
+    }
+
+    #[test]
+    fn a_folder_that_cannot_be_made_is_a_failure(rt: HostRuntime) -> Result<(), Fail> {
+        let mut host = FileHost::new(rt, String::from_str(rt.alloc(), "no/folder/is/here")?);
+        assert_eq!(rt; host.print(b"nothing"), Err(Failed));
+        assert_eq!(rt; host.len(Area::Pages), Err(Failed));
+        Ok(())
     }
 }

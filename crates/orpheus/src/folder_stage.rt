@@ -5,10 +5,9 @@ ghost use Rattle.ov_host.specs.Stage.{silent_stage};
 use crate::count::Count;
 use crate::reads::read_some;
 use ov_host::{Failed, Found, Stage};
-use std::fs;
 use std::fs::File;
-use std::io;
 use std::io::{ErrorKind, Write};
+use std::{fs, io};
 
 // Opens the regular file of this name, where the name leads to one. Only a regular file is opened, since a folder opens
 // and fails at its first read, and a pipe waits.
@@ -104,5 +103,49 @@ impl Stage for FolderStage {
             Some(file) => self.faults.checked(file.sync_all()),
             None => unreachable!(),
         }
+    }
+}
+
+#[cfg(test)]
+mod tests {
+    use super::*;
+    use std::test::Fail;
+
+    // Names that lead to no regular file: nothing, a folder, a path through a file, a NUL byte, an empty name.
+    const NOWHERE: [&str; 6] = [
+        "stage_of_a_test/b.csv",
+        "stage_of_a_test",
+        "stage_of_a_test/a.csv/b.csv",
+        "stage_of_a_test/a.csv\0",
+        "stage_of_a_test/a.csv/",
+        "",
+    ];
+
+    #[test]
+    fn a_file_is_written_and_found(rt: HostRuntime) -> Result<(), Fail> {
+        let _ = fs::remove_dir_all(&rt, "stage_of_a_test");
+        fs::create_dir(&rt, "stage_of_a_test")?;
+        let mut stage = FolderStage::new(rt);
+        stage.create("stage_of_a_test/a.csv")?;
+        stage.write(b"id,na")?;
+        stage.write(b"me\n")?;
+        stage.finish()?;
+        assert_eq!(rt; stage.find("stage_of_a_test/a.csv")?, Found::Yes);
+        let mut buf = [0; 6];
+        assert_eq!(rt; stage.read(&mut buf)?, 6);
+        assert_eq!(rt; buf, *b"id,nam");
+        assert_eq!(rt; stage.read(&mut buf)?, 2);
+        assert_eq!(rt; buf, *b"e\n,nam");
+        assert_eq!(rt; stage.read(&mut buf)?, 0);
+        for name in NOWHERE {
+            assert_eq!(rt; stage.find(name)?, Found::Missing, "at {name:?}");
+        }
+        assert_eq!(rt;
+            stage.find("x".repeat(rt.alloc(), 5000)?.as_str())?,
+            Found::Missing
+        );
+        assert_eq!(rt; stage.create("stage_of_a_test"), Err(Failed));
+        fs::remove_dir_all(&rt, "stage_of_a_test")?;
+        Ok(())
     }
 }

@@ -4,6 +4,10 @@
 //! standard error. All else is below the call of `run`.
 #![tactic(auto)]
 
+ghost use Rattle.std.specs.Prelude.{◌≡◌};
+ghost use Rattle.std.specs.Process.{exit_status};
+ghost use Rattle.orpheus.specs.Exits.{exit_of};
+
 mod count;
 mod fault;
 mod file_host;
@@ -12,7 +16,7 @@ mod reads;
 mod stdin_source;
 mod top;
 
-use fault::ending;
+use fault::Fault;
 use file_host::FileHost;
 use folder_stage::FolderStage;
 use std::env;
@@ -24,10 +28,7 @@ use top::{Status, WordsErr, options, run};
 // The words after the program's name, or the status that they end the program with where they can't be read.
 fn words(rt: HostRuntime) -> Result<Vec<String>, Status> {
     match env::args(&rt) {
-        Ok(all) => all
-            .skip(1)
-            .collect(rt.alloc())
-            .map_err(|_| Status::Memory),
+        Ok(all) => all.skip(1).collect(rt.alloc()).map_err(|_| Status::Memory),
         Err(e) if e.kind() == ErrorKind::OutOfMemory => Err(Status::Memory),
         Err(_) => Err(Status::Usage),
     }
@@ -50,14 +51,14 @@ fn start(rt: HostRuntime) -> Result<Status, Status> {
     Ok(run(&words, &mut host, &mut source, &mut stage))
 }
 
-fn finish(rt: HostRuntime, status: Status) -> ExitCode {
-    match ending(status) {
-        Ok(exit) => ExitCode::from(exit),
-        Err(fault) => {
-            let _ = eprintln!(rt; "orpheus: {fault}");
-            ExitCode::from(fault.exit())
-        }
+// Says on standard error what kept the run from reading its script to the end.
+fn finish(rt: HostRuntime, status: Status) -> ExitCode
+    ensures { exit_status result ≡ exit_of status }
+{
+    if let Some(fault) = Fault::of(status) {
+        let _ = eprintln!(rt; "orpheus: {fault}");
     }
+    ExitCode::from(fault::exit_status(status))
 }
 
 fn main(rt: HostRuntime) -> ExitCode {

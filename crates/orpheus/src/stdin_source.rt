@@ -29,3 +29,15 @@ impl Source for StdinSource {
         self.faults.checked(read_some(&mut self.rt.stdin(), buf))
     }
 }
+
+#[cfg(test)]
+mod tests {
+    use super::*;
+
+    #[test]
+    fn an_empty_input_is_at_its_end(rt: HostRuntime) {
+        let mut source = StdinSource::new(rt);
+        assert_eq!(rt; source.read(&mut [0; 8]), Ok(0));
+        assert_eq!(rt; source.read(&mut [0; 1]), Ok(0));
+    }
+}
