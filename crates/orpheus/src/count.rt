@@ -1,5 +1,5 @@
 // A count that every end keeps of its failures.
-ghost use Rattle.std.specs.Prelude.{◌≡◌, ◌≤◌, ◌+◌, ◌-◌, ◌^◌, Ok, min, IsErr, IfOk};
+ghost use Rattle.std.specs.Prelude.{◌≡◌, ◌≤◌, ◌↔◌, ◌+◌, ◌-◌, ◌^◌, Ok, min, IsErr, IfOk, OnOk};
 ghost use Rattle.ov_host.specs.Host.{Rose};
 
 use ov_host::Failed;
@@ -37,8 +37,10 @@ impl Count {
     /// Passes an outcome on, and counts it where it is a failure.
     pub fn checked<T>(&mut self, outcome: io::Result<T>) -> Result<T, Failed>
         ensures later { self.old ≤ self.new }
+        ensures fails { IsErr result ↔ IsErr outcome }
         ensures cause { IsErr result → Rose self.old self.new }
         ensures same { IfOk result (λ value. outcome ≡ Ok value) }
+        ensures unchanged { OnOk result (self.new ≡ self.old) }
     {
         match outcome {
             Ok(value) => Ok(value),

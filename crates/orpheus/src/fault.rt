@@ -2,6 +2,7 @@
 ghost use Rattle.std.specs.Prelude.{◌≡◌};
 ghost use Rattle.orpheus.specs.Exits.{exit_of, fault_of};
 
+use crate::file_host::file_name;
 use crate::top::Status;
 use ov_host::Area;
 use thiserror::Error;
@@ -25,14 +26,6 @@ pub enum Fault {
     Format { found: u32 },
     #[error("script too long")]
     ScriptTooLong,
-}
-
-/// The name of an area's file in the folder of a store.
-pub fn file_name(area: Area) -> &'static str {
-    match area {
-        Area::Pages => "pages",
-        Area::Journal => "journal",
-    }
 }
 
 impl Fault {

@@ -1,16 +1,28 @@
 // The host on files: a folder with a file for each area, and standard output.
-ghost use Rattle.std.specs.Prelude.{[], ◌≤◌, IfOk, length};
+ghost use Rattle.std.specs.Prelude.{[], ◌≡◌, ◌≤◌, IfOk, length};
 ghost use Rattle.ov_host.specs.Host.{silent};
+ghost use Rattle.orpheus.specs.Exits.{name_of};
 ghost use Rattle.ov_host.specs.Disk.{settled_reads};
 
 use crate::count::Count;
 use crate::reads::read_full_at;
 use ov_host::{Area, Failed, Host};
+use ov_value::Txt;
 use std::fs::{File, OpenOptions};
 use std::io::ErrorKind;
 use std::os::unix::fs::FileExt;
 use std::path::{Path, PathBuf};
 use std::{fs, io};
+
+/// The name of an area's file in the folder of a store.
+pub fn file_name(area: Area) -> &'static str
+    ensures { result.now ≡ name_of area }
+{
+    match area {
+        Area::Pages => "pages",
+        Area::Journal => "journal",
+    }
+}
 
 // The open files of the two areas.
 #[derive(Drop)]
@@ -24,8 +36,8 @@ struct Areas {
 fn open_areas(rt: HostRuntime, folder: &str) -> io::Result<Areas> {
     make_folder(rt, folder)?;
     let areas = Areas {
-        pages: open_area(rt, folder, "pages")?,
-        journal: open_area(rt, folder, "journal")?,
+        pages: open_area(rt, folder, Area::Pages)?,
+        journal: open_area(rt, folder, Area::Journal)?,
     };
     settle_names(rt, folder)?;
     Ok(areas)
@@ -51,9 +63,9 @@ fn settle_names(rt: HostRuntime, folder: &str) -> io::Result<()> {
     fs::open(&rt, folder)?.sync_all()
 }
 
-fn open_area(rt: HostRuntime, folder: &str, name: &str) -> io::Result<File> {
+fn open_area(rt: HostRuntime, folder: &str, area: Area) -> io::Result<File> {
     let mut path = PathBuf::from_str(rt.alloc(), folder)?;
-    path.push(name)?;
+    path.push(file_name(area))?;
     OpenOptions::new()
         .read(true)
         .write(true)
@@ -65,7 +77,7 @@ fn open_area(rt: HostRuntime, folder: &str, name: &str) -> io::Result<File> {
 #[derive(Drop)]
 struct Folder {
     rt: HostRuntime,
-    name: String,
+    name: Txt,
     areas: Option<Areas>,
 }
 
@@ -124,7 +136,9 @@ pub struct FileHost {
 
 impl FileHost {
     /// The host on the folder of this name, with all counts at 0. Nothing is touched yet.
-    pub fn new(rt: HostRuntime, folder: String) -> FileHost {
+    pub fn new(rt: HostRuntime, folder: Txt) -> FileHost
+        ensures { ⟦<FileHost as Host>⟧.state result ≡ silent 0 0 }
+    {
         FileHost {
             folder: Folder {
                 rt,
@@ -194,7 +208,7 @@ mod tests {
     #[test]
     fn a_folder_keeps_its_areas(rt: HostRuntime) -> Result<(), Fail> {
         let _ = fs::remove_dir_all(&rt, FOLDER);
-        let mut host = FileHost::new(rt, String::from_str(rt.alloc(), FOLDER)?);
+        let mut host = FileHost::new(rt, Txt::new(rt.alloc(), FOLDER)?);
         assert!(rt;
             !fs::exists(&rt, FOLDER)?,
             "nothing is touched before the first call"
@@ -203,7 +217,7 @@ mod tests {
             host.write(area, at, bytes)?;
             host.sync(area)?;
         }
-        let mut host = FileHost::new(rt, String::from_str(rt.alloc(), FOLDER)?);
+        let mut host = FileHost::new(rt, Txt::new(rt.alloc(), FOLDER)?);
         assert_eq!(rt; host.len(Area::Journal)?, 8);
         for (area, at, bytes) in READS {
             let mut buf = [0; 8];
@@ -220,9 +234,25 @@ mod tests {
         Ok(())
     }
 
+    // A folder, and the one that has its name.
+    const ABOVE: [(&str, &str); 5] = [
+        ("s", "."),
+        ("s/", "."),
+        ("../s", ".."),
+        ("a/b/s", "a/b"),
+        ("/s", "/"),
+    ];
+
+    #[test]
+    fn a_folder_has_its_name_in_the_one_above(rt: HostRuntime) {
+        for (folder, above) in ABOVE {
+            assert_eq!(rt; folder_above(folder), above);
+        }
+    }
+
     #[test]
     fn a_folder_that_cannot_be_made_is_a_failure(rt: HostRuntime) -> Result<(), Fail> {
-        let mut host = FileHost::new(rt, String::from_str(rt.alloc(), "no/folder/is/here")?);
+        let mut host = FileHost::new(rt, Txt::new(rt.alloc(), "no/folder/is/here")?);
         assert_eq!(rt; host.print(b"nothing"), Err(Failed));
         assert_eq!(rt; host.len(Area::Pages), Err(Failed));
         Ok(())

@@ -1,5 +1,5 @@
 // The stage on files, in the folder in which the program was started.
-ghost use Rattle.std.specs.Prelude.{is_some};
+ghost use Rattle.std.specs.Prelude.{◌≡◌, false, is_some};
 ghost use Rattle.ov_host.specs.Stage.{silent_stage};
 
 use crate::count::Count;
@@ -53,7 +53,9 @@ pub struct FolderStage {
 
 impl FolderStage {
     /// The stage, with all counts at 0. Nothing is touched yet.
-    pub fn new(rt: HostRuntime) -> FolderStage {
+    pub fn new(rt: HostRuntime) -> FolderStage
+        ensures { ⟦<FolderStage as Stage>⟧.staged result ≡ silent_stage false false 0 0 }
+    {
         FolderStage {
             rt,
             reading: None,

@@ -19,6 +19,7 @@ mod top;
 use fault::Fault;
 use file_host::FileHost;
 use folder_stage::FolderStage;
+use ov_value::Txt;
 use std::env;
 use std::io::ErrorKind;
 use std::process::ExitCode;
@@ -26,19 +27,23 @@ use stdin_source::StdinSource;
 use top::{Status, WordsErr, options, run};
 
 // The words after the program's name, or the status that they end the program with where they can't be read.
-fn words(rt: HostRuntime) -> Result<Vec<String>, Status> {
+fn words(rt: HostRuntime) -> Result<Vec<Txt>, Status> {
     match env::args(&rt) {
-        Ok(all) => all.skip(1).collect(rt.alloc()).map_err(|_| Status::Memory),
+        Ok(all) => all
+            .skip(1)
+            .map(Txt::from_string)
+            .collect(rt.alloc())
+            .map_err(|_| Status::Memory),
         Err(e) if e.kind() == ErrorKind::OutOfMemory => Err(Status::Memory),
         Err(_) => Err(Status::Usage),
     }
 }
 
 // The name of the store's folder. It is empty where the words are refused: then no call of the host is made.
-fn folder(rt: HostRuntime, words: &[String]) -> Result<String, Status> {
+fn folder(rt: HostRuntime, words: &[Txt]) -> Result<Txt, Status> {
     match options(words) {
         Ok(options) => Ok(options.folder),
-        Err(WordsErr::Usage) => Ok(String::new(rt.alloc())),
+        Err(WordsErr::Usage) => Ok(Txt::from_string(String::new(rt.alloc()))),
         Err(WordsErr::Memory) => Err(Status::Memory),
     }
 }

@@ -1,4 +1,5 @@
 // The script on standard input.
+ghost use Rattle.std.specs.Prelude.{◌≡◌};
 ghost use Rattle.ov_host.specs.Source.{silent_script};
 
 use crate::count::Count;
@@ -14,7 +15,9 @@ pub struct StdinSource {
 
 impl StdinSource {
     /// The source, with its count at 0. Nothing is read yet.
-    pub fn new(rt: HostRuntime) -> StdinSource {
+    pub fn new(rt: HostRuntime) -> StdinSource
+        ensures { ⟦<StdinSource as Source>⟧.script result ≡ silent_script 0 }
+    {
         StdinSource {
             rt,
             faults: Count::new(),

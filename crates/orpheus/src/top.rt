@@ -1,5 +1,6 @@
 // What stands in for the top call until it is built: the same names and signatures, and every list of words is refused.
 use ov_host::{Area, Host, Source, Stage};
+use ov_value::Txt;
 
 /// How a run ended.
 #[derive(Clone, Copy, Debug, PartialEq, Eq)]
@@ -19,7 +20,7 @@ pub enum Status {
 /// What the words ask for.
 #[derive(Drop)]
 pub struct Wanted {
-    pub folder: String,
+    pub folder: Txt,
 }
 
 /// Why words were not read.
@@ -29,12 +30,12 @@ pub enum WordsErr {
     Memory,
 }
 
-pub fn options(_words: &[String]) -> Result<Wanted, WordsErr> {
+pub fn options(_words: &[Txt]) -> Result<Wanted, WordsErr> {
     Err(WordsErr::Usage)
 }
 
 pub fn run<H: Host, S: Source, T: Stage>(
-    _words: &[String],
+    _words: &[Txt],
     _host: &mut H,
     _source: &mut S,
     _stage: &mut T,
