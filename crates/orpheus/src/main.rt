@@ -41,7 +41,7 @@ fn words(rt: HostRuntime) -> Result<Vec<Txt>, Status> {
 
 // The name of the store's folder. It is empty where the words are refused: then no call of the host is made.
 fn folder(rt: HostRuntime, words: &[Txt]) -> Result<Txt, Status> {
-    match options(words) {
+    match options(rt.alloc(), words) {
         Ok(options) => Ok(options.folder),
         Err(WordsErr::Usage) => Ok(Txt::from_string(String::new(rt.alloc()))),
         Err(WordsErr::Memory) => Err(Status::Memory),
@@ -53,7 +53,7 @@ fn start(rt: HostRuntime) -> Result<Status, Status> {
     let mut host = FileHost::new(rt, folder(rt, &words)?);
     let mut source = StdinSource::new(rt);
     let mut stage = FolderStage::new(rt);
-    Ok(run(&words, &mut host, &mut source, &mut stage))
+    Ok(run(rt.alloc(), &words, &mut host, &mut source, &mut stage))
 }
 
 // Says on standard error what kept the run from reading its script to the end.

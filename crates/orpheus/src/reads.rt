@@ -1,5 +1,6 @@
 // Reads that go on over interruptions.
 ghost use Rattle.std.specs.Prelude.{◌≤◌, IfOk, length};
+ghost use Rattle.std.specs.Io.KnownBytes.{ReadConsumes};
 
 use std::fs::File;
 use std::io;
@@ -7,8 +8,10 @@ use std::io::{ErrorKind, Read};
 use std::os::unix::fs::FileExt;
 
 /// Reads the next bytes, and answers how many that were; 0 at the end.
+#[tactic(auto, using(crate::proofs::Known::keeps_itself, crate::proofs::Known::keeps_on, crate::proofs::Known::reads_on))]
 pub fn read_some<R: Read>(from: &mut R, buf: &mut [u8]) -> io::Result<usize>
-    ensures { IfOk result (λ n. n ≤ length buf.old) }
+    ensures within { IfOk result (λ n. n ≤ length buf.old) }
+    ensures bytes { ReadConsumes (R.remaining from.old) (R.remaining from.new) result buf.new }
 {
     for _ in 0..u64::MAX {
         match from.read(buf) {

@@ -1,6 +1,7 @@
 // What stands in for the top call until it is built: the same names and signatures, and every list of words is refused.
 use ov_host::{Area, Host, Source, Stage};
 use ov_value::Txt;
+use std::alloc::Global;
 
 /// How a run ended.
 #[derive(Clone, Copy, Debug, PartialEq, Eq)]
@@ -30,11 +31,12 @@ pub enum WordsErr {
     Memory,
 }
 
-pub fn options(_words: &[Txt]) -> Result<Wanted, WordsErr> {
+pub fn options(_alloc: Global, _words: &[Txt]) -> Result<Wanted, WordsErr> {
     Err(WordsErr::Usage)
 }
 
 pub fn run<H: Host, S: Source, T: Stage>(
+    _alloc: Global,
     _words: &[Txt],
     _host: &mut H,
     _source: &mut S,
