@@ -10,9 +10,13 @@ use ov_host::{Area, Failed, Host};
 use ov_value::Txt;
 use std::fs::{File, OpenOptions};
 use std::io::ErrorKind;
+use std::os::fd::{AsRawFd, RawFd};
 use std::os::unix::fs::FileExt;
 use std::path::{Path, PathBuf};
 use std::{fs, io};
+
+// The number of standard error; standard input and output have 0 and 1.
+const LAST_STANDARD_STREAM: RawFd = 2;
 
 /// The name of an area's file in the folder of a store.
 pub fn file_name(area: Area) -> &'static str
@@ -63,14 +67,20 @@ fn settle_names(rt: HostRuntime, folder: &str) -> io::Result<()> {
     fs::open(&rt, folder)?.sync_all()
 }
 
+// Where a standard stream is closed, a file that is opened takes its number, and what is printed would be written into
+// the file. So such a file is refused.
 fn open_area(rt: HostRuntime, folder: &str, area: Area) -> io::Result<File> {
     let mut path = PathBuf::from_str(rt.alloc(), folder)?;
     path.push(file_name(area))?;
-    OpenOptions::new()
+    let file = OpenOptions::new()
         .read(true)
         .write(true)
         .create(true)
-        .open(&rt, path)
+        .open(&rt, path)?;
+    if file.as_raw_fd() <= LAST_STANDARD_STREAM {
+        return Err(io::Error::from(ErrorKind::BrokenPipe));
+    }
+    Ok(file)
 }
 
 // The folder of a store, whose files are opened where they are first needed.
