@@ -1,7 +1,5 @@
--- How a run's status ends the program: its exit status, and the fault that it tells; and the names of a store's files.
-use Rattle.std.specs.Prelude.{ℕ, List, codes, Option, Some, None}
-use Rattle.ov_host.specs.declared.area.Area.{Area}
-use Rattle.ov_host.specs.declared.area.Area.TheVariants.{Pages, Journal}
+-- How a run's status ends the program: its exit status, and the fault that it tells.
+use Rattle.std.specs.Prelude.{ℕ, Option, Some, None}
 use Rattle.orpheus.specs.declared.fault.Fault.{Fault}
 use Rattle.orpheus.specs.declared.fault.Fault.TheVariants as fault
 use Rattle.orpheus.specs.declared.top.Status.{Status}
@@ -32,8 +30,3 @@ fault_of NotAStore = Some fault.NotAStore
 fault_of (Damaged area at) = Some (fault.Damaged area at)
 fault_of (Format found) = Some (fault.Format found)
 fault_of ScriptTooLong = Some fault.ScriptTooLong
-
--- an area's file in the folder of a store
-abbrev pub name_of : Area → List ℕ
-name_of Pages = codes "pages"
-name_of Journal = codes "journal"

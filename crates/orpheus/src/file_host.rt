@@ -1,7 +1,7 @@
 // The host on files: a folder with a file for each area, and standard output.
 ghost use Rattle.std.specs.Prelude.{[], ◌≡◌, ◌≤◌, IfOk, length};
 ghost use Rattle.ov_host.specs.Host.{silent};
-ghost use Rattle.orpheus.specs.Exits.{name_of};
+ghost use Rattle.orpheus.specs.Files.{name_of, IsNoStream};
 ghost use Rattle.ov_host.specs.Disk.{settled_reads};
 
 use crate::count::Count;
@@ -33,6 +33,8 @@ pub fn file_name(area: Area) -> &'static str
 struct Areas {
     pages: File,
     journal: File,
+    ghost pages_apart: { IsNoStream pages },
+    ghost journal_apart: { IsNoStream journal },
 }
 
 // Makes the folder and its files where they are absent, and opens them. Their names are settled too, since without them a
@@ -69,7 +71,9 @@ fn settle_names(rt: HostRuntime, folder: &str) -> io::Result<()> {
 
 // Where a standard stream is closed, a file that is opened takes its number, and what is printed would be written into
 // the file. So such a file is refused.
-fn open_area(rt: HostRuntime, folder: &str, area: Area) -> io::Result<File> {
+fn open_area(rt: HostRuntime, folder: &str, area: Area) -> io::Result<File>
+    ensures { IfOk result IsNoStream }
+{
     let mut path = PathBuf::from_str(rt.alloc(), folder)?;
     path.push(file_name(area))?;
     let file = OpenOptions::new()
