@@ -1,0 +1,6 @@
+-- an interrupted read leaves the known bytes as they were
+use Rattle.std.specs.Io.KnownBytes.{Keeps}
+use Rattle.orpheus.proofs.reads.read_some.Given as goal
+
+abbrev pub invariant-loop : goal.invariant-loop
+invariant-loop g l = Keeps (g.R.Read.remaining l.fn.from) (g.R.Read.remaining l.from)

@@ -1,0 +1,4 @@
+pub mod Rids
+pub mod Lists
+pub mod Edges
+pub mod Walks

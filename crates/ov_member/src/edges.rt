@@ -1,0 +1,62 @@
+//! A set as its edges: where each of its ranges begins, and one past where it ends, ascending.
+
+ghost use Rattle.std.specs.Prelude.{◌≡◌, [], ◌∷◌, ◌++◌, length, IfOk, OnOk, MatchOption};
+ghost use Rattle.ov_member.specs.Rids.{AreRids, has};
+ghost use Rattle.ov_member.specs.Edges.{AreEdges, rids_between};
+
+use crate::members::LAST_RID;
+use std::alloc::{AllocError, Global};
+
+/// Puts a rid above all others into a set.
+fn push_rid(edges: &mut Vec<u32>, rid: u32) -> Result<(), AllocError>
+    requires sound { AreEdges edges.old.items }
+    requires above { AreRids (rids_between edges.old.items ++ rid ∷ []) }
+    ensures sound { OnOk result (AreEdges edges.new.items) }
+    ensures put { OnOk result (rids_between edges.new.items ≡ rids_between edges.old.items ++ rid ∷ []) }
+{
+    if edges.last().copied() == Some(rid) {
+        edges.pop();
+    } else {
+        edges.push(rid)?;
+    }
+    edges.push(rid + 1)?;
+    Ok(())
+}
+
+/// The edges of these rids, or `None` where they aren't a set.
+pub fn edges_of(alloc: Global, rids: &[u32]) -> Result<Option<Vec<u32>>, AllocError>
+    ensures { IfOk result (λ found. MatchOption found (AreRids rids.now → ⊥) (λ edges. AreEdges edges.items × AreRids rids.now × (rids_between edges.items ≡ rids.now))) }
+{
+    let mut edges = Vec::new(alloc);
+    let mut least = 1;
+    for rid in rids {
+        if *rid < least || *rid > LAST_RID {
+            return Ok(None);
+        }
+        push_rid(&mut edges, *rid)?;
+        least = *rid + 1;
+    }
+    Ok(Some(edges))
+}
+
+/// Whether a rid is in a set. A search by halves.
+pub fn contains(edges: &[u32], rid: u32) -> bool
+    requires { AreEdges edges.now }
+    ensures { result ≡ has (rids_between edges.now) rid }
+{
+    edges.partition_point(|edge| *edge <= rid) % 2 == 1
+}
+
+/// How many rids a set has.
+pub fn count(edges: &[u32]) -> u32
+    requires { AreEdges edges.now }
+    ensures { result ≡ length (rids_between edges.now) }
+{
+    let mut count = 0;
+    let mut rest = edges;
+    while let [first, past, others @ ..] = rest {
+        count += past - first;
+        rest = others;
+    }
+    count
+}

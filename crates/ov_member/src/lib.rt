@@ -1,0 +1,18 @@
+//! Sets of record ids. A version's records are such a set, which is kept and written as ranges of rids.
+//! [`Members`] is a set, and [`read_list`] reads one from its bytes.
+#![tactic(auto)]
+
+mod edges;
+mod laws;
+mod list_bytes;
+mod lists;
+mod members;
+mod walk;
+
+pub use laws::{one_reading, one_spelling, parts_of_set, same_set};
+pub use list_bytes::ListBytes;
+pub use lists::read_list;
+pub use members::{LAST_RID, Members};
+
+#[cfg(test)]
+mod tests;

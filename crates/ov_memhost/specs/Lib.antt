@@ -1,0 +1,12 @@
+pub mod Counts
+pub mod Done
+pub mod Host
+pub mod Kept
+pub mod Named
+pub mod Pending
+pub mod Picked
+pub mod Replica
+pub mod Sound
+pub mod Source
+pub mod Stage
+pub mod Stopped
