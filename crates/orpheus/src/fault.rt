@@ -3,7 +3,7 @@ ghost use Rattle.std.specs.Prelude.{◌≡◌};
 ghost use Rattle.orpheus.specs.Exits.{exit_of, fault_of};
 
 use crate::file_host::file_name;
-use crate::top::Status;
+use ov_top::Status;
 use ov_host::Area;
 use thiserror::Error;
 

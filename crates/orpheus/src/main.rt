@@ -14,7 +14,6 @@ mod file_host;
 mod folder_stage;
 mod reads;
 mod stdin_source;
-mod top;
 
 use fault::Fault;
 use file_host::FileHost;
@@ -24,7 +23,7 @@ use std::env;
 use std::io::ErrorKind;
 use std::process::ExitCode;
 use stdin_source::StdinSource;
-use top::{Status, WordsErr, options, run};
+use ov_top::{Status, WordsErr, options, run};
 
 // The words after the program's name, or the status that they end the program with where they can't be read.
 fn words(rt: HostRuntime) -> Result<Vec<Txt>, Status> {

@@ -3,4 +3,4 @@ pub mod Serving
 pub mod Readers
 pub mod Fields
 pub mod LineForms
-pub mod Options
+pub mod AllSome

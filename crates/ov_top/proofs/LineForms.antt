@@ -10,8 +10,8 @@ use denote.Ref.{Bor}
 use Rattle.ov_value.specs.declared.column.Column.{Column}
 use Rattle.ov_value.specs.Making.{schema_of}
 use Rattle.ov_top.specs.LineForm.{column_of, accepted, schema_in, making_of, is_off_form, init_of}
-use Rattle.ov_top.specs.Options.{all_some}
-use Rattle.ov_top.proofs.Options.{all_some_map}
+use Rattle.ov_top.specs.AllSome.{all_some}
+use Rattle.ov_top.proofs.AllSome.{all_some_map}
 
 -- the columns of a schema word, by its pieces
 pub columns_are : (schema : List ℕ) (items : List (Bor (List ℕ))) (columns : Option (List Column)) → map (λ x. x.now) items ≡ slice_split (λ b. b == 44) schema → columns ≡ all_some (λ x. column_of x.now) items → all_some column_of (slice_split (λ b. b == 44) schema) ≡ columns

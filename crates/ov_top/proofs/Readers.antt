@@ -22,12 +22,13 @@ kept_is n xs ys within =
 pub kept_more : (n : ℕ) (xs ys : List ℕ) → take n (take n xs ++ ys) ≡ take n (xs ++ ys)
 kept_more n xs ys =
     elim (cases_lt (length xs) n) [
-        inl short ↦ ap (λ part. take n (part ++ ys)) (take_all n xs (omega arith))
-        | inr long ↦
-            let all : length (take n xs) ≡ n = omega (arith, length-take n xs)
-            in take-append-le n (take n xs) ys (omega arith)
-            ∙ take_all n (take n xs) (omega arith)
-            ∙ sym (take-append-le n xs ys long) ]
+      | inl short ↦ ap (λ part. take n (part ++ ys)) (take_all n xs (omega arith))
+      | inr long ↦
+          let all : length (take n xs) ≡ n = omega (arith, length-take n xs)
+          in take-append-le n (take n xs) ys (omega arith)
+          ∙ take_all n (take n xs) (omega arith)
+          ∙ sym (take-append-le n xs ys long)
+    ]
 
 first_false : (a b : Bool) → (a || b) ≡ false → a ≡ false
 first_false true b e = cc
@@ -74,12 +75,13 @@ cut_at xs i within feed =
 drop_front : (n m : ℕ) (xs : List ℕ) → drop m (take n xs) ≡ take (n - m) (drop m xs)
 drop_front n m xs =
     elim (cases_lt n m) [
-        inl past ↦
-            let none : n - m ≡ 0 = omega arith
-            in drop_all m (take n xs) (omega (arith, length-take n xs)) ∙ sym (ap (λ k. take k (drop m xs)) none)
-        | inr within ↦
-            let sum : m + (n - m) ≡ n = omega arith
-            in ap (λ k. drop m (take k xs)) (sym sum) ∙ drop-take m (n - m) xs ]
+      | inl past ↦
+          let none : n - m ≡ 0 = omega arith
+          in drop_all m (take n xs) (omega (arith, length-take n xs)) ∙ sym (ap (λ k. take k (drop m xs)) none)
+      | inr within ↦
+          let sum : m + (n - m) ≡ n = omega arith
+          in ap (λ k. drop m (take k xs)) (sym sum) ∙ drop-take m (n - m) xs
+    ]
 
 -- what is left of a part of a buffer
 pub drop_part : (n m a : ℕ) (b : List ℕ) → drop m (take n (drop a b)) ≡ take (n - m) (drop (a + m) b)
@@ -91,7 +93,7 @@ cut_part at end i b within feed =
     let same : end - at - (i + 1) ≡ end - (at + (i + 1)) = omega arith
     in cut_at (take (end - at) (drop at b)) i within feed
     ∙ ap (λ later. take i (take (end - at) (drop at b)) ++ 10 ∷ later)
-        (drop_part (end - at) (i + 1) at b ∙ ap (λ k. take k (drop (at + (i + 1)) b)) same)
+    (drop_part (end - at) (i + 1) at b ∙ ap (λ k. take k (drop (at + (i + 1)) b)) same)
 
 -- the front of a buffer that was written over
 pub front_of : (n len : ℕ) (buffer old : List ℕ) → n ≤ length buffer → length buffer ≤ len → take (n - 0) (take len (buffer ++ drop (length buffer) old)) ≡ take n buffer
@@ -104,30 +106,35 @@ front_of n len buffer old within fits =
 pub fills : (n : ℕ) (left later buffer unread : List ℕ) → unread ≡ take n buffer → n ≤ length buffer → (n ≡ 0 → ⊥) → Gives n left later buffer → (0 < length unread) × (unread ++ later ≡ left)
 fills n left later buffer unread is within some gives =
     let size : length unread ≡ n = ap length is ∙ omega (arith, length-take n buffer)
-    in (omega (arith, some)
-    , ap (λ xs. xs ++ later) (is ∙ gives.bytes) ∙ ap (λ xs. take n left ++ xs) gives.rest ∙ take-append-drop n left)
+    in (
+      omega (arith, some),
+      ap (λ xs. xs ++ later) (is ∙ gives.bytes) ∙ ap (λ xs. take n left ++ xs) gives.rest ∙ take-append-drop n left,
+    )
 
 -- the bytes that were taken so far, up to a line feed, are a line
 pub line_given : (all before now left kept new : List ℕ) → IsPart all (before ++ left) kept → TakesLine true before now kept new → GivesLine true all (now ++ left) new
 line_given all before now left kept new p taken =
     let piece = taken.0
     in let whole : all ≡ p.part ++ piece ++ 10 ∷ (now ++ left) =
-        p.whole
-        ∙ ap (λ b. p.part ++ (b ++ left)) taken.2
-        ∙ ap (λ later. p.part ++ later) (append_assoc piece (10 ∷ now) left)
-        ∙ sym (append_assoc p.part piece (10 ∷ (now ++ left)))
-    in (p.part ++ piece
-    , ap lines_of whole ∙ lines_at (p.part ++ piece) (now ++ left) (feeds_append p.part piece p.open_ taken.1)
-    , taken.3 ∙ ap (λ k. take 65537 (k ++ piece)) p.kept_is ∙ kept_more 65537 p.part piece)
+    p.whole
+    ∙ ap (λ b. p.part ++ (b ++ left)) taken.2
+    ∙ ap (λ later. p.part ++ later) (append_assoc piece (10 ∷ now) left)
+    ∙ sym (append_assoc p.part piece (10 ∷ (now ++ left)))
+    in (
+      p.part ++ piece,
+      ap lines_of whole ∙ lines_at (p.part ++ piece) (now ++ left) (feeds_append p.part piece p.open_ taken.1),
+      taken.3 ∙ ap (λ k. take 65537 (k ++ piece)) p.kept_is ∙ kept_more 65537 p.part piece,
+    )
 
 -- without a line feed they go on
 pub part_more : (all before now left kept new : List ℕ) → IsPart all (before ++ left) kept → TakesLine false before now kept new → IsPart all left new
 part_more all before now left kept new p taken =
     record {
-        part = p.part ++ before;
-        whole = p.whole ∙ sym (append_assoc p.part before left);
-        open_ = feeds_append p.part before p.open_ taken.0;
-        kept_is = taken.2 ∙ ap (λ k. take 65537 (k ++ before)) p.kept_is ∙ kept_more 65537 p.part before }
+      part = p.part ++ before;
+      whole = p.whole ∙ sym (append_assoc p.part before left);
+      open_ = feeds_append p.part before p.open_ taken.0;
+      kept_is = taken.2 ∙ ap (λ k. take 65537 (k ++ before)) p.kept_is ∙ kept_more 65537 p.part before;
+    }
 
 nil_of : (xs : List ℕ) → length xs ≡ 0 → xs ≡ []
 nil_of [] e = refl

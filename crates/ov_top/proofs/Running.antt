@@ -34,10 +34,11 @@ long_act files sets line long =
 pub act_kept : (files : Files) (sets : List Dataset) (line : List ℕ) → act files sets (take 65537 line) ≡ act files sets line
 act_kept files sets line =
     elim (cases_lt 65537 (length line)) [
-        inl long ↦
-            let kept : length (take 65537 line) ≡ 65537 = omega (arith, length-take 65537 line)
-            in long_act files sets (take 65537 line) (omega arith) ∙ sym (long_act files sets line (omega arith))
-        | inr short ↦ ap (act files sets) (take_all 65537 line short) ]
+      | inl long ↦
+          let kept : length (take 65537 line) ≡ 65537 = omega (arith, length-take 65537 line)
+          in long_act files sets (take 65537 line) (omega arith) ∙ sym (long_act files sets line (omega arith))
+      | inr short ↦ ap (act files sets) (take_all 65537 line short)
+    ]
 
 or_assoc : (a b c : Bool) → (a || (b || c)) ≡ (a || b || c)
 or_assoc true b c = refl
@@ -50,22 +51,23 @@ so_far_more files all left later line kept failed refused joined store store2 s0
     in let same : act files so.sets kept ≡ a = ap (act files so.sets) is ∙ act_kept files so.sets line
     in let serves : Serves a refused store2 s t = subst (λ x. Serves x refused store2 s t) same (serving so.sets so.at)
     in record {
-        sets = a.sets;
-        text = so.text ++ said a.reply;
-        at = serves.at;
-        printed =
-            serves.printed ∙ ap (λ p. p ++ said a.reply) so.printed ∙ append_assoc (printed_of s0) so.text (said a.reply);
-        plays =
-            so.plays
-            ∙ ap (λ ls. so.text ++ play files so.sets ls) next
-            ∙ sym (append_assoc so.text (said a.reply) (play files a.sets later));
-        failing =
-            so.failing
-            ∙ ap (λ ls. failed || fails files so.sets ls) next
-            ∙ or_assoc failed (has_failed a.reply) (fails files a.sets later)
-            ∙ ap (λ f. failed || f || fails files a.sets later) (sym serves.failed_is)
-            ∙ ap (λ f. f || fails files a.sets later) (sym either);
-        ends = so.ends ∙ ap (λ ls. sets_after files so.sets ls) next }
+      sets = a.sets;
+      text = so.text ++ said a.reply;
+      at = serves.at;
+      printed =
+          serves.printed ∙ ap (λ p. p ++ said a.reply) so.printed ∙ append_assoc (printed_of s0) so.text (said a.reply);
+      plays =
+          so.plays
+          ∙ ap (λ ls. so.text ++ play files so.sets ls) next
+          ∙ sym (append_assoc so.text (said a.reply) (play files a.sets later));
+      failing =
+          so.failing
+          ∙ ap (λ ls. failed || fails files so.sets ls) next
+          ∙ or_assoc failed (has_failed a.reply) (fails files a.sets later)
+          ∙ ap (λ f. failed || f || fails files a.sets later) (sym serves.failed_is)
+          ∙ ap (λ f. f || fails files a.sets later) (sym either);
+      ends = so.ends ∙ ap (λ ls. sets_after files so.sets ls) next;
+    }
 
 pub given_true : (b : Bool) (before now kept : List ℕ) → b ≡ true → GivesLine b before now kept → GivesLine true before now kept
 given_true true before now kept e g = g

@@ -18,7 +18,7 @@ use Rattle.ov_value.specs.declared.value.Value.{Value}
 use Rattle.ov_value.specs.declared.value.Value.TheVariants.{Int, Text, Flag}
 use Rattle.ov_value.specs.Rows.{key_cmp}
 use Rattle.ov_value.specs.Shapes.{Shape, names}
-use Rattle.ov_top.specs.Options.{all_some}
+use Rattle.ov_top.specs.AllSome.{all_some}
 
 -- one digit or more, and nothing else
 abbrev pub is_numeral : List ℕ → Bool

@@ -4,7 +4,7 @@ pub mod FileForm
 pub mod LineForm
 pub mod Lines
 pub mod Named
-pub mod Options
+pub mod AllSome
 pub mod Play
 pub mod Reader
 pub mod Serving

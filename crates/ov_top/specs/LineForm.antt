@@ -12,7 +12,7 @@ use Rattle.ov_value.specs.Naming.{is_name}
 use Rattle.ov_value.specs.Shapes.{Shape}
 use Rattle.ov_value.specs.Making.{schema_of}
 use Rattle.ov_top.specs.declared.read_line.Making.{Making}
-use Rattle.ov_top.specs.Options.{all_some}
+use Rattle.ov_top.specs.AllSome.{all_some}
 
 abbrev pub kind_of : List ℕ → Option Kind
 kind_of text =
@@ -34,7 +34,7 @@ accepted (Err refusal) = None
 abbrev pub schema_in : List ℕ → List ℕ → Option Shape
 schema_in schema key =
     option_and_then (λ columns. accepted (schema_of columns (slice_split (λ b. b == 44) key)))
-        (all_some column_of (slice_split (λ b. b == 44) schema))
+    (all_some column_of (slice_split (λ b. b == 44) schema))
 
 -- 1 to 255 bytes
 abbrev pub is_file_name : List ℕ → Bool

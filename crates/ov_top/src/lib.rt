@@ -7,11 +7,12 @@ mod read_file;
 mod read_line;
 mod reader;
 mod reply;
-mod run;
+mod runs;
 mod serve;
 mod split;
 mod status;
 mod words;
 
-pub use run::run;
+pub use runs::run;
 pub use status::Status;
+pub use words::{Wanted, WordsErr, options};

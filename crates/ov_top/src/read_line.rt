@@ -4,7 +4,7 @@ ghost use Rattle.ov_value.specs.Making.{schema_of};
 ghost use Rattle.ov_top.specs.Lines.{is_blank as is_blank_of, is_blank_or_note as is_blank_or_note_of, is_comment as is_comment_of};
 ghost use Rattle.ov_top.specs.LineForm.{kind_of as kind_named, column_of, accepted, schema_in, is_file_name as is_named, in_form, asked, word, making_of, init_of, is_off_form as is_off};
 ghost use Rattle.std.specs.List.{list_any};
-ghost use Rattle.ov_top.specs.Options.{all_some};
+ghost use Rattle.ov_top.specs.AllSome.{all_some};
 ghost use Rattle.std.specs.Option.{option_map};
 
 use crate::split::pieces;
@@ -94,7 +94,11 @@ fn texts_in(alloc: Global, items: &[&str]) -> Result<Vec<Txt>, AllocError>
 }
 
 // The schema of these columns and this key, where it is accepted.
-fn accepted_schema(alloc: Global, columns: Vec<Column>, key: Vec<Txt>) -> Result<Option<Schema>, AllocError>
+fn accepted_schema(
+    alloc: Global,
+    columns: Vec<Column>,
+    key: Vec<Txt>,
+) -> Result<Option<Schema>, AllocError>
     ensures { IfOk result (λ schema. schema ≡ accepted (schema_of columns.items key.items)) }
 {
     match Schema::new(alloc, columns, key) {
@@ -124,7 +128,13 @@ fn is_file_name(name: &str) -> bool
 }
 
 // What these words of a line of the form ask for.
-fn read_making(alloc: Global, cvd: &str, schema: &str, key: &str, file: &str) -> Result<Option<Making>, AllocError>
+fn read_making(
+    alloc: Global,
+    cvd: &str,
+    schema: &str,
+    key: &str,
+    file: &str,
+) -> Result<Option<Making>, AllocError>
     ensures { IfOk result (λ making. making ≡ asked cvd.now schema.now key.now file.now) }
 {
     let Some(schema) = read_schema(alloc, schema, key)? else {

@@ -144,7 +144,11 @@ impl Reader {
 impl Reader {
     // Puts the next line, without its line feed, in the place of the last one, and says whether there is one. Of a line
     // of over 65,536 bytes its first 65,537 are kept.
-    pub fn next_line<S: Source>(&mut self, source: &mut S, line: &mut Vec<u8>) -> Result<bool, ReadErr>
+    pub fn next_line<S: Source>(
+        &mut self,
+        source: &mut S,
+        line: &mut Vec<u8>,
+    ) -> Result<bool, ReadErr>
         ensures took { Took self.old self.new (S.script source.old) (S.script source.new) }
         ensures cause { IsErrOf result ReadErr.Input → Rose (S.script source.old).faults (S.script source.new).faults }
         ensures too_long { IsErrOf result ReadErr.TooLong → self.new.count ≡ 2 ^ 32 }

@@ -24,7 +24,13 @@ use std::alloc::Global;
 const DATASETS: usize = 64;
 
 // Makes the dataset of these rows.
-fn make<H: Host>(alloc: Global, store: &mut Store, host: &mut H, making: Making, rows: Vec<Row>) -> Result<Reply, EndErr>
+fn make<H: Host>(
+    alloc: Global,
+    store: &mut Store,
+    host: &mut H,
+    making: Making,
+    rows: Vec<Row>,
+) -> Result<Reply, EndErr>
     requires { (H.state host.old).tells ≡ true → store.old.end < length (bytes_of Area.Journal (H.state host.old)) }
     ensures passes { Passes (H.state host.old) (H.state host.new) }
     ensures cause { IsErrOf result EndErr.Host → Rose (H.state host.old).faults (H.state host.new).faults }
@@ -35,7 +41,11 @@ fn make<H: Host>(alloc: Global, store: &mut Store, host: &mut H, making: Making,
         (store.new.end < length (bytes_of Area.Journal (H.state host.new))) }
     ensures printed { OnOk result (PrintsNothing (H.state host.old) (H.state host.new)) }
 {
-    let Making { cvd, schema, file: _ } = making;
+    let Making {
+        cvd,
+        schema,
+        file: _,
+    } = making;
     let count = rows.len() as u64;
     let name = cvd.copy(alloc)?;
     match store.init(alloc, host, name, &schema, rows.as_slice()) {
@@ -47,7 +57,13 @@ fn make<H: Host>(alloc: Global, store: &mut Store, host: &mut H, making: Making,
 }
 
 // Makes the dataset of a file's text.
-fn make_from_text<H: Host>(alloc: Global, store: &mut Store, host: &mut H, making: Making, text: &[u8]) -> Result<Reply, EndErr>
+fn make_from_text<H: Host>(
+    alloc: Global,
+    store: &mut Store,
+    host: &mut H,
+    making: Making,
+    text: &[u8],
+) -> Result<Reply, EndErr>
     requires { (H.state host.old).tells ≡ true → store.old.end < length (bytes_of Area.Journal (H.state host.old)) }
     ensures passes { Passes (H.state host.old) (H.state host.new) }
     ensures cause { IsErrOf result EndErr.Host → Rose (H.state host.old).faults (H.state host.new).faults }
@@ -65,7 +81,13 @@ fn make_from_text<H: Host>(alloc: Global, store: &mut Store, host: &mut H, makin
 }
 
 // Makes the dataset of a named file.
-fn make_from_file<H: Host, T: Stage>(alloc: Global, store: &mut Store, host: &mut H, stage: &mut T, making: Making) -> Result<Reply, EndErr>
+fn make_from_file<H: Host, T: Stage>(
+    alloc: Global,
+    store: &mut Store,
+    host: &mut H,
+    stage: &mut T,
+    making: Making,
+) -> Result<Reply, EndErr>
     requires { (H.state host.old).tells ≡ true → store.old.end < length (bytes_of Area.Journal (H.state host.old)) }
     ensures passes { Passes (H.state host.old) (H.state host.new) }
     ensures looks { Looks (T.staged stage.old) (T.staged stage.new) }
@@ -73,7 +95,7 @@ fn make_from_file<H: Host, T: Stage>(alloc: Global, store: &mut Store, host: &mu
     ensures stage { IsErrOf result EndErr.Stage → Rose (T.staged stage.old).faults (T.staged stage.new).faults }
     ensures answers { (T.staged stage.old).tells ≡ true → (sets : List Dataset) → IsAt sets store.old (H.state host.old)
         → IfOk result (λ reply. Answers (from_file making sets (get (T.staged stage.old).files making.file))
-            (Some reply) store.new (H.state host.new)) }
+        (Some reply) store.new (H.state host.new)) }
     ensures room { (H.state host.old).tells ≡ true → OnOk result
         (store.new.end < length (bytes_of Area.Journal (H.state host.new))) }
     ensures printed { OnOk result (PrintsNothing (H.state host.old) (H.state host.new)) }
@@ -86,7 +108,13 @@ fn make_from_file<H: Host, T: Stage>(alloc: Global, store: &mut Store, host: &mu
 }
 
 // The reply to a line that is no comment.
-fn answer<H: Host, T: Stage>(alloc: Global, store: &mut Store, host: &mut H, stage: &mut T, line: &[u8]) -> Result<Reply, EndErr>
+fn answer<H: Host, T: Stage>(
+    alloc: Global,
+    store: &mut Store,
+    host: &mut H,
+    stage: &mut T,
+    line: &[u8],
+) -> Result<Reply, EndErr>
     requires { (H.state host.old).tells ≡ true → store.old.end < length (bytes_of Area.Journal (H.state host.old)) }
     ensures passes { Passes (H.state host.old) (H.state host.new) }
     ensures looks { Looks (T.staged stage.old) (T.staged stage.new) }
@@ -94,7 +122,7 @@ fn answer<H: Host, T: Stage>(alloc: Global, store: &mut Store, host: &mut H, sta
     ensures stage { IsErrOf result EndErr.Stage → Rose (T.staged stage.old).faults (T.staged stage.new).faults }
     ensures answers { (T.staged stage.old).tells ≡ true → (sets : List Dataset) → IsAt sets store.old (H.state host.old)
         → IfOk result (λ reply. Answers (from_line (T.staged stage.old).files sets (init_of line.now))
-            (Some reply) store.new (H.state host.new)) }
+        (Some reply) store.new (H.state host.new)) }
     ensures room { (H.state host.old).tells ≡ true → OnOk result
         (store.new.end < length (bytes_of Area.Journal (H.state host.new))) }
     ensures printed { OnOk result (PrintsNothing (H.state host.old) (H.state host.new)) }
@@ -113,7 +141,13 @@ fn answer<H: Host, T: Stage>(alloc: Global, store: &mut Store, host: &mut H, sta
 }
 
 // Serves a line: does what it asks, and then prints its reply. Says whether the reply is an error.
-pub fn serve<H: Host, T: Stage>(alloc: Global, store: &mut Store, host: &mut H, stage: &mut T, line: &[u8]) -> Result<bool, EndErr>
+pub fn serve<H: Host, T: Stage>(
+    alloc: Global,
+    store: &mut Store,
+    host: &mut H,
+    stage: &mut T,
+    line: &[u8],
+) -> Result<bool, EndErr>
     requires { (H.state host.old).tells ≡ true → store.old.end < length (bytes_of Area.Journal (H.state host.old)) }
     ensures passes { Passes (H.state host.old) (H.state host.new) }
     ensures looks { Looks (T.staged stage.old) (T.staged stage.new) }
@@ -121,7 +155,7 @@ pub fn serve<H: Host, T: Stage>(alloc: Global, store: &mut Store, host: &mut H, 
     ensures stage { IsErrOf result EndErr.Stage → Rose (T.staged stage.old).faults (T.staged stage.new).faults }
     ensures serves { (T.staged stage.old).tells ≡ true → (sets : List Dataset) → IsAt sets store.old (H.state host.old)
         → IfOk result (λ failed. Serves (act (T.staged stage.old).files sets line.now) failed
-            store.new (H.state host.old) (H.state host.new)) }
+        store.new (H.state host.old) (H.state host.new)) }
     ensures room { (H.state host.old).tells ≡ true → OnOk result
         (store.new.end < length (bytes_of Area.Journal (H.state host.new))) }
 {

@@ -1,7 +1,7 @@
 use Rattle.std.proofs.Common.{◌≡◌, ◌++◌, drop}
 use Rattle.std.specs.Option.{option_map}
 use Rattle.ov_top.specs.LineForm.{column_of}
-use Rattle.ov_top.specs.Options.{all_some}
+use Rattle.ov_top.specs.AllSome.{all_some}
 use Rattle.ov_top.proofs.read_line.columns_in.Given as goal
 
 abbrev pub invariant-loop-item : goal.invariant-loop-item

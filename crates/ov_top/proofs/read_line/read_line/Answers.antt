@@ -11,7 +11,7 @@ pub returns : goal.returns
 returns c =
     c.in_ok-making.ensures
     ∙ ap making_of
-        (ap (map (λ x. x.now)) c.as_slice.ensures.value
-        ∙ c.in_ok-words.ensures
-        ∙ ap (slice_split (λ b. b == 32)) c.in-Ok.ensures.cases.0)
+    (ap (map (λ x. x.now)) c.as_slice.ensures.value
+    ∙ c.in_ok-words.ensures
+    ∙ ap (slice_split (λ b. b == 32)) c.in-Ok.ensures.cases.0)
     ∙ init_is c.args.line.now c.if-line-gt-LINE_BYTES.false c.in-Ok.ensures.cases.1 (sym c.has_off_form.ensures ∙ c.if-has_off_form.false)

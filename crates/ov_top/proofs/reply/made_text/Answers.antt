@@ -9,4 +9,4 @@ join cvd lit number tail = append_assoc (cvd ++ lit) number tail ∙ append_asso
 pub returns : goal.returns
 returns c =
     rw (c.in_ok-extend_from_slice-3.ensures.items, c.in_ok-extend_from_slice-2.ensures.items, c.in_ok-extend_from_slice.ensures.items, c.in_ok-out.ensures.items, c.as_bytes.ensures.value, c.format.ensures.text)
-        (join c.args.cvd.now (codes ": version 1 (") (decimal c.args.rows) (codes " rows)\n"))
+    (join c.args.cvd.now (codes ": version 1 (") (decimal c.args.rows) (codes " rows)\n"))

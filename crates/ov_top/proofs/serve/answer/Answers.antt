@@ -12,12 +12,12 @@ returns-clause-answers g c =
     in let making = c.in-Some.making
     in let names = c.args.store.now.names
     in let fresh : is_among making.cvd (names_of sets) ≡ false =
-        ap (is_among making.cvd) (sym at.names)
-        ∙ ap (λ name. is_among name names) (sym c.as_str.ensures.text)
-        ∙ sym c.has.ensures
-        ∙ c.if-has.false
+    ap (is_among making.cvd) (sym at.names)
+    ∙ ap (λ name. is_among name names) (sym c.as_str.ensures.text)
+    ∙ sym c.has.ensures
+    ∙ c.if-has.false
     in let known : length names ≡ length sets = ap length at.names ∙ length-map sets (λ set. set.name)
     in let room : length sets < 64 = omega (arith, known, c.count.ensures, c.if-count-ge-DATASETS.false)
     in answers_by _ _ _ _ _
-        (from_line_file files sets making _ (sym c.in_ok-making.ensures ∙ c.in-Some.is) fresh room)
-        (c.in_ok-reply.ensures.answers told sets at)
+    (from_line_file files sets making _ (sym c.in_ok-making.ensures ∙ c.in-Some.is) fresh room)
+    (c.in_ok-reply.ensures.answers told sets at)

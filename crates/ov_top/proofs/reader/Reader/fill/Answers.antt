@@ -12,5 +12,5 @@ returns-clause-filled g c =
     in let size : length buffer ≡ c.self.inside.buffer.len = grind (arith, common_steps)
     in let fits : n ≤ length buffer = grind (arith, common_steps)
     in fills n (script c.args.source.now).left (script c.read_piece.new.source).left buffer _
-        (front_of n c.self.inside.buffer.len buffer c.self.inside.buffer.items fits (omega (arith, size)))
-        fits c.if-taken-eq0.false (c.in_ok-taken.ensures.bytes told)
+    (front_of n c.self.inside.buffer.len buffer c.self.inside.buffer.items fits (omega (arith, size)))
+    fits c.if-taken-eq0.false (c.in_ok-taken.ensures.bytes told)

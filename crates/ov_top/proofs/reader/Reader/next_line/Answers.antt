@@ -8,8 +8,8 @@ pub returns-then-branch-clause-given : goal.returns-then-branch-clause-given
 returns-then-branch-clause-given g c =
     λ told.
     line_given _ c.pieces.self.unread c.take_line.new.self.unread (g.S.Source.script c.pieces.source).left c.pieces.line.items c.take_line.new.line.items
-        (c.pieces.invariant.part told)
-        (taken_true _ _ _ _ _ c.if-branch.true c.in_ok-take_line.ensures.taken)
+    (c.pieces.invariant.part told)
+    (taken_true _ _ _ _ _ c.if-branch.true c.in_ok-take_line.ensures.taken)
 
 pub returns-then-not-branch-clause-given : goal.returns-then-not-branch-clause-given
 returns-then-not-branch-clause-given g c =
@@ -20,12 +20,12 @@ returns-then-not-branch-clause-given g c =
     in let there : (script c.pieces.source).tells ≡ true = c.pieces.invariant.took.told ∙ told
     in let filled = filled_false _ c.take_line.new.self c.fill.new.self (script c.pieces.source) (script c.fill.new.source) c.if-not-branch.true (c.in_ok-fill.ensures.filled there)
     in let part : IsPart all (script c.pieces.source).left kept =
-        part_more all c.pieces.self.unread c.take_line.new.self.unread (script c.pieces.source).left c.pieces.line.items kept
-            (c.pieces.invariant.part told)
-            (taken_false _ _ _ _ _ c.if-branch.false c.in_ok-take_line.ensures.taken)
+    part_more all c.pieces.self.unread c.take_line.new.self.unread (script c.pieces.source).left c.pieces.line.items kept
+    (c.pieces.invariant.part told)
+    (taken_false _ _ _ _ _ c.if-branch.false c.in_ok-take_line.ensures.taken)
     in let is : c.is_empty.result ≡ (length kept == 0) = grind (arith, common_steps)
     in subst (λ now. GivesLine (not c.is_empty.result) all now kept) (sym (left_ended c.take_line.new.self c.fill.new.self (script c.pieces.source) (script c.fill.new.source) filled))
-        (last_given all kept c.is_empty.result is (part_ended all kept c.take_line.new.self c.fill.new.self (script c.pieces.source) (script c.fill.new.source) part filled))
+    (last_given all kept c.is_empty.result is (part_ended all kept c.take_line.new.self c.fill.new.self (script c.pieces.source) (script c.fill.new.source) part filled))
 
 pub pieces-preserved : goal.pieces-preserved
 pieces-preserved g c =
@@ -33,24 +33,26 @@ pieces-preserved g c =
     in let all = left_of c.args.self.now (script c.args.source.now)
     in let kept = c.take_line.new.line.items
     in let took : Took c.args.self.now c.fill.new.self (script c.args.source.now) (script c.fill.new.source) = record {
-        told = c.fill.ensures.took.told ∙ c.pieces.invariant.took.told;
-        faults = omega (arith, c.fill.ensures.took.faults, c.pieces.invariant.took.faults);
-        counted = λ told.
-            let before = c.pieces.invariant.took.counted told
-            in let after = c.fill.ensures.took.counted (c.pieces.invariant.took.told ∙ told)
-            in omega (arith, before, after, c.take_line.ensures.counted) }
+      told = c.fill.ensures.took.told ∙ c.pieces.invariant.took.told;
+      faults = omega (arith, c.fill.ensures.took.faults, c.pieces.invariant.took.faults);
+      counted = λ told.
+          let before = c.pieces.invariant.took.counted told
+          in let after = c.fill.ensures.took.counted (c.pieces.invariant.took.told ∙ told)
+          in omega (arith, before, after, c.take_line.ensures.counted);
+    }
     in record {
-        took = took;
-        within = c.in_ok-take_line.ensures.within;
-        fewer =
-            room_left c.pieces.self c.take_line.new.self c.fill.new.self (length c.pieces.line.items) (length kept) (room_of c.args.self.now)
-                c.pieces.invariant.fewer
-                (is_shorter _ _ _ _ _ c.if-branch.false c.in_ok-take_line.ensures.fewer)
-                c.take_line.ensures.counted c.in_ok-fill.ensures.unread c.fill.ensures.bounded;
-        part = λ told.
-            let there : (script c.pieces.source).tells ≡ true = c.pieces.invariant.took.told ∙ told
-            in part_filled all kept c.take_line.new.self c.fill.new.self (script c.pieces.source) (script c.fill.new.source)
-                (part_more all c.pieces.self.unread c.take_line.new.self.unread (script c.pieces.source).left c.pieces.line.items kept
-                    (c.pieces.invariant.part told)
-                    (taken_false _ _ _ _ _ c.if-branch.false c.in_ok-take_line.ensures.taken))
-                (filled_true _ c.take_line.new.self c.fill.new.self (script c.pieces.source) (script c.fill.new.source) c.if-not-branch.false (c.in_ok-fill.ensures.filled there)) }
+      took = took;
+      within = c.in_ok-take_line.ensures.within;
+      fewer =
+          room_left c.pieces.self c.take_line.new.self c.fill.new.self (length c.pieces.line.items) (length kept) (room_of c.args.self.now)
+          c.pieces.invariant.fewer
+          (is_shorter _ _ _ _ _ c.if-branch.false c.in_ok-take_line.ensures.fewer)
+          c.take_line.ensures.counted c.in_ok-fill.ensures.unread c.fill.ensures.bounded;
+      part = λ told.
+          let there : (script c.pieces.source).tells ≡ true = c.pieces.invariant.took.told ∙ told
+          in part_filled all kept c.take_line.new.self c.fill.new.self (script c.pieces.source) (script c.fill.new.source)
+          (part_more all c.pieces.self.unread c.take_line.new.self.unread (script c.pieces.source).left c.pieces.line.items kept
+          (c.pieces.invariant.part told)
+          (taken_false _ _ _ _ _ c.if-branch.false c.in_ok-take_line.ensures.taken))
+          (filled_true _ c.take_line.new.self c.fill.new.self (script c.pieces.source) (script c.fill.new.source) c.if-not-branch.false (c.in_ok-fill.ensures.filled there));
+    }

@@ -10,13 +10,15 @@ returns-in_ok-keep-in-Some-clause-taken c =
     in let end = c.self.inside.end
     in let bytes = c.deref.result.now
     in let piece = take c.in-Some.place (take (end - at) (drop at bytes))
-    in (piece
-    , c.in-Some.ensures.first
-    , sym (ap (λ t. t.unread) c.self.view_is)
-        ∙ ap (λ b. take (end - at) (drop at b)) (sym c.deref.ensures.value)
-        ∙ cut_part at end c.in-Some.place bytes c.in-Some.ensures.within c.in-Some.ensures.there
-        ∙ ap (λ b. piece ++ 10 ∷ take (end - (at + (c.in-Some.place + 1))) (drop (at + (c.in-Some.place + 1)) b)) c.deref.ensures.value
-    , c.in_ok-keep-in-Some.ensures.kept)
+    in (
+      piece,
+      c.in-Some.ensures.first,
+      sym (ap (λ t. t.unread) c.self.view_is)
+          ∙ ap (λ b. take (end - at) (drop at b)) (sym c.deref.ensures.value)
+          ∙ cut_part at end c.in-Some.place bytes c.in-Some.ensures.within c.in-Some.ensures.there
+          ∙ ap (λ b. piece ++ 10 ∷ take (end - (at + (c.in-Some.place + 1))) (drop (at + (c.in-Some.place + 1)) b)) c.deref.ensures.value,
+      c.in_ok-keep-in-Some.ensures.kept,
+    )
 
 pub returns-in_ok-keep-in-Some-clause-fewer : goal.returns-in_ok-keep-in-Some-clause-fewer
 returns-in_ok-keep-in-Some-clause-fewer c =

@@ -25,7 +25,13 @@ fn either(a: bool, b: bool) -> bool
 }
 
 // Serves the lines of the script, and says whether a reply is an error.
-fn serve_all<H: Host, S: Source, T: Stage>(alloc: Global, store: Store, host: &mut H, source: &mut S, stage: &mut T) -> Result<bool, RunErr>
+fn serve_all<H: Host, S: Source, T: Stage>(
+    alloc: Global,
+    store: Store,
+    host: &mut H,
+    source: &mut S,
+    stage: &mut T,
+) -> Result<bool, RunErr>
     requires { (H.state host.old).tells ≡ true → store.end < length (bytes_of Area.Journal (H.state host.old)) }
     ensures passes { Passes (H.state host.old) (H.state host.new) }
     ensures host { IsErrOf result RunErr.Host → Rose (H.state host.old).faults (H.state host.new).faults }
@@ -51,7 +57,12 @@ fn serve_all<H: Host, S: Source, T: Stage>(alloc: Global, store: Store, host: &m
 }
 
 // Opens the store, and serves the lines of the script over it.
-fn run_script<H: Host, S: Source, T: Stage>(alloc: Global, host: &mut H, source: &mut S, stage: &mut T) -> Status
+fn run_script<H: Host, S: Source, T: Stage>(
+    alloc: Global,
+    host: &mut H,
+    source: &mut S,
+    stage: &mut T,
+) -> Status
     ensures cause { (words : List (List ℕ)) → are_words_of words ≡ true → Cause result words
         (record { host = H.state host.old; script = S.script source.old; stage = T.staged stage.old })
         (record { host = H.state host.new; script = S.script source.new; stage = T.staged stage.new }) }
@@ -80,7 +91,13 @@ fn run_script<H: Host, S: Source, T: Stage>(alloc: Global, host: &mut H, source:
 ///
 /// Each line that is no comment has a reply, which is printed once what the line asks for is on the disk. `Usage` exactly
 /// where the words are off the form; then no end is called.
-pub fn run<H: Host, S: Source, T: Stage>(alloc: Global, words: &[Txt], host: &mut H, source: &mut S, stage: &mut T) -> Status
+pub fn run<H: Host, S: Source, T: Stage>(
+    alloc: Global,
+    words: &[Txt],
+    host: &mut H,
+    source: &mut S,
+    stage: &mut T,
+) -> Status
     ensures cause { Cause result words.now
         (record { host = H.state host.old; script = S.script source.old; stage = T.staged stage.old })
         (record { host = H.state host.new; script = S.script source.new; stage = T.staged stage.new }) }

@@ -1,7 +1,7 @@
 -- Loops over a list whose items may have no value.
 use Rattle.std.proofs.Common.{◌≡◌, ℕ, ◌+◌, ◌<◌, List, [], ◌∷◌, ◌++◌, length, drop, map, Option, Some, None, refl, sym, ◌∙◌, ap, append_assoc}
 use Rattle.std.specs.Option.{option_map, option_and_then}
-use Rattle.ov_top.specs.Options.{all_some}
+use Rattle.ov_top.specs.AllSome.{all_some}
 
 joined : {Y : Type 0} (ys : List Y) (y : Y) (rest : Option (List Y)) → option_map (λ more. ys ++ more) (option_map (λ more. y ∷ more) rest) ≡ option_map (λ more. ys ++ y ∷ [] ++ more) rest
 joined ys y None = refl
