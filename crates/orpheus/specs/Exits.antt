@@ -2,8 +2,8 @@
 use Rattle.std.specs.Prelude.{ℕ, Option, Some, None}
 use Rattle.orpheus.specs.declared.fault.Fault.{Fault}
 use Rattle.orpheus.specs.declared.fault.Fault.TheVariants as fault
-use Rattle.orpheus.specs.declared.top.Status.{Status}
-use Rattle.orpheus.specs.declared.top.Status.TheVariants.{Done, Refused, Usage, HostFault, InputFault, Memory, NotAStore, Damaged, Format, ScriptTooLong}
+use Rattle.ov_top.specs.declared.status.Status.{Status}
+use Rattle.ov_top.specs.declared.status.Status.TheVariants.{Done, Refused, Usage, HostFault, InputFault, Memory, NotAStore, Damaged, Format, ScriptTooLong}
 
 -- the program's exit status
 abbrev pub exit_of : Status → ℕ
