@@ -3,3 +3,5 @@ pub mod Readers
 pub mod Fields
 pub mod LineForms
 pub mod Options
+pub mod Rising
+pub mod KeyOrder
