@@ -5,3 +5,4 @@ pub mod LineForms
 pub mod Options
 pub mod Rising
 pub mod KeyOrder
+pub mod Tables
