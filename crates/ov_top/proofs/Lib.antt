@@ -1,6 +1,9 @@
+pub mod AllSome
+pub mod Fields
+pub mod KeyOrder
+pub mod LineForms
+pub mod Readers
+pub mod Rising
 pub mod Running
 pub mod Serving
-pub mod Readers
-pub mod Fields
-pub mod LineForms
-pub mod AllSome
+pub mod Tables

@@ -5,7 +5,7 @@ use Rattle.std.proofs.lemmas.List.{take_all, length-take, drop_more, drop-take, 
 use Rattle.std.proofs.Math.Seq.{take-append-add}
 use Rattle.std.proofs.Math.Nat.{sub-zero}
 use Rattle.std.proofs.lemmas.Bool.{cond-false, cases_lt, eqb-true, eqb-false}
-use Rattle.std.specs.List.{onto_first, list_any}
+use Rattle.std.specs.List.{onto_first}
 use Rattle.ov_top.specs.Lines.{lines_of}
 use Rattle.ov_host.specs.Source.{Script, Gives}
 use Rattle.ov_top.specs.Reader.{has_feed, IsPart, Taken, TakesLine, Fills, GivesLine, left_of, IsShorter, room_of}

@@ -1,5 +1,5 @@
 -- One line after another.
-use Rattle.std.proofs.Common.{◌≡◌, ◌<◌, ◌≤◌, ℕ, Bool, true, false, ◌||◌, ◌&&◌, List, [], ◌∷◌, ◌++◌, length, take, Option, Some, None, refl, sym, ◌∙◌, ap, subst, arith, append_assoc, inl, inr}
+use Rattle.std.proofs.Common.{◌≡◌, ◌<◌, ℕ, Bool, true, false, ◌||◌, ◌&&◌, List, [], ◌∷◌, ◌++◌, length, take, None, refl, sym, ◌∙◌, ap, subst, arith, append_assoc, inl, inr}
 use Rattle.std.specs.Prelude.{nat_le}
 use Rattle.std.proofs.lemmas.List.{take_all, length-take}
 use Rattle.std.proofs.lemmas.Bool.{cond-false, cases_lt, lt-leb}
@@ -7,7 +7,6 @@ use Rattle.ov_host.specs.Host.{State}
 use Rattle.ov_host.specs.Stage.{Files}
 use Rattle.ov_store.specs.Dataset.{Dataset}
 use Rattle.ov_store.specs.Held.{Held, IsAt}
-use Rattle.ov_top.specs.declared.read_line.Making.{Making}
 use Rattle.ov_top.specs.declared.reply.Reply.TheVariants.{NotBuilt}
 use Rattle.ov_top.specs.Lines.{is_comment}
 use Rattle.ov_top.specs.LineForm.{init_of}

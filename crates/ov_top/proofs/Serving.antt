@@ -1,16 +1,16 @@
 -- What a line leads to, case by case.
-use Rattle.std.proofs.Common.{◌≡◌, ◌<◌, ◌≤◌, ℕ, Bool, true, false, ◌||◌, List, [], ◌∷◌, ◌++◌, length, map, Option, Some, None, refl, sym, ◌∙◌, ap, subst, arith, append_assoc}
+use Rattle.std.proofs.Common.{◌≡◌, ◌<◌, false, List, length, Option, Some, sym, ◌∙◌, ap, subst}
 use Rattle.std.specs.FinMap.{get}
-use Rattle.std.proofs.lemmas.Bool.{cond-true, cond-false, lt-leb}
+use Rattle.std.proofs.lemmas.Bool.{cond-false, lt-leb}
 use Rattle.ov_host.specs.Host.{State}
 use Rattle.ov_host.specs.Stage.{Files}
 use Rattle.ov_value.specs.Making.{is_among}
 use Rattle.ov_store.specs.Dataset.{Dataset}
-use Rattle.ov_store.specs.Held.{Held, IsAt}
+use Rattle.ov_store.specs.Held.{Held}
 use Rattle.ov_top.specs.declared.read_line.Making.{Making}
 use Rattle.ov_top.specs.declared.reply.Reply.{Reply}
 use Rattle.ov_top.specs.declared.reply.Reply.TheVariants.{Exists, NotBuilt}
-use Rattle.ov_top.specs.Play.{Acted, says, from_line, from_file, names_of, act}
+use Rattle.ov_top.specs.Play.{Acted, says, from_line, from_file, names_of}
 use Rattle.ov_top.specs.Serving.{Answers}
 
 -- a name that is new, where there is room for one more

@@ -1,5 +1,5 @@
 -- Lists of values that may be missing.
-use Rattle.std.specs.Prelude.{List, [], ◌∷◌, Option, Some, None}
+use Rattle.std.specs.Prelude.{List, [], ◌∷◌, Option, Some}
 use Rattle.std.specs.Option.{option_map, option_and_then}
 
 -- the values of all, where each has one

@@ -1,8 +1,8 @@
 -- How a run ended: the cause of each status, and what was printed.
-use Rattle.std.specs.Prelude.{◌≡◌, ◌≢◌, ◌≤◌, ◌<◌, ◌⊎◌, ◌+◌, ◌^◌, ℕ, Bool, true, false, List, [], length}
+use Rattle.std.specs.Prelude.{◌≡◌, ◌⊎◌, ◌+◌, ◌^◌, ℕ, true, false, List, [], length}
 use Rattle.ov_host.specs.Host.{State, Rose}
 use Rattle.ov_host.specs.Source.{Script}
-use Rattle.ov_host.specs.Stage.{Files, Staged}
+use Rattle.ov_host.specs.Stage.{Staged}
 use Rattle.ov_store.specs.Held.{AreEmpty, IsNew}
 use Rattle.ov_top.specs.declared.status.Status.{Status}
 use Rattle.ov_top.specs.declared.status.Status.TheVariants.{Done, Refused, Usage, HostFault, InputFault, Memory, NotAStore, Damaged, Format, ScriptTooLong}

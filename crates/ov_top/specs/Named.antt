@@ -1,8 +1,7 @@
 -- What is read of a named file.
-use Rattle.std.specs.Prelude.{◌≡◌, ◌<◌, ◌≤◌, ℕ, List, [], ◌++◌, length, Option, Some, None}
-use Rattle.std.specs.FinMap.{get}
+use Rattle.std.specs.Prelude.{◌≡◌, ◌<◌, ◌≤◌, ℕ, List, ◌++◌, length, Option, Some, None}
 use Rattle.ov_host.specs.Host.{Rose}
-use Rattle.ov_host.specs.Stage.{Files, Staged}
+use Rattle.ov_host.specs.Stage.{Staged}
 use Rattle.ov_top.specs.declared.named.Named.{Named}
 use Rattle.ov_top.specs.declared.named.Named.TheVariants.{Missing, TooLong, Text}
 

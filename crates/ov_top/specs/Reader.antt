@@ -1,7 +1,6 @@
 -- What contracts see of the reader of lines.
 use Rattle.std.specs.Prelude.{◌≡◌, ◌<◌, ◌≤◌, ◌==◌, ℕ, ◌+◌, ◌-◌, ◌^◌, Bool, true, false, List, [], ◌∷◌, ◌++◌, length, take}
 use Rattle.std.specs.List.{list_any}
-use Rattle.ov_host.specs.Host.{Rose}
 use Rattle.ov_host.specs.Source.{Script}
 use Rattle.ov_top.specs.Lines.{lines_of}
 

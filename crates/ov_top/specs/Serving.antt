@@ -1,15 +1,11 @@
 -- What serving a line keeps to.
-use Rattle.std.specs.Prelude.{◌≡◌, ◌≢◌, ◌≤◌, ◌<◌, ◌⊎◌, ◌||◌, ◌++◌, ◌+◌, ◌^◌, ℕ, Bool, true, false, List, [], length, Option, Some, None}
-use Rattle.ov_host.specs.Host.{State, Rose}
-use Rattle.ov_host.specs.Source.{Script}
-use Rattle.ov_host.specs.Stage.{Files, Staged}
+use Rattle.std.specs.Prelude.{◌≡◌, ◌||◌, ◌++◌, ℕ, Bool, List, [], Option}
+use Rattle.ov_host.specs.Host.{State}
+use Rattle.ov_host.specs.Stage.{Files}
 use Rattle.ov_store.specs.Dataset.{Dataset}
-use Rattle.ov_store.specs.Held.{Held, IsAt, AreEmpty}
+use Rattle.ov_store.specs.Held.{Held, IsAt}
 use Rattle.ov_top.specs.declared.reply.Reply.{Reply}
-use Rattle.ov_top.specs.declared.status.Status.{Status}
-use Rattle.ov_top.specs.declared.status.Status.TheVariants.{Done, Refused, Usage, HostFault, InputFault, Memory, NotAStore, Damaged, Format, ScriptTooLong}
 use Rattle.ov_top.specs.Play.{Acted, said, has_failed, play, fails, sets_after}
-use Rattle.ov_top.specs.Words.{are_words}
 
 -- what is printed, where the host tells it
 abbrev pub printed_of : State → List ℕ

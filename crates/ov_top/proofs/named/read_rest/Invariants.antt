@@ -1,4 +1,4 @@
-use Rattle.std.proofs.Common.{◌≡◌, ◌≤◌, ◌-◌, ◌++◌, true, length, vec_len}
+use Rattle.std.proofs.Common.{◌≡◌, ◌-◌, ◌++◌, true, vec_len}
 use Rattle.ov_top.specs.Named.{Looks}
 use Rattle.ov_top.proofs.named.read_rest.Given as goal
 

@@ -1,4 +1,4 @@
-use Rattle.std.proofs.Common.{◌≡◌, ◌∙◌, sym, ap, map, List, ℕ, ◌==◌}
+use Rattle.std.proofs.Common.{◌∙◌, sym, ap, map, ◌==◌}
 use Rattle.std.specs.List.{slice_split}
 use Rattle.ov_top.specs.LineForm.{making_of}
 use Rattle.ov_top.proofs.LineForms.{init_no_text, init_is}

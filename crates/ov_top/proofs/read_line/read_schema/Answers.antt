@@ -1,7 +1,5 @@
-use Rattle.std.proofs.Common.{◌≡◌, ◌∙◌, sym, ap, subst, map, Option, Some, None, List, ℕ, length}
-use Rattle.std.specs.List.{slice_split}
+use Rattle.std.proofs.Common.{◌∙◌, sym, ap, map, Some, None}
 use Rattle.std.specs.Option.{option_map}
-use Rattle.ov_value.specs.declared.column.Column.{Column}
 use Rattle.ov_top.specs.LineForm.{column_of}
 use Rattle.ov_top.specs.AllSome.{all_some}
 use Rattle.ov_top.proofs.LineForms.{columns_are, schema_known, schema_none}

@@ -1,7 +1,5 @@
-use Rattle.std.proofs.Common.{◌≡◌, ◌∙◌, sym, subst, arith}
+use Rattle.std.proofs.Common.{◌∙◌, sym, subst, arith}
 use Rattle.ov_top.specs.Lines.{lines_of}
-use Rattle.ov_top.specs.Named.{Looks}
-use Rattle.ov_store.specs.Held.{Passes}
 use Rattle.ov_top.specs.Reader.{left_of}
 use Rattle.ov_top.specs.Serving.{Serves}
 use Rattle.ov_top.specs.Play.{act}

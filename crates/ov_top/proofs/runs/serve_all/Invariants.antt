@@ -1,10 +1,10 @@
-use Rattle.std.proofs.Common.{◌≡◌, ◌≤◌, ◌<◌, ◌+◌, ◌-◌, ◌^◌, true, length, ℕ, [], List}
+use Rattle.std.proofs.Common.{◌≡◌, ◌≤◌, ◌<◌, ◌+◌, true, length, []}
 use Rattle.ov_host.specs.declared.area.Area.TheVariants.{Journal}
 use Rattle.ov_host.specs.Host.{bytes_of}
 use Rattle.ov_store.specs.Held.{IsAt, Passes}
 use Rattle.ov_top.specs.Lines.{lines_of}
 use Rattle.ov_top.specs.Named.{Looks}
-use Rattle.ov_top.specs.Reader.{left_of, Took, room_of}
+use Rattle.ov_top.specs.Reader.{left_of, room_of}
 use Rattle.ov_top.specs.Serving.{SoFar}
 use Rattle.ov_top.proofs.runs.serve_all.Given as goal
 

@@ -1,4 +1,4 @@
-use Rattle.std.proofs.Common.{◌≡◌, ◌∙◌, ap, sym, subst, not, ◌==◌, length, [], List, ℕ, true, arith}
+use Rattle.std.proofs.Common.{◌≡◌, ◌∙◌, sym, subst, not, ◌==◌, length, true, arith}
 use Rattle.std.proofs.lemmas.Grind.{common_steps}
 use Rattle.ov_top.specs.Reader.{left_of, IsPart, GivesLine, Took, room_of}
 use Rattle.ov_top.proofs.Readers.{line_given, part_more, last_given, taken_true, taken_false, filled_true, filled_false, part_filled, part_ended, left_ended, is_shorter, room_left}

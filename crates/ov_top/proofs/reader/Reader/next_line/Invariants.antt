@@ -1,4 +1,4 @@
-use Rattle.std.proofs.Common.{◌≡◌, ◌≤◌, ◌+◌, ◌-◌, ◌^◌, true, length, ℕ}
+use Rattle.std.proofs.Common.{◌≡◌, ◌≤◌, ◌+◌, ◌-◌, ◌^◌, true, length}
 use Rattle.ov_top.specs.Reader.{left_of, Took, IsPart, room_of}
 use Rattle.ov_top.proofs.reader.Reader.next_line.Given as goal
 

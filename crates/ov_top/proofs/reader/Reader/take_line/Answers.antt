@@ -1,4 +1,4 @@
-use Rattle.std.proofs.Common.{◌≡◌, ◌∙◌, ap, sym, ◌-◌, ◌+◌, ◌++◌, ◌∷◌, [], take, drop, List, ℕ, false, arith}
+use Rattle.std.proofs.Common.{◌∙◌, ap, sym, ◌-◌, ◌+◌, ◌++◌, ◌∷◌, [], take, drop, false, arith}
 use Rattle.std.proofs.lemmas.Grind.{common_steps}
 use Rattle.ov_top.specs.Reader.{TakesLine}
 use Rattle.ov_top.proofs.Readers.{cut_part, shorter_true, shorter_false}
