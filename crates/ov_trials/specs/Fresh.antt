@@ -10,6 +10,7 @@ use Rattle.ov_top.specs.Ending.{Ends}
 abbrev pub fresh_ends : List ℕ → List (String Global × Vec ℕ Global) → Ends
 fresh_ends script files =
     record {
-        host = new_state (record { pages = []; journal = [] }) [];
-        script = record { tells = true; left = script; faults = 0 };
-        stage = new_staged (files_of files) }
+      host = new_state (record { pages = []; journal = [] }) [];
+      script = record { tells = true; left = script; faults = 0 };
+      stage = new_staged (files_of files);
+    }

@@ -1,6 +1,6 @@
 //! Whole runs over ends in memory: a script and its files in, what is printed and what lies on the disk out.
 //!
-//! The clause of `trial` is that of `run`, with its premises met: it shows that they can be.
+//! The clause of `run_fresh` is that of `run`, with its premises met: it shows that they can be.
 #![tactic(auto)]
 
 ghost use Rattle.std.specs.Prelude.{IfOk};
@@ -23,7 +23,7 @@ pub struct Trial {
 }
 
 /// Runs a script on empty areas, over a stage of these files.
-pub fn trial(alloc: Global, script: Vec<u8>, files: Vec<(String, Vec<u8>)>) -> Result<Trial, AllocError>
+pub fn run_fresh(alloc: Global, script: Vec<u8>, files: Vec<(String, Vec<u8>)>) -> Result<Trial, AllocError>
     ensures { IfOk result (λ t. Plays t.status (fresh_ends script.items files.items)
         (record fresh_ends script.items files.items { host = state_of t.host; stage = staged_of t.stage })) }
 {
@@ -39,3 +39,6 @@ pub fn trial(alloc: Global, script: Vec<u8>, files: Vec<(String, Vec<u8>)>) -> R
         stage,
     })
 }
+
+#[cfg(test)]
+mod tests;
