@@ -23,9 +23,13 @@ pub struct Trial {
 }
 
 /// Runs a script on empty areas, over a stage of these files.
-pub fn run_fresh(alloc: Global, script: Vec<u8>, files: Vec<(String, Vec<u8>)>) -> Result<Trial, AllocError>
+pub fn run_fresh(
+    alloc: Global,
+    script: Vec<u8>,
+    files: Vec<(String, Vec<u8>)>,
+) -> Result<Trial, AllocError>
     ensures { IfOk result (λ t. Plays t.status (fresh_ends script.items files.items)
-        (record fresh_ends script.items files.items { host = state_of t.host; stage = staged_of t.stage })) }
+        (record (fresh_ends script.items files.items) { host = state_of t.host; stage = staged_of t.stage })) }
 {
     let mut words = Vec::new(alloc);
     words.push(Txt::new(alloc, "s")?)?;

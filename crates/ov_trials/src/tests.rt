@@ -140,7 +140,7 @@ fn a_file_off_the_form_makes_nothing(rt: HostRuntime) -> Result<(), Fail> {
 }
 
 // The header (38 bytes), then gate, length and a payload of 98 bytes, then a closed gate.
-#[rustfmt::skip]
+#[rattlefmt::skip]
 const JOURNAL: [u8; 142] = [
     0xA5, b'o', b'r', b'p', b'h', b'e', b'u', b's', b'-', b'c', b'v', b'd', 0xA5, 0, 0, 0, 1, 0, 0,
     0, 38, 0, 0, 0, 2, 0, 0, 0, 0, 0, 0, 0, 0, 0, 0, 0, 0, 0, 0xA5, 0, 0, 0, 98, 0x11, 0, 0, 0, 6,
