@@ -17,6 +17,7 @@ mod reading;
 mod row;
 mod schema;
 mod schema_err;
+mod sorting;
 mod spelled;
 mod txt;
 mod value;
@@ -29,7 +30,11 @@ pub use reading::read_row;
 pub use row::Row;
 pub use schema::Schema;
 pub use schema_err::SchemaErr;
+pub use sorting::sort_by_key;
 pub use spelled::{Bytes, RowBytes};
 pub use txt::Txt;
 pub use value::Value;
 pub use writing::row_bytes;
+
+#[cfg(test)]
+mod tests;
