@@ -5,3 +5,4 @@ pub mod LowBytes
 pub mod Parts
 pub mod Columns
 pub mod MarkLemmas
+pub mod Fronts

@@ -11,11 +11,11 @@ use Rattle.ov_value.specs.declared.value.Value.{Value}
 use Rattle.ov_value.specs.declared.value.Value.TheVariants.{Null}
 use Rattle.ov_value.specs.Shapes.{Shape}
 use Rattle.ov_value.specs.Rows.{is_null, value_at}
-use Rattle.ov_value.specs.Spelling.{value_bytes, kept, marks, low_bytes, mark_bytes, row_spelling, IsRow}
+use Rattle.ov_value.specs.Spelling.{value_bytes, kept, marks, low_bytes, mark_bytes, row_spelling, IsSpelling, IsRow}
 use Rattle.ov_value.specs.Reading.{Lies, Spelled, Finds, AreMarks, BeginWithMarks, HasSpelling}
 use Rattle.ov_value.proofs.RowLemmas.{length-HasKinds}
 use Rattle.ov_value.proofs.KeptLemmas.{length-kept, marks-less}
-use Rattle.ov_value.proofs.LowBytes.{low_bytes-injective}
+use Rattle.ov_value.proofs.LowBytes.{length-low_bytes, low_bytes-injective}
 use Rattle.ov_value.proofs.Parts.{lies_front, lies_end, steps_same}
 
 -- no marks where nothing is NULL
@@ -53,6 +53,9 @@ mark_bytes_some xs e = rw e refl
 
 mark_bytes_none : (xs : List Value) → list_any is_null xs ≡ false → mark_bytes xs ≡ []
 mark_bytes_none xs e = rw e refl
+
+pub length-mark_bytes : (xs : List Value) → list_any is_null xs ≡ true → 1 + (length xs + 7) / 8 ≡ length (mark_bytes xs)
+length-mark_bytes xs e = rw (mark_bytes_some xs e) (omega (arith, length-low_bytes ((length xs + 7) / 8) (marks xs)))
 
 -- ---- plain
 
@@ -107,25 +110,25 @@ marked_spelled columns bytes width nulls rest values begin found are =
 
 -- ---- a row of a schema
 
-pub row_spelled : (schema : Shape) (bytes : RowBytes) (row : List Value) → IsRow schema row → bytes ≡ row_spelling row → Spelled schema.columns bytes.marked bytes.bytes row
+pub row_spelled : (schema : Shape) (marked : Bool) (bytes : List ℕ) (row : List Value) → IsRow schema row → IsSpelling row marked bytes → Spelled schema.columns marked bytes row
 unfolding row_spelling
-row_spelled schema bytes row r e = record {
+row_spelled schema marked bytes row r e = record {
   kinds = r.fits.kinds;
   spelled = recursion_from_All HasSpelling row (λ k d h. (r.typed k d h, r.short k d h));
-  marked_is = sym (ap (λ (b : RowBytes). b.marked) e);
-  bytes_are = ap (λ (b : RowBytes). b.bytes) e;
+  marked_is = sym e.0;
+  bytes_are = e.1;
 }
 
-pub spelled_row : (schema : Shape) (bytes : RowBytes) (row : List Value) → Spelled schema.columns bytes.marked bytes.bytes row → All (λ place. value_at row place ≢ Null) schema.key → IsRow schema row × (bytes ≡ row_spelling row)
+pub spelled_row : (schema : Shape) (marked : Bool) (bytes : List ℕ) (row : List Value) → Spelled schema.columns marked bytes row → All (λ place. value_at row place ≢ Null) schema.key → IsRow schema row × IsSpelling row marked bytes
 unfolding row_spelling
-spelled_row schema bytes row s keyed =
+spelled_row schema marked bytes row s keyed =
     let all : All HasSpelling row = All-from_recursion HasSpelling row s.spelled in (
       record {
         fits = record { kinds = s.kinds; keyed = keyed };
         typed = λ k d h. (all k d h).0;
         short = λ k d h. (all k d h).1;
       },
-      let marked = sym s.marked_is in λ i. record { marked = marked i; bytes = s.bytes_are i },
+      (sym s.marked_is, s.bytes_are),
     )
 
 -- ---- no bytes spell two rows
@@ -149,4 +152,5 @@ spelled_same columns true bytes a b p q =
 
 pub rows_same : (schema : Shape) (a b : List Value) → IsRow schema a → IsRow schema b → row_spelling a ≡ row_spelling b → a ≡ b
 rows_same schema a b p q e =
-    spelled_same schema.columns (row_spelling b).marked (row_spelling b).bytes a b (row_spelled schema (row_spelling b) a p (sym e)) (row_spelled schema (row_spelling b) b q refl)
+    spelled_same schema.columns (row_spelling b).marked (row_spelling b).bytes a b
+    (row_spelled schema _ _ a p (ap (λ (r : RowBytes). r.marked) (sym e), ap (λ (r : RowBytes). r.bytes) (sym e))) (row_spelled schema _ _ b q (refl, refl))

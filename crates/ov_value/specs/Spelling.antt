@@ -2,9 +2,9 @@
 --     value_bytes v      of one value; NULL has none
 --     kept row      its values up to the last that is not NULL
 --     mark_bytes values      which of them are NULL, where any is
---     row_spelling row      marked or plain, and the bytes
+--     row_spelling row      marked or plain, and the bytes; IsSpelling row marked bytes: these are they
 --     IsRow s row      it fits, and each of its values has a spelling
-use Rattle.std.specs.Prelude.{ℕ, zero, suc, ◌+◌, ◌*◌, ◌/◌, ◌%◌, ◌^◌, ◌<◌, if◌then◌else◌, IsUtf8, List, [], ◌∷◌, ◌++◌, length}
+use Rattle.std.specs.Prelude.{◌≡◌, ℕ, zero, suc, ◌+◌, ◌*◌, ◌/◌, ◌%◌, ◌^◌, ◌<◌, Bool, if◌then◌else◌, IsUtf8, List, [], ◌∷◌, ◌++◌, length}
 use Rattle.std.specs.List.{list_any, flat_map, All}
 use Rattle.std.specs.Int.{w32, w64, to_be_bytes, cast_unsigned}
 use Rattle.std.specs.Int.RustNames.{FitsSigned}
@@ -52,6 +52,10 @@ row_spelling row = record {
   marked = list_any is_null (kept row);
   bytes = mark_bytes (kept row) ++ flat_map value_bytes row;
 }
+
+-- these bytes, with marks in front or without, are the row's
+abbrev pub IsSpelling : List Value → Bool → List ℕ → Type 0
+IsSpelling row marked bytes = (marked ≡ (row_spelling row).marked) × (bytes ≡ (row_spelling row).bytes)
 
 -- a text is below 2^32 bytes, so that its length has four
 abbrev pub IsShort : Value → Type 0

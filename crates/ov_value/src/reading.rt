@@ -2,7 +2,7 @@
 
 ghost use Rattle.std.specs.Prelude.{◌≡◌, ◌≤◌, List, length, IfOk, IfSome, IsSomeAnd, Some, false};
 ghost use Rattle.ov_value.specs.declared.value.Value.{Value as RowValue};
-ghost use Rattle.ov_value.specs.Spelling.{row_spelling, IsRow};
+ghost use Rattle.ov_value.specs.Spelling.{IsSpelling, IsRow};
 ghost use Rattle.ov_value.specs.Reading.{Spelled};
 
 use crate::column::Column;
@@ -18,13 +18,27 @@ use std::alloc::{AllocError, Global};
 /// the row alone: a length that passes the bytes takes none.
 pub fn read_row(alloc: Global, schema: &Schema, bytes: &RowBytes) -> Result<Option<Row>, AllocError>
     // What is read is a row of the schema, and is spelled so.
-    ensures found { IfOk result (λ read. IfSome read (λ row. IsRow schema.now row × (bytes.now ≡ row_spelling row))) }
+    ensures found { IfOk result (λ read. IfSome read (λ row. IsRow schema.now row × IsSpelling row bytes.now.marked bytes.now.bytes)) }
 
     // What is spelled so is read.
-    ensures only { (row : List RowValue) → IsRow schema.now row → bytes.now ≡ row_spelling row
+    ensures only { (row : List RowValue) → IsRow schema.now row → IsSpelling row bytes.now.marked bytes.now.bytes
         → IfOk result (λ read. read ≡ Some row) }
 {
-    match read_spelled(alloc, schema.columns(), bytes)? {
+    read_row_slice(alloc, schema, bytes.marked, bytes.bytes.as_slice())
+}
+
+/// As `read_row`, of a slice of bytes and whether they begin with marks.
+pub fn read_row_slice(
+    alloc: Global,
+    schema: &Schema,
+    marked: bool,
+    bytes: &[u8],
+) -> Result<Option<Row>, AllocError>
+    ensures found { IfOk result (λ read. IfSome read (λ row. IsRow schema.now row × IsSpelling row marked bytes.now)) }
+    ensures only { (row : List RowValue) → IsRow schema.now row → IsSpelling row marked bytes.now
+        → IfOk result (λ read. read ≡ Some row) }
+{
+    match read_spelled(alloc, schema.columns(), marked, bytes)? {
         None => Ok(None),
         Some(values) => {
             let row = Row::new(values);
@@ -40,17 +54,18 @@ pub fn read_row(alloc: Global, schema: &Schema, bytes: &RowBytes) -> Result<Opti
 fn read_spelled(
     alloc: Global,
     columns: &[Column],
-    bytes: &RowBytes,
+    marked: bool,
+    bytes: &[u8],
 ) -> Result<Option<Vec<Value>>, AllocError>
     requires { length columns.now ≤ 64 }
-    ensures found { IfOk result (λ read. IfSome read (λ values. Spelled columns.now bytes.now.marked bytes.now.bytes values.items)) }
-    ensures only { (row : List RowValue) → Spelled columns.now bytes.now.marked bytes.now.bytes row
+    ensures found { IfOk result (λ read. IfSome read (λ values. Spelled columns.now marked bytes.now values.items)) }
+    ensures only { (row : List RowValue) → Spelled columns.now marked bytes.now row
         → IfOk result (λ read. IsSomeAnd read (λ values. values.items ≡ row)) }
 {
-    if bytes.marked {
-        read_marked(alloc, columns, bytes.bytes.as_slice())
+    if marked {
+        read_marked(alloc, columns, bytes)
     } else {
-        read_plain(alloc, columns, bytes.bytes.as_slice())
+        read_plain(alloc, columns, bytes)
     }
 }
 

@@ -161,6 +161,13 @@ fn has_bytes(
     if spelled.marked != marked || spelled.bytes.as_slice() != want {
         return Ok(false);
     }
+    let mut appended = Vec::new(alloc);
+    if append_row(&mut appended, schema, row)? != marked || appended.as_slice() != want {
+        return Ok(false);
+    }
+    if row_len(row) != want.len() || is_marked(row) != marked {
+        return Ok(false);
+    }
     is_read_as(alloc, schema, &spelled, row)
 }
 
@@ -211,8 +218,7 @@ fn note_columns(alloc: Global) -> Result<Vec<Column>, AllocError> {
 }
 
 fn is_row(alloc: Global, schema: &Schema, marked: bool, bytes: &[u8]) -> Result<bool, AllocError> {
-    let read = read_row(alloc, schema, &bytes_of(alloc, marked, bytes)?)?;
-    Ok(read.is_some())
+    Ok(read_row_slice(alloc, schema, marked, bytes)?.is_some())
 }
 
 #[test]

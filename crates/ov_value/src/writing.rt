@@ -1,6 +1,6 @@
 //! From a row to its bytes.
 
-ghost use Rattle.std.specs.Prelude.{◌≡◌, ◌≤◌, ◌+◌, ◌/◌, ◌++◌, ◌∷◌, OnOk, IfOk, length, min};
+ghost use Rattle.std.specs.Prelude.{◌≡◌, ◌≤◌, ◌+◌, ◌/◌, ◌++◌, ◌∷◌, OnOk, IfOk, length, min, take};
 ghost use Rattle.std.specs.List.{All, list_any, flat_map};
 ghost use Rattle.ov_value.specs.Rows.{Fits, is_null};
 ghost use Rattle.ov_value.specs.Spelling.{value_bytes, low_bytes, mark_bytes, IsShort, row_spelling};
@@ -18,15 +18,54 @@ pub fn row_bytes(alloc: Global, schema: &Schema, row: &Row) -> Result<RowBytes, 
     requires short { All IsShort row.now }
     ensures { IfOk result (λ made. made ≡ row_spelling row.now) }
 {
-    let most = schema.columns().len();
-    let values = kept(row.values());
-    let mut bytes = Vec::with_capacity(alloc, len_of(values).saturating_add(1 + most / 8 + 1))?;
-    let marked = push_marks(&mut bytes, values)?;
-    push_values(&mut bytes, values)?;
+    let mut bytes = Vec::with_capacity(alloc, row_len(row))?;
+    let marked = append_row(&mut bytes, schema, row)?;
     Ok(RowBytes {
         marked,
         bytes: Bytes::new(bytes),
     })
+}
+
+/// Appends the bytes of a row that fits the schema, and answers whether they begin with marks. After an error
+/// any bytes may stand behind the old ones.
+pub fn append_row(bytes: &mut Vec<u8>, schema: &Schema, row: &Row) -> Result<bool, AllocError>
+    requires fits { Fits schema.now row.now }
+    requires short { All IsShort row.now }
+    ensures marked { IfOk result (λ marked. marked ≡ (row_spelling row.now).marked) }
+    ensures bytes { OnOk result (bytes.new.items ≡ bytes.old.items ++ (row_spelling row.now).bytes) }
+    ensures front { take (length bytes.old.items) bytes.new.items ≡ bytes.old.items }
+{
+    let _columns = schema.columns();
+    let values = kept(row.values());
+    let marked = push_marks(bytes, values)?;
+    push_values(bytes, values)?;
+    Ok(marked)
+}
+
+/// The number of a row's bytes, or 2^64 - 1 where there are more.
+pub fn row_len(row: &Row) -> usize
+    ensures { result ≡ min (length (row_spelling row.now).bytes) usize.MAX }
+{
+    let values = kept(row.values());
+    len_of(values).saturating_add(marks_len(values))
+}
+
+/// Whether a row's bytes begin with marks: a NULL stands before another value.
+pub fn is_marked(row: &Row) -> bool
+    ensures { result ≡ (row_spelling row.now).marked }
+{
+    has_null(kept(row.values()))
+}
+
+// The number of bytes of the marks.
+fn marks_len(values: &[Value]) -> usize
+    ensures { result ≡ length (mark_bytes values.now) }
+{
+    if has_null(values) {
+        1 + (values.len() + 7) / 8
+    } else {
+        0
+    }
 }
 
 // The number of bytes of the values, or the greatest number where it would pass that.
@@ -51,6 +90,7 @@ fn push_marks(bytes: &mut Vec<u8>, values: &[Value]) -> Result<bool, AllocError>
     requires { length values.now ≤ 64 }
     ensures marked { IfOk result (λ marked. marked ≡ list_any is_null values.now) }
     ensures bytes { OnOk result (bytes.new.items ≡ bytes.old.items ++ mark_bytes values.now) }
+    ensures front { take (length bytes.old.items) bytes.new.items ≡ bytes.old.items }
 {
     if !has_null(values) {
         return Ok(false);
@@ -61,7 +101,8 @@ fn push_marks(bytes: &mut Vec<u8>, values: &[Value]) -> Result<bool, AllocError>
 }
 
 fn push_low_bytes(bytes: &mut Vec<u8>, count: usize, number: u64) -> Result<(), AllocError>
-    ensures { OnOk result (bytes.new.items ≡ bytes.old.items ++ low_bytes count number) }
+    ensures bytes { OnOk result (bytes.new.items ≡ bytes.old.items ++ low_bytes count number) }
+    ensures front { take (length bytes.old.items) bytes.new.items ≡ bytes.old.items }
 {
     let mut rest = number;
     for _ in 0..count {
@@ -73,7 +114,8 @@ fn push_low_bytes(bytes: &mut Vec<u8>, count: usize, number: u64) -> Result<(), 
 
 fn push_values(bytes: &mut Vec<u8>, values: &[Value]) -> Result<(), AllocError>
     requires { All IsShort values.now }
-    ensures { OnOk result (bytes.new.items ≡ bytes.old.items ++ flat_map value_bytes values.now) }
+    ensures bytes { OnOk result (bytes.new.items ≡ bytes.old.items ++ flat_map value_bytes values.now) }
+    ensures front { take (length bytes.old.items) bytes.new.items ≡ bytes.old.items }
 {
     for value in values {
         push_value(bytes, value)?;
@@ -83,7 +125,8 @@ fn push_values(bytes: &mut Vec<u8>, values: &[Value]) -> Result<(), AllocError>
 
 fn push_value(bytes: &mut Vec<u8>, value: &Value) -> Result<(), AllocError>
     requires { IsShort value.now }
-    ensures { OnOk result (bytes.new.items ≡ bytes.old.items ++ value_bytes value.now) }
+    ensures bytes { OnOk result (bytes.new.items ≡ bytes.old.items ++ value_bytes value.now) }
+    ensures front { take (length bytes.old.items) bytes.new.items ≡ bytes.old.items }
 {
     match value {
         Value::Int(number) => bytes.extend_from_slice(&number.cast_unsigned().to_be_bytes()),
