@@ -1,9 +1,10 @@
 -- The image that the arguments of a crash name is one that the model of a disk allows.
-use Rattle.std.proofs.Common.{◌≡◌, ◌<◌, ◌≤◌, ◌⊎◌, inl, inr, refl, sym, ◌∙◌, ap, subst, ℕ, suc, ◌+◌, ◌%◌, Bool, true, false, cond, ◌==◌, nat_lt, List, [], ◌∷◌, ◌++◌, length, drop, get_or, arith}
+use Rattle.std.proofs.Common.{◌≡◌, ◌<◌, ◌≤◌, ◌⊎◌, inl, inr, refl, sym, ◌∙◌, ap, subst, ℕ, zero, suc, ◌+◌, ◌%◌, Bool, true, false, cond, ◌==◌, nat_lt, List, [], ◌∷◌, ◌++◌, length, drop, get_or, arith}
 use Rattle.std.specs.Bool.{MatchBool}
 use Rattle.std.proofs.Math.Nat.{mod-add-mod}
 use Rattle.std.proofs.lemmas.Bool.Decides.{nat_tests}
 use Rattle.std.proofs.lemmas.List.{append-nil, append_assoc}
+use Rattle.std.proofs.Math.Seq.{drop-nil}
 use Rattle.std.proofs.lemmas.Grind.{same_number_lists}
 use Rattle.ov_host.specs.declared.area.Area.TheVariants.{Pages, Journal}
 use Rattle.ov_host.specs.Disk.{Stored, Disk, Image, IsWritten, Leaves, MayLeave}
@@ -118,11 +119,24 @@ stop_left (k ∷ ks) call t c stop =
 had_along : (ms ns : List Moment) (n : ℕ) (e : Disk) (c : Image) → ms ≡ ns → MayLeave e c ⊎ HadLeft (drop n ms) c → MayLeave e c ⊎ HadLeft (drop n ns) c
 had_along ms ns n e c same left = subst (λ xs. MayLeave e c ⊎ HadLeft (drop n xs) c) same left
 
--- a stop in a call is one since the clock as that call began
-pub stop_since : (ks : List Kept) (call : ℕ) (start : Disk) (c : Image) → StopIn ks call start c → left_since (replayed ks (fresh start)) (moments_before ks call) c
-stop_since ks call start c stop =
-    had_along (moments ks start) (replayed ks (fresh start)).past (moments_before ks call) (replayed ks (fresh start)).disk c
-    (sym (past_replayed ks (fresh start))) (stop_left ks call (fresh start) c stop)
+-- what was left since a moment was left since each earlier one
+had_earlier : (ms : List Moment) (early late : ℕ) (c : Image) → early ≤ late → HadLeft (drop late ms) c → HadLeft (drop early ms) c
+had_earlier [] early late c le had = absurd (subst (λ xs. HadLeft xs c) (drop-nil late) had)
+had_earlier (m ∷ ms) zero zero c le had = had
+had_earlier (m ∷ ms) zero (suc late) c le had = inr (had_earlier ms zero late c (omega arith) had)
+had_earlier (m ∷ ms) (suc early) zero c le had = absurd (omega arith)
+had_earlier (m ∷ ms) (suc early) (suc late) c le had = had_earlier ms early late c (omega arith) had
+
+since_earlier : (t : Tape) (early late : ℕ) (c : Image) → early ≤ late → left_since t late c → left_since t early c
+since_earlier t early late c le (inl now) = inl now
+since_earlier t early late c le (inr had) = inr (had_earlier t.past early late c le had)
+
+-- a stop in a call is one since each moment up to the clock as that call began
+pub stop_since : (ks : List Kept) (call moment : ℕ) (start : Disk) (c : Image) → StopIn ks call start c → moment ≤ moments_before ks call → left_since (replayed ks (fresh start)) moment c
+stop_since ks call moment start c stop le =
+    since_earlier (replayed ks (fresh start)) moment (moments_before ks call) c le
+    (had_along (moments ks start) (replayed ks (fresh start)).past (moments_before ks call) (replayed ks (fresh start)).disk c
+    (sym (past_replayed ks (fresh start))) (stop_left ks call (fresh start) c stop))
 
 picked_one : (a : Stored) (asked taken : ℕ) (pick b c : List ℕ) → IsPicked a asked taken pick b → IsPicked a asked taken pick c → b ≡ c
 picked_one a asked taken pick b c is is' =

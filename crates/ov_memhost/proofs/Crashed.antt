@@ -1,5 +1,5 @@
 -- The new host after a crash has the image that the arguments name.
-use Rattle.std.proofs.Common.{◌≡◌, ◌<◌, ◌-◌, ◌^◌, true, refl, sym, ◌∙◌, ap, subst, ℕ, ◌+◌, ◌%◌, List, length, arith}
+use Rattle.std.proofs.Common.{◌≡◌, ◌<◌, ◌≤◌, ◌-◌, ◌^◌, true, refl, sym, ◌∙◌, ap, subst, ℕ, ◌+◌, ◌%◌, List, length, arith}
 use Rattle.ov_host.specs.Disk.{Disk, Image, as_read}
 use Rattle.ov_host.specs.Tape.{fresh, left_since}
 use Rattle.ov_memhost.specs.declared.host.MemHost.{MemHost}
@@ -41,8 +41,8 @@ pub crash_stop : (m : MemHost) (call cut pages journal : ℕ) (pick : List ℕ) 
 crash_stop m call cut pages journal pick i named =
     named_stop (kept_by m) call cut (start_of m) pages journal pick i (sound_start _ _) named
 
-pub crash_left : (m : MemHost) (call : ℕ) (i : Image) → StopIn (kept_by m) call (start_of m) i → left_since (tape_of m) (moments_before (kept_by m) call) i
-crash_left m call i stop = stop_since (kept_by m) call (start_of m) i stop
+pub crash_left : (m : MemHost) (call moment : ℕ) (i : Image) → StopIn (kept_by m) call (start_of m) i → moment ≤ moments_before (kept_by m) call → left_since (tape_of m) moment i
+crash_left m call moment i stop le = stop_since (kept_by m) call moment (start_of m) i stop le
 
 -- after the last call, the disk is the one that there is
 pub crash_last : (m : MemHost) (call cut pages journal : ℕ) (pick : List ℕ) (i : Image) → call ≡ m.counts.calls → call < 2 ^ 64 - 1 → IsNamed (stopped (kept_by m) call cut (start_of m)) pages journal pick i → IsNamed (tape_of m).disk pages journal pick i

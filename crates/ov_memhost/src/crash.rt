@@ -1,5 +1,5 @@
 // The host that a stop leaves.
-ghost use Rattle.std.specs.Prelude.{◌≡◌, ◌<◌, ◌≤◌, ◌-◌, ◌^◌, length, IfOk, slice_index};
+ghost use Rattle.std.specs.Prelude.{◌≡◌, ℕ, ◌<◌, ◌≤◌, ◌-◌, ◌^◌, length, IfOk, slice_index};
 
 use crate::areas::Areas;
 use crate::host::MemHost;
@@ -35,7 +35,8 @@ impl MemHost {
         ensures last { call ≡ self.now.counts.calls → call < 2 ^ 64 - 1
             → IfOk result (λ host. IsNamed (state_of self.now).tape.disk pages journal pick.now (image_of host)) }
         ensures stop { IfOk result (λ host. StopIn (kept_by self.now) call (start_of self.now) (image_of host)) }
-        ensures left { IfOk result (λ host. left_since (state_of self.now).tape (moments_before (kept_by self.now) call) (image_of host)) }
+        ensures left { IfOk result (λ host. (moment : ℕ) → moment ≤ moments_before (kept_by self.now) call
+            → left_since (state_of self.now).tape moment (image_of host)) }
         ensures fresh { IfOk result (λ host. IsNew (image_of host) host) }
     {
         let alloc = self.alloc;

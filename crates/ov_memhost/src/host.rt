@@ -11,7 +11,11 @@ use crate::history::{Did, History, Write};
 use ov_host::{Area, Failed, Host};
 use std::alloc::{AllocError, Global};
 
-/// A host in memory.
+/// A host in memory, which tells its bytes. A call fails exactly where its number is listed or it found no memory, and then
+/// has done nothing; `len` and `read` take no memory.
+///
+/// It keeps the areas as they were before the first call that changed something, and each call that changed something, so
+/// that `crash_at` can play them again.
 #[derive(Drop)]
 pub struct MemHost {
     pub(crate) alloc: Global,
@@ -141,7 +145,7 @@ impl Host for MemHost {
     ghost use Rattle.ov_host.specs.Host.{Calls, bytes_of, fetched_by, gave, Reads};
     ghost use Rattle.ov_host.specs.Tape.{Looks, Writes, Syncs, Prints};
     ghost use Rattle.ov_memhost.specs.Counts.{Answered, AnsweredAlways};
-    ghost use Rattle.ov_memhost.specs.Host.{state_of, reads_of, Does, Idle};
+    ghost use Rattle.ov_memhost.specs.Host.{state_of, kept_by, reads_of, Does, Idle};
 
     ghost state = { state_of };
 
@@ -167,6 +171,7 @@ impl Host for MemHost {
         ensures within { IfOk result (λ n. n ≤ length buf.old) }
         ensures bytes { IfOk result (λ n. (state_of self.old).tells ≡ true → Reads area at n (state_of self.old) buf.old buf.new) }
         ensures counts { AnsweredAlways (is_ok result) self.old.counts self.new.counts }
+        ensures kept { kept_by self.new ≡ kept_by self.old }
         ensures nothing { OnErr result (Idle self.old self.new × (buf.new ≡ buf.old)) }
     {
         if self.counts.enter() {

@@ -1,5 +1,5 @@
 // Laws of stops, each the contract of a function that does nothing.
-ghost use Rattle.std.specs.Prelude.{◌≡◌, ℕ, List, slice_index};
+ghost use Rattle.std.specs.Prelude.{◌≡◌, ◌≤◌, ℕ, List, slice_index};
 ghost use Rattle.ov_host.specs.Disk.{Disk, Image};
 ghost use Rattle.ov_host.specs.Tape.{fresh, left_since};
 ghost use Rattle.ov_memhost.specs.Kept.{Kept, replayed};
@@ -7,10 +7,11 @@ ghost use Rattle.ov_memhost.specs.Picked.{IsNamed};
 ghost use Rattle.ov_memhost.specs.Sound.{AreSound};
 ghost use Rattle.ov_memhost.specs.Stopped.{StopIn, stopped, moments_before};
 
-/// A stop in the call of some number is one that the model of a disk knows, since the clock as that call began.
+/// A stop in the call of some number is one that the model of a disk knows, since each moment up to the clock as that
+/// call began.
 pub fn stops_in_a_call_are_since_it_began()
-    ensures { (kept : List Kept) (call : ℕ) (start : Disk) (c : Image)
-        → StopIn kept call start c → left_since (replayed kept (fresh start)) (moments_before kept call) c }
+    ensures { (kept : List Kept) (call moment : ℕ) (start : Disk) (c : Image)
+        → StopIn kept call start c → moment ≤ moments_before kept call → left_since (replayed kept (fresh start)) moment c }
 {}
 
 /// The image that the arguments of a crash name is one that a stop in that call may leave.

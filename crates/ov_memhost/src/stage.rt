@@ -42,7 +42,7 @@ impl MemStage {
 
     /// A stage of these files, of which the calls with these numbers fail, counted from 0. Of equal names the first
     /// counts. Takes no memory.
-    pub fn new(alloc: Global, files: Vec<Named>, fail: Vec<u64>) -> MemStage
+    pub fn new(alloc: Global, files: Vec<(String, Vec<u8>)>, fail: Vec<u64>) -> MemStage
         ensures staged { staged_of result ≡ new_staged (files_of files.items) }
         ensures counts { result.counts ≡ record { fail = fail; calls = 0; faults = 0; starved = 0 } }
     {

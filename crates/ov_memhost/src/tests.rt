@@ -42,7 +42,12 @@ const ACROSS_THE_END: [Case; 14] = [
     (1, 0, &[0x00], &[1, 2, 0x00, 0x00]),
     (1, 0, &[0xa5], &[1, 2, 0xa5, 0xa5]),
     (1, u64::MAX, &[0x5a], &[1, 2, 0x5a, 0x5a, 0x5a, 0x5a]),
-    (1, u64::MAX, &[0xa5, 0x5a, 0x00], &[1, 2, 0xa5, 0x5a, 0x00, 0xa5]),
+    (
+        1,
+        u64::MAX,
+        &[0xa5, 0x5a, 0x00],
+        &[1, 2, 0xa5, 0x5a, 0x00, 0xa5],
+    ),
     (2, 0, &[0x00], &[1, 2, 9, 9, 9, 9]),
     (2, u64::MAX, &[0xa5], &[1, 2, 9, 9, 9, 9]),
     (3, 0, &[0x5a], &[1, 2, 9, 9, 9, 9]),
@@ -51,7 +56,12 @@ const ACROSS_THE_END: [Case; 14] = [
 #[test]
 fn a_write_across_the_end_is_torn_until_its_sync(rt: HostRuntime) -> Result<(), Fail> {
     let alloc = rt.alloc();
-    let mut host = MemHost::new(alloc, vec![in alloc; 1, 2, 3, 4]?, vec![in alloc; 7]?, Vec::new(alloc));
+    let mut host = MemHost::new(
+        alloc,
+        vec![in alloc; 1, 2, 3, 4]?,
+        vec![in alloc; 7]?,
+        Vec::new(alloc),
+    );
     assert!(rt; host.bytes(Area::Pages).len() == 4);
     host.write(Area::Pages, 2, &[9, 9, 9, 9])?;
     host.sync(Area::Pages)?;
@@ -59,7 +69,11 @@ fn a_write_across_the_end_is_torn_until_its_sync(rt: HostRuntime) -> Result<(), 
     for (call, length, pick, left) in ACROSS_THE_END {
         assert!(rt; call <= host.calls() && !pick.is_empty());
         let after = host.crash_at(call, length, 0, pick)?;
-        assert_eq!(rt; after.bytes(Area::Pages), left, "call {call}, length {length}");
+        assert_eq!(rt;
+            after.bytes(Area::Pages),
+            left,
+            "call {call}, length {length}"
+        );
         assert_eq!(rt; after.bytes(Area::Journal), [7].as_slice());
         assert_eq!(rt; after.calls(), 0);
     }
@@ -100,7 +114,11 @@ fn a_print_is_cut(rt: HostRuntime) -> Result<(), Fail> {
         let mut after = host.crash_at(call, 0, 0, &[cut])?;
         assert_eq!(rt; after.printed(), printed, "call {call}");
         after.print(b"!")?;
-        assert_eq!(rt; after.crash_at(0, 0, 0, &[0])?.printed(), printed, "again, call {call}");
+        assert_eq!(rt;
+            after.crash_at(0, 0, 0, &[0])?.printed(),
+            printed,
+            "again, call {call}"
+        );
     }
     Ok(())
 }
@@ -108,15 +126,26 @@ fn a_print_is_cut(rt: HostRuntime) -> Result<(), Fail> {
 #[test]
 fn listed_calls_do_nothing(rt: HostRuntime) -> Result<(), Fail> {
     let alloc = rt.alloc();
-    let mut host = MemHost::new(alloc, Vec::new(alloc), Vec::new(alloc), vec![in alloc; 1, 4, 3]?);
+    let mut host = MemHost::new(
+        alloc,
+        Vec::new(alloc),
+        Vec::new(alloc),
+        vec![in alloc; 1, 4, 3]?,
+    );
     host.write(Area::Pages, 0, b"ab")?;
     assert_eq!(rt; host.write(Area::Pages, 0, b"x"), Err(Failed));
     let mut buf = [0; 4];
     assert_eq!(rt; host.read(Area::Pages, 1, &mut buf)?, 1);
     assert_eq!(rt; host.sync(Area::Pages), Err(Failed));
     assert_eq!(rt; host.print(b"x"), Err(Failed));
-    assert_eq!(rt; (host.printed(), host.bytes(Area::Pages)), (b"".as_slice(), b"ab".as_slice()));
-    assert_eq!(rt; host.crash_at(5, 0, 0, &[1])?.bytes(Area::Pages), b"".as_slice());
+    assert_eq!(rt;
+        (host.printed(), host.bytes(Area::Pages)),
+        (b"".as_slice(), b"ab".as_slice())
+    );
+    assert_eq!(rt;
+        host.crash_at(5, 0, 0, &[1])?.bytes(Area::Pages),
+        b"".as_slice()
+    );
     assert_eq!(rt; (host.calls(), host.starved()), (5, 0));
     let mut source = MemSource::new(alloc, vec![in alloc; 7, 8]?, vec![in alloc; 0]?);
     assert_eq!(rt; source.read(&mut buf), Err(Failed));

@@ -3,3 +3,5 @@ pub mod Shapes
 pub mod Rows
 pub mod Making
 pub mod Order
+pub mod Spelling
+pub mod Reading

@@ -4,7 +4,7 @@
 --     key_of s row      the list of its values at the key positions
 --     value_cmp      int by number, text by bytes, false before true
 --     key_cmp s a b      the keys of two rows, compared from the left
-use Rattle.std.specs.Prelude.{◌≢◌, ℕ, List, [], ◌∷◌, map, slice_index_or}
+use Rattle.std.specs.Prelude.{◌≢◌, ℕ, Bool, true, false, List, [], ◌∷◌, map, slice_index_or}
 use Rattle.std.specs.List.{All}
 use Rattle.std.specs.Ordering.{nat_cmp, int_cmp, bool_cmp}
 use Rattle.std.specs.declared.cmp.Ordering.{Ordering}
@@ -15,6 +15,13 @@ use Rattle.ov_value.specs.declared.column.Kind.TheVariants as kind
 use Rattle.ov_value.specs.declared.value.Value.{Value}
 use Rattle.ov_value.specs.declared.value.Value.TheVariants.{Int, Text, Flag, Null}
 use Rattle.ov_value.specs.Shapes.{Shape}
+
+-- as a test
+abbrev pub is_null : Value → Bool
+is_null (Int _) = false
+is_null (Text _) = false
+is_null (Flag _) = false
+is_null Null = true
 
 -- a value stands in a column of a kind where it is NULL or of that kind
 abbrev pub IsOfKind : Value → Kind → Type 0

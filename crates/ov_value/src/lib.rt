@@ -8,19 +8,33 @@
 #![tactic(auto)]
 
 mod column;
+mod kept;
 mod laws;
+mod marked;
 mod names;
+mod plain;
+mod reading;
 mod row;
 mod schema;
 mod schema_err;
+mod sorting;
+mod spelled;
 mod txt;
 mod value;
+mod writing;
 
 pub use column::{Column, Kind};
-pub use laws::key_order;
+pub use laws::{key_order, null_at_the_end, one_row};
 pub use names::{is_column_name, is_name};
+pub use reading::{read_row, read_row_slice};
 pub use row::Row;
 pub use schema::Schema;
 pub use schema_err::SchemaErr;
+pub use sorting::sort_by_key;
+pub use spelled::{Bytes, RowBytes};
 pub use txt::Txt;
 pub use value::Value;
+pub use writing::{append_row, is_marked, row_bytes, row_len};
+
+#[cfg(test)]
+mod tests;

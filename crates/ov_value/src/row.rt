@@ -4,6 +4,8 @@ ghost use Rattle.std.specs.Prelude.{◌≡◌, ◌↔◌, IsTrue, IfOk};
 ghost use Rattle.std.specs.Ordering.{eq_by_cmp};
 ghost use Rattle.std.specs.Cmp.{partial_equiv_from_equiv, eq_by_cmp_equiv};
 ghost use Rattle.std.specs.Cmp.Lexicographic.{pointwise, lists_equiv};
+ghost use Rattle.std.specs.List.{All};
+ghost use Rattle.ov_value.specs.Spelling.{IsShort};
 ghost use Rattle.ov_value.specs.Rows.{value_cmp};
 ghost use Rattle.ov_value.specs.Order.{value_cmp_total};
 
@@ -47,6 +49,13 @@ impl Row {
     {
         let Row { values } = self;
         values
+    }
+
+    /// Whether each of its texts is below 2^32 bytes, as the bytes of a row ask.
+    pub fn has_short_texts(&self) -> bool
+        ensures { IsTrue result ↔ All IsShort self.now }
+    {
+        self.values.iter().all(|value| value.is_short())
     }
 
     /// A copy of it.

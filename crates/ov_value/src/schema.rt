@@ -1,6 +1,7 @@
 //! A schema: the columns of a dataset and which of them are its key.
 
 ghost use Rattle.std.specs.Prelude.{◌≡◌, ◌≢◌, ◌↔◌, ◌≤◌, IsTrue, IfOk, OnOk, IfErr, length, None, Some, map, Ok, Err, [], ◌++◌};
+ghost use Rattle.std.specs.List.{All};
 ghost use Rattle.ov_value.specs.Naming.{is_column_name as is_column_name_of};
 ghost use Rattle.ov_value.specs.Shapes.{IsSound, names};
 ghost use Rattle.ov_value.specs.Making.{schema_of, widened, column_refusal, key_refusal, place_of as place_named, name_refusal, is_among};
@@ -99,11 +100,16 @@ impl Schema {
     pub fn fits(&self, row: &Row) -> bool
         ensures { IsTrue result ↔ Fits self.now row.now }
     {
-        have_kinds(row.values(), self.columns.as_slice())
-            && self
-                .key
-                .iter()
-                .all(|place| has_value_at(row.values(), *place))
+        have_kinds(row.values(), self.columns.as_slice()) && self.has_key(row)
+    }
+
+    // Whether none of its values at a key column is NULL.
+    pub(crate) fn has_key(&self, row: &Row) -> bool
+        ensures { IsTrue result ↔ All (λ place. value_at row.now place ≢ Value.Null) self.now.key }
+    {
+        self.key
+            .iter()
+            .all(|place| has_value_at(row.values(), *place))
     }
 
     /// Compares two rows by their keys from the left: ints by number, texts by bytes, false before true. A row

@@ -3,7 +3,8 @@
 ghost use Rattle.std.specs.Prelude.{◌≡◌, ◌↔◌, IsTrue, IfOk, refl};
 ghost use Rattle.std.specs.Ordering.{eq_by_cmp, as_partial_cmp};
 ghost use Rattle.std.specs.Cmp.{partial_equiv_from_equiv, eq_by_cmp_equiv, partial_order_from_total};
-ghost use Rattle.ov_value.specs.Rows.{rank as rank_of, value_cmp};
+ghost use Rattle.ov_value.specs.Rows.{is_null as is_null_of, rank as rank_of, value_cmp};
+ghost use Rattle.ov_value.specs.Spelling.{IsShort};
 ghost use Rattle.ov_value.specs.Order.{value_cmp_total};
 
 use crate::txt::Txt;
@@ -37,9 +38,20 @@ impl Value {
 
     /// Whether it is NULL.
     pub fn is_null(&self) -> bool
-        ensures { IsTrue result ↔ (self.now ≡ Value.Null) }
+        ensures null { IsTrue result ↔ (self.now ≡ Value.Null) }
+        ensures test { result ≡ is_null_of self.now }
     {
         matches!(self, Value::Null)
+    }
+
+    // Whether it is no text of 2^32 bytes or more.
+    pub(crate) fn is_short(&self) -> bool
+        ensures { IsTrue result ↔ IsShort self.now }
+    {
+        match self {
+            Value::Text(text) => text.len() < 0x1_0000_0000,
+            _ => true,
+        }
     }
 
     // Where it stands among values of unlike kinds.

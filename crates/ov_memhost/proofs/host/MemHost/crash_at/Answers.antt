@@ -23,7 +23,7 @@ returns-clause-stop c =
     (image_of c.settled.result) (returns-clause-named c)
 
 pub returns-clause-left : goal.returns-clause-left
-returns-clause-left c = crash_left c.args.self.now c.args.call (image_of c.settled.result) (returns-clause-stop c)
+returns-clause-left c moment le = crash_left c.args.self.now c.args.call moment (image_of c.settled.result) (returns-clause-stop c) le
 
 pub returns-clause-last : goal.returns-clause-last
 returns-clause-last c is small =
