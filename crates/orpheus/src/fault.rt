@@ -3,8 +3,8 @@ ghost use Rattle.std.specs.Prelude.{◌≡◌};
 ghost use Rattle.orpheus.specs.Exits.{exit_of, fault_of};
 
 use crate::file_host::file_name;
-use ov_top::Status;
 use ov_host::Area;
+use ov_top::Status;
 use thiserror::Error;
 
 /// What kept a run from reading its script to the end. Its text is what the program says of it.

@@ -18,12 +18,12 @@ mod stdin_source;
 use fault::Fault;
 use file_host::FileHost;
 use folder_stage::FolderStage;
+use ov_top::{Status, WordsErr, options, run};
 use ov_value::Txt;
 use std::env;
 use std::io::ErrorKind;
 use std::process::ExitCode;
 use stdin_source::StdinSource;
-use ov_top::{Status, WordsErr, options, run};
 
 // The words after the program's name, or the status that they end the program with where they can't be read.
 fn words(rt: HostRuntime) -> Result<Vec<Txt>, Status> {
