@@ -1,5 +1,5 @@
 -- What contracts see of the interim store, and when it stands for datasets on a host.
-use Rattle.std.specs.Prelude.{◌≡◌, ◌≤◌, ℕ, Bool, true, List, [], length, map}
+use Rattle.std.specs.Prelude.{◌≡◌, ◌≤◌, ℕ, true, List, [], length, map}
 use Rattle.ov_host.specs.Disk.{settled}
 use Rattle.ov_host.specs.Host.{State}
 use Rattle.ov_store.specs.Dataset.{Dataset}

@@ -92,7 +92,12 @@ fn push_rows(alloc: Global, out: &mut Vec<u8>, rows: &[Row]) -> Result<(), Alloc
     Ok(())
 }
 
-fn encode_payload(alloc: Global, name: &Txt, schema: &Schema, rows: &[Row]) -> Result<Vec<u8>, AllocError>
+fn encode_payload(
+    alloc: Global,
+    name: &Txt,
+    schema: &Schema,
+    rows: &[Row],
+) -> Result<Vec<u8>, AllocError>
     ensures { IfOk result (λ bytes. bytes.items
         ≡ payload_of (record { name = name.now; schema = schema.now; rows = rows.now })) }
 {
@@ -106,7 +111,12 @@ fn encode_payload(alloc: Global, name: &Txt, schema: &Schema, rows: &[Row]) -> R
 }
 
 // The record with an open gate, and a closed gate behind it.
-pub fn encode_record(alloc: Global, name: &Txt, schema: &Schema, rows: &[Row]) -> Result<Vec<u8>, AllocError>
+pub fn encode_record(
+    alloc: Global,
+    name: &Txt,
+    schema: &Schema,
+    rows: &[Row],
+) -> Result<Vec<u8>, AllocError>
     ensures { IfOk result (λ bytes. bytes.items
         ≡ record_of (record { name = name.now; schema = schema.now; rows = rows.now }) ++ 0 ∷ []) }
 {

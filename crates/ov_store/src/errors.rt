@@ -1,10 +1,10 @@
 // Why a call didn't do its work.
-use ov_host::Failed;
-use std::alloc::AllocError;
-
 ghost use Rattle.ov_store.specs.declared.errors.OpenErr.TheVariants as opening;
 ghost use Rattle.ov_store.specs.declared.errors.StoreErr.TheVariants as storing;
 ghost use Rattle.std.specs.Prelude.{◌≡◌};
+
+use ov_host::Failed;
+use std::alloc::AllocError;
 
 /// Why a store wasn't opened.
 #[derive(Clone, Copy, Debug, PartialEq, Eq)]

@@ -83,7 +83,14 @@ impl Store {
 
     /// Makes a dataset with these rows, in key order, as its one version. Its record is in the journal, synced, at `Ok`.
     /// `JournalFull` where the journal would pass 2^28 bytes; then, and at `Memory`, nothing is changed.
-    pub fn init<H: Host>(&mut self, alloc: Global, host: &mut H, name: Txt, schema: &Schema, rows: &[Row]) -> Result<(), StoreErr>
+    pub fn init<H: Host>(
+        &mut self,
+        alloc: Global,
+        host: &mut H,
+        name: Txt,
+        schema: &Schema,
+        rows: &[Row],
+    ) -> Result<(), StoreErr>
         requires { (H.state host.old).tells ≡ true → self.old.end < length (bytes_of Area.Journal (H.state host.old)) }
         ensures passes { Passes (H.state host.old) (H.state host.new) }
         ensures cause { IsErrOf result StoreErr.Host → Rose (H.state host.old).faults (H.state host.new).faults }
