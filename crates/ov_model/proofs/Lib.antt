@@ -1,0 +1,4 @@
+pub mod Growing
+pub mod Merging
+pub mod Origins
+pub mod Own

@@ -1,0 +1,4 @@
+pub mod Book
+pub mod Lists
+pub mod Merge
+pub mod Records

@@ -1,0 +1,19 @@
+// Laws of records.
+ghost use Rattle.std.specs.Prelude.{◌≡◌, ◌+◌, ℕ, List, [], ◌∷◌, ◌++◌, length};
+ghost use Rattle.ov_model.specs.Book.{Row, Version};
+ghost use Rattle.ov_model.specs.Lists.{IsIn, AllAreIn};
+ghost use Rattle.ov_model.specs.Records.{Rec, recs, records_of, fresh_in, order_of, rid_in, rows_at};
+
+/// A version more gives the records that were there the rids that they had, and each record of each version has a rid.
+pub fn versions_keep_earlier_rids()
+    ensures known { (versions : List Version) → AllAreIn (recs versions []) (order_of versions) }
+    ensures kept { (versions : List Version) (next : Version) (r : Rec) → IsIn (order_of versions) r
+        → rid_in (order_of (versions ++ next ∷ [])) r ≡ rid_in (order_of versions) r }
+{}
+
+/// A version's own rows, with that version as the only parent, are no new records.
+pub fn own_rows_are_no_new_records()
+    ensures { (versions : List Version) (message : List ℕ) (vid : ℕ)
+        → fresh_in (records_of (record { parents = vid ∷ []; message = message; rows = rows_at versions vid }) (recs versions []))
+        (length versions + 1) ≡ [] }
+{}
