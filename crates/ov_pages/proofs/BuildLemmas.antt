@@ -52,41 +52,41 @@ built_more runs i edges past d built lt is_run apart =
       sound = turns.sound;
       small = let longer = turns.longer in let small = built.small in omega arith;
       pages = λ page.
-        elim (cases_lt page r.first) [
-          | inl below ↦
-            let none = times_by-below r page below in
-            let same : times_in (take (i + 1) runs) page ≡ times_in (take i runs) page = omega (arith, more page, none) in
-            turns.before page below ∙ built.pages page ∙ ap (ltb 0) (sym same)
-          | inr from ↦ elim (cases_lt page r.past) [
-              | inl to ↦
-                let one = times_by-within r page from to in
-                let none = built.behind page (omega arith) in
-                let all : times_in (take (i + 1) runs) page ≡ 1 = omega (arith, more page, one, none) in
-                turns.within page from to ∙ ap not (built.pages page ∙ ap (ltb 0) none) ∙ sym (ap (ltb 0) all)
-              | inr behind ↦
-                let none = times_by-past r page from behind in
+          elim (cases_lt page r.first) [
+            | inl below ↦
+                let none = times_by-below r page below in
                 let same : times_in (take (i + 1) runs) page ≡ times_in (take i runs) page = omega (arith, more page, none) in
-                turns.behind page behind ∙ built.pages page ∙ ap (ltb 0) (sym same)
+                turns.before page below ∙ built.pages page ∙ ap (ltb 0) (sym same)
+            | inr from ↦ elim (cases_lt page r.past) [
+              | inl to ↦
+                  let one = times_by-within r page from to in
+                  let none = built.behind page (omega arith) in
+                  let all : times_in (take (i + 1) runs) page ≡ 1 = omega (arith, more page, one, none) in
+                  turns.within page from to ∙ ap not (built.pages page ∙ ap (ltb 0) none) ∙ sym (ap (ltb 0) all)
+              | inr behind ↦
+                  let none = times_by-past r page from behind in
+                  let same : times_in (take (i + 1) runs) page ≡ times_in (take i runs) page = omega (arith, more page, none) in
+                  turns.behind page behind ∙ built.pages page ∙ ap (ltb 0) (sym same)
             ]
-        ];
+          ];
       once = λ page.
-        let before = built.once page in
-        elim (cases_lt page r.first) [
-          | inl below ↦ let none = times_by-below r page below in omega (arith, more page)
-          | inr from ↦ elim (cases_lt page r.past) [
+          let before = built.once page in
+          elim (cases_lt page r.first) [
+            | inl below ↦ let none = times_by-below r page below in omega (arith, more page)
+            | inr from ↦ elim (cases_lt page r.past) [
               | inl to ↦ let one = times_by-within r page from to in let none = built.behind page (omega arith) in omega (arith, more page)
               | inr behind ↦ let none = times_by-past r page from behind in omega (arith, more page)
             ]
-        ];
+          ];
       behind = λ page le. let none = times_by-past r page (omega arith) le in let before = built.behind page (omega arith) in omega (arith, more page);
       start = λ e. absurd (omega arith);
       last = λ j x page e from to.
-        let here : j ≡ i = omega arith in
-        let same : get_or runs j x ≡ r = ap (λ (k : ℕ). get_or runs k x) here ∙ get_or_default runs i x d lt in
-        let from_here : r.first ≤ page = subst (λ (y : Run). y.first ≤ page) same from in
-        let one = times_by-within r page from_here to in
-        let none = built.behind page (omega arith) in
-        omega (arith, more page);
+          let here : j ≡ i = omega arith in
+          let same : get_or runs j x ≡ r = ap (λ (k : ℕ). get_or runs k x) here ∙ get_or_default runs i x d lt in
+          let from_here : r.first ≤ page = subst (λ (y : Run). y.first ≤ page) same from in
+          let one = times_by-within r page from_here to in
+          let none = built.behind page (omega arith) in
+          omega (arith, more page);
     }
 
 none_after : (runs : List Run) (page : ℕ) → All (λ r. page < r.first) runs → times_in runs page ≡ 0
@@ -107,19 +107,19 @@ overlaps runs i edges past d built lt is_run sorted early =
     let order = is_run.order in
     record {
       twice =
-        let one = times_by-within r r.first (omega arith) order in
-        let before = overlap_before runs i edges past d built lt sorted early in
-        let rest = sum_by-drop_more (times_by r.first) runs i d lt in
-        omega (arith, sum_by-take-drop (times_by r.first) runs i);
+          let one = times_by-within r r.first (omega arith) order in
+          let before = overlap_before runs i edges past d built lt sorted early in
+          let rest = sum_by-drop_more (times_by r.first) runs i d lt in
+          omega (arith, sum_by-take-drop (times_by r.first) runs i);
       least = λ other less.
-        let none = none_after (drop i runs) other (λ k x below.
+          let none = none_after (drop i runs) other (λ k x below.
           let there = get_or-drop i runs k x in
           let up = sorted i (i + k) x (omega arith) (omega (arith, length-drop i runs)) in
           let here : get_or runs i x ≡ r = get_or_default runs i x d lt in
           let first : r.first ≤ (get_or runs (i + k) x).first = subst (λ (y : Run). y.first ≤ (get_or runs (i + k) x).first) here up in
           rw there (omega arith)) in
-        let before = built.once other in
-        omega (arith, sum_by-take-drop (times_by other) runs i);
+          let before = built.once other in
+          omega (arith, sum_by-take-drop (times_by other) runs i);
     }
 
 pub built_all : (runs : List Run) (i : ℕ) (edges : List ℕ) (past : ℕ) → Built runs i edges past → length runs ≤ i → AreEdgesOf runs edges

@@ -59,13 +59,13 @@ holds-between least (first ∷ past ∷ edges) n h e =
     let parts = holds-append (run first (past - first)) (pages_between edges) n in
     elim (cases_lt n first) [
       | inl lt ↦
-        let out = holds-run_below first (past - first) n lt in
-        let none = status-below false (suc past) edges n h.2.2 (omega arith) in
-        parts ∙ rw (out, rest, none, lt-ltb n first lt) refl
+          let out = holds-run_below first (past - first) n lt in
+          let none = status-below false (suc past) edges n h.2.2 (omega arith) in
+          parts ∙ rw (out, rest, none, lt-ltb n first lt) refl
       | inr from ↦ elim (cases_lt n past) [
-          | inl lt ↦ parts ∙ rw (holds-run_in first (past - first) n from (omega arith), le-ltb n first from, lt-ltb n past lt) refl
-          | inr le ↦ parts ∙ rw (holds-run_past first (past - first) n (omega arith), le-ltb n first from, le-ltb n past le) rest
-        ]
+        | inl lt ↦ parts ∙ rw (holds-run_in first (past - first) n from (omega arith), le-ltb n first from, lt-ltb n past lt) refl
+        | inr le ↦ parts ∙ rw (holds-run_past first (past - first) n (omega arith), le-ltb n first from, le-ltb n past le) rest
+      ]
     ]
 
 pub Ascend-above : (least : ℕ) (edges : List ℕ) (k : ℕ) (d : ℕ) → Ascend least edges → k < length edges → least ≤ get_or edges k d

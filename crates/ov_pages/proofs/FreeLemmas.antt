@@ -1,6 +1,6 @@
 -- Free runs.
 use Rattle.std.proofs.Common.{◌≡◌, ℕ, zero, suc, ◌+◌, ◌-◌, ◌<◌, ◌≤◌, ◌^◌, Bool, true, false, not, ◌||◌, ◌&&◌, List, [], ◌∷◌, length, get_or, take, drop, refl, sym, ap, subst, ◌∙◌, inl, inr, arith}
-use Rattle.std.proofs.lemmas.Bool.{cases_lt, lt-ltb, le-ltb, le-leb, lt-leb}
+use Rattle.std.proofs.lemmas.Bool.{cases_lt, cases_Bool, lt-ltb, le-ltb, le-leb, lt-leb}
 use Rattle.ov_pages.specs.Sets.{holds, is_in_run, IsWithRun, IsWithoutRun, IsFreeRun, IsLowestRun, IsReservedRun, IsRefused, IsHighest}
 use Rattle.ov_pages.specs.Edges.{Ascend, status, ends, AreEdges, pages_between, turned}
 use Rattle.ov_pages.proofs.EdgeLemmas.{Ascend-weaker, status-below, status-high, holds-between, front_pair}
@@ -31,20 +31,20 @@ looked_more edges n low rest sound some looked long short =
     let closed : ends false (first ∷ past ∷ others) ≡ false = sym (ap (ends false) is) ∙ looked.closed in
     let same = λ (page : ℕ) (le : low ≤ page). looked.same page le ∙ ap (λ (xs : List ℕ). status false xs page) is in
     let inside = λ (page : ℕ) (from : first ≤ page) (to : page < past).
-      let at : status false (first ∷ past ∷ others) page ≡ true = rw (le-ltb page first from, lt-ltb page past to) refl in
-      same page (omega arith) ∙ at in
+    let at : status false (first ∷ past ∷ others) page ≡ true = rw (le-ltb page first from, lt-ltb page past to) refl in
+    same page (omega arith) ∙ at in
     record {
       limit = ascend.2.1;
       ascend = Ascend-weaker past (suc past) others (omega arith) ascend.2.2;
       closed = closed;
       same = λ page le. same page (omega arith) ∙ rw (le-ltb page first (omega arith), le-ltb page past le) refl;
       none = λ at lt run. elim (cases_lt at low) [
-          | inl below ↦ looked.none at below run
-          | inr from ↦ elim (cases_lt at first) [
-              | inl before ↦ let free = free_status edges n at first sound run (omega arith) (omega arith) in let in_it = inside first (omega arith) (omega arith) in absurd cc
-              | inr here ↦ let free = free_status edges n at at sound run (omega arith) (omega arith) in let in_it = inside at here lt in absurd cc
-            ]
-        ];
+        | inl below ↦ looked.none at below run
+        | inr from ↦ elim (cases_lt at first) [
+          | inl before ↦ let free = free_status edges n at first sound run (omega arith) (omega arith) in let in_it = inside first (omega arith) (omega arith) in absurd cc
+          | inr here ↦ let free = free_status edges n at at sound run (omega arith) (omega arith) in let in_it = inside at here lt in absurd cc
+        ]
+      ];
     }
 
 -- the pages up to the next edge are free
@@ -110,11 +110,11 @@ with_run old new first n sound turns free page =
     elim (cases_lt page first) [
       | inl below ↦ after ∙ turns.before page below ∙ sym before ∙ rw (out_below first n page below) (sym (or-false (holds (pages_between old) page)))
       | inr from ↦ elim (cases_lt page (first + n)) [
-          | inl to ↦
+        | inl to ↦
             let none = free.free page from to in
             after ∙ turns.within page from to ∙ ap not (sym before ∙ none) ∙ rw (none, in_within first n page from to) refl
-          | inr behind ↦ after ∙ turns.behind page behind ∙ sym before ∙ rw (out_behind first n page behind) (sym (or-false (holds (pages_between old) page)))
-        ]
+        | inr behind ↦ after ∙ turns.behind page behind ∙ sym before ∙ rw (out_behind first n page behind) (sym (or-false (holds (pages_between old) page)))
+      ]
     ]
 
 -- a reserved run is free where its pages are turned
@@ -125,11 +125,11 @@ without_run old new first n sound turns reserved page =
     elim (cases_lt page first) [
       | inl below ↦ after ∙ turns.before page below ∙ sym before ∙ rw (out_below first n page below) (sym (and-true (holds (pages_between old) page)))
       | inr from ↦ elim (cases_lt page (first + n)) [
-          | inl to ↦
+        | inl to ↦
             let here = reserved page from to in
             after ∙ turns.within page from to ∙ ap not (sym before ∙ here) ∙ rw (here, in_within first n page from to) refl
-          | inr behind ↦ after ∙ turns.behind page behind ∙ sym before ∙ rw (out_behind first n page behind) (sym (and-true (holds (pages_between old) page)))
-        ]
+        | inr behind ↦ after ∙ turns.behind page behind ∙ sym before ∙ rw (out_behind first n page behind) (sym (and-true (holds (pages_between old) page)))
+      ]
     ]
 
 -- no page changes where a run has none
@@ -145,11 +145,11 @@ pub reserved_limit : (edges : List ℕ) (first n : ℕ) → AreEdges edges → I
 reserved_limit edges first n sound reserved some =
     elim (cases_lt (2 ^ 22) (first + n)) [
       | inl high ↦
-        let last : first + (n - 1) + 1 ≡ first + n = omega arith in
-        let here = reserved (first + (n - 1)) (omega arith) (omega arith) in
-        let there = status-high false 0 edges (first + (n - 1)) sound.ascend sound.closed (omega arith) in
-        let same = holds-between 0 edges (first + (n - 1)) sound.ascend sound.closed in
-        absurd cc
+          let last : first + (n - 1) + 1 ≡ first + n = omega arith in
+          let here = reserved (first + (n - 1)) (omega arith) (omega arith) in
+          let there = status-high false 0 edges (first + (n - 1)) sound.ascend sound.closed (omega arith) in
+          let same = holds-between 0 edges (first + (n - 1)) sound.ascend sound.closed in
+          absurd cc
       | inr le ↦ le
     ]
 
@@ -178,9 +178,9 @@ last_of-above least low (first ∷ past ∷ edges) page h e in_it =
     elim (cases_lt page first) [
       | inl below ↦ let out = rw (lt-ltb page first below) at in_it in absurd cc
       | inr from ↦ elim (cases_lt page past) [
-          | inl to ↦ let more = last_of-from (suc past) past edges h.2.2 (omega arith) in omega arith
-          | inr behind ↦ last_of-above (suc past) past edges page h.2.2 e (rw (le-ltb page first from, le-ltb page past behind) at in_it)
-        ]
+        | inl to ↦ let more = last_of-from (suc past) past edges h.2.2 (omega arith) in omega arith
+        | inr behind ↦ last_of-above (suc past) past edges page h.2.2 e (rw (le-ltb page first from, le-ltb page past behind) at in_it)
+      ]
     ]
 
 last_of-in : (least low : ℕ) (edges : List ℕ) → Ascend least edges → ends false edges ≡ false → 0 < length edges → (least < last_of low edges) × (status false edges (last_of low edges - 1) ≡ true)
@@ -198,9 +198,9 @@ highest_is edges sound = record {
   last = λ some. holds-between 0 edges (last_of 0 edges - 1) sound.ascend sound.closed ∙ (last_of-in 0 0 edges sound.ascend sound.closed (some_edges edges some)).1;
 }
   where
-  some_edges : (xs : List ℕ) → 0 < last_of 0 xs → 0 < length xs
-  some_edges [] lt = lt
-  some_edges (x ∷ xs) lt = omega arith
+    some_edges : (xs : List ℕ) → 0 < last_of 0 xs → 0 < length xs
+    some_edges [] lt = lt
+    some_edges (x ∷ xs) lt = omega arith
 
 -- a run that is free can be had
 pub not_refused : (pages : List ℕ) (n first : ℕ) → IsLowestRun pages n first → n < 2 ^ 20 → IsRefused pages n → ⊥
@@ -236,3 +236,16 @@ taken edges new pages first n sound e lowest some is =
       turns = turns;
       grown = subst (λ (xs : List ℕ). IsWithRun xs (pages_between new) first n) e (with_run edges new first n sound turns lowest.run);
     }
+
+-- the lowest free run begins at most one past the highest reserved page
+pub lowest_at_most : (pages : List ℕ) (n first : ℕ) → IsLowestRun pages n first → (end : ℕ) → IsHighest pages end → first ≤ end
+lowest_at_most pages n first lowest end highest =
+    elim (cases_lt end first) [
+      | inl high ↦
+          let fits = lowest.run.fits in
+          absurd (lowest.lowest end high (record {
+            fits = omega arith;
+            free = λ page from to. elim (cases_Bool (holds pages page)) [ inl held ↦ let below = highest.above page held in absurd (omega arith) | inr free ↦ free ];
+          }))
+      | inr le ↦ le
+    ]

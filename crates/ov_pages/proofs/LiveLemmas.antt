@@ -1,8 +1,8 @@
 -- Live extents and the reserved pages.
-use Rattle.std.proofs.Common.{◌≡◌, ℕ, zero, suc, ◌+◌, ◌-◌, ◌<◌, ◌≤◌, ◌^◌, Bool, true, false, not, cond, ◌&&◌, ◌||◌, ltb, leb, List, [], ◌∷◌, ◌++◌, length, get_or, take, drop, Option, Some, None, refl, sym, ap, subst, ◌∙◌, inl, inr, arith}
+use Rattle.std.proofs.Common.{◌≡◌, ℕ, zero, suc, ◌+◌, ◌-◌, ◌<◌, ◌≤◌, ◌^◌, Bool, true, false, not, cond, ◌&&◌, ◌||◌, eqb, ltb, leb, List, [], ◌∷◌, ◌++◌, length, get_or, take, drop, Option, Some, None, refl, sym, ap, subst, ◌∙◌, inl, inr, arith}
 use Rattle.std.specs.Prelude.{option_map, remove}
 use Rattle.std.specs.List.{sum_by, find}
-use Rattle.std.proofs.lemmas.Bool.{cases_lt, cases_Bool, lt-ltb, le-ltb, le-leb, lt-leb, ltb-true, ltb-false}
+use Rattle.std.proofs.lemmas.Bool.{cases_lt, cases_Bool, ne_eqb, lt-ltb, le-ltb, le-leb, lt-leb, ltb-true, ltb-false}
 use Rattle.std.proofs.lemmas.List.Sums.{sum_by_push, sum_by-remove, sum_by_more_le}
 use Rattle.ov_host.specs.declared.area.Extent.{Extent}
 use Rattle.ov_host.specs.Extent.{pages_of}
@@ -60,9 +60,9 @@ put_in held times false e le none =
     let same : times + 0 ≡ times = omega arith in
     (omega arith, rw same (or_false held ∙ e))
   where
-  or_false : (b : Bool) → (b || false) ≡ b
-  or_false true = refl
-  or_false false = refl
+    or_false : (b : Bool) → (b || false) ≡ b
+    or_false true = refl
+    or_false false = refl
 
 -- the same, where one is taken from one
 take_out : (held : Bool) (times rest : ℕ) (here : Bool) → held ≡ ltb 0 times → times ≤ 1 → rest + one_if here ≡ times → (held && not here) ≡ ltb 0 rest
@@ -70,25 +70,25 @@ take_out held times rest true e le sum =
     let none : rest ≡ 0 = omega arith in
     rw none (and_false held)
   where
-  and_false : (b : Bool) → (b && false) ≡ false
-  and_false true = refl
-  and_false false = refl
+    and_false : (b : Bool) → (b && false) ≡ false
+    and_false true = refl
+    and_false false = refl
 take_out held times rest false e le sum =
     let same : rest ≡ times = omega arith in
     rw same (and_true held ∙ e)
   where
-  and_true : (b : Bool) → (b && true) ≡ b
-  and_true true = refl
-  and_true false = refl
+    and_true : (b : Bool) → (b && true) ≡ b
+    and_true true = refl
+    and_true false = refl
 
 in_run-true : (first n page : ℕ) → is_in_run first n page ≡ true → (first ≤ page) × (page < first + n)
 in_run-true first n page e =
     elim (cases_lt page first) [
       | inl lt ↦ let out : is_in_run first n page ≡ false = rw (lt-leb first page lt) refl in absurd cc
       | inr from ↦ elim (cases_lt page (first + n)) [
-          | inl to ↦ (from, to)
-          | inr behind ↦ let out : is_in_run first n page ≡ false = rw (le-leb first page from, le-ltb page (first + n) behind) refl in absurd cc
-        ]
+        | inl to ↦ (from, to)
+        | inr behind ↦ let out : is_in_run first n page ≡ false = rw (le-leb first page from, le-ltb page (first + n) behind) refl in absurd cc
+      ]
     ]
 
 pub live_more : (live : List Extent) (old new : Reserved) (e : Extent) → AreReserved live old → 0 < pages_of e → IsLowestRun old.pages (pages_of e) e.page → IsWithRun old.pages new.pages e.page (pages_of e) → new.room ≡ old.room + 1 → AreReserved (live ++ e ∷ []) new
@@ -100,19 +100,24 @@ live_more live old new e h some lowest grown room =
       once = λ page. let at = (step page).0 in omega (arith, times page);
       pages = λ page. grown page ∙ (step page).1 ∙ ap (ltb 0) (sym (times page));
       room =
-        let one : covers_any e ≡ 1 = ap one_if (lt-ltb 0 (pages_of e) some) in
-        omega (arith, room, h.room, sum_by_push covers_any live e, one);
+          let one : covers_any e ≡ 1 = ap one_if (lt-ltb 0 (pages_of e) some) in
+          omega (arith, room, h.room, sum_by_push covers_any live e, one);
     }
 
-pub live_fewer : (live : List Extent) (old new : Reserved) (i : ℕ) (e : Extent) → AreReserved live old → i < length live → e ≡ get_or live i e → 0 < pages_of e → IsWithoutRun old.pages new.pages e.page (pages_of e) → new.room ≡ old.room - 1 → AreReserved (remove live i) new
-live_fewer live old new i e h lt is some gone room =
+room_fewer : (pages count rest old new : ℕ) → rest + one_if (ltb 0 pages) ≡ count → old ≡ count → new ≡ cond (eqb pages 0) old (old - 1) → new ≡ rest
+room_fewer zero count rest old new sum e is = omega arith
+room_fewer (suc pages) count rest old new sum e is =
+    let one : one_if (ltb 0 (suc pages)) ≡ 1 = ap one_if (lt-ltb 0 (suc pages) (omega arith)) in
+    let some : eqb (suc pages) 0 ≡ false = ne_eqb (suc pages) 0 (λ e. omega arith) in
+    let less : new ≡ old - 1 = rw some at is in
+    omega (arith, one)
+
+pub live_fewer : (live : List Extent) (old new : Reserved) (i : ℕ) (e : Extent) → AreReserved live old → i < length live → e ≡ get_or live i e → IsWithoutRun old.pages new.pages e.page (pages_of e) → new.room ≡ cond (eqb (pages_of e) 0) old.room (old.room - 1) → AreReserved (remove live i) new
+live_fewer live old new i e h lt is gone room =
     let times = λ (page : ℕ). rw (← is) at (sum_by-remove (covers page) live i e lt) in
     record {
       low = low_remove live i h.low;
       once = λ page. let before = h.once page in omega (arith, times page);
       pages = λ page. gone page ∙ take_out (holds old.pages page) (times_covered live page) (times_covered (remove live i) page) (is_in_run e.page (pages_of e) page) (h.pages page) (h.once page) (times page);
-      room =
-        let one : covers_any e ≡ 1 = ap one_if (lt-ltb 0 (pages_of e) some) in
-        let count = rw (← is) at (sum_by-remove covers_any live i e lt) in
-        omega (arith, room, h.room, count, one);
+      room = room_fewer (pages_of e) (count_covering live) (count_covering (remove live i)) old.room new.room (rw (← is) at (sum_by-remove covers_any live i e lt)) h.room room;
     }

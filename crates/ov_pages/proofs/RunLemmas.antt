@@ -45,13 +45,13 @@ runs_more live runs i d lt low some so_far =
     let limit = fits_at live i d low lt in
     record {
       times = λ page.
-        sum_by_push (times_by page) runs r
-        ∙ ap (λ (n : ℕ). n + times_by page r) (so_far.times page)
-        ∙ sym (sum_by_more (λ (x : Extent). one_if (is_in_run x.page (pages_of x) page)) live i d lt);
+          sum_by_push (times_by page) runs r
+          ∙ ap (λ (n : ℕ). n + times_by page r) (so_far.times page)
+          ∙ sym (sum_by_more (λ (x : Extent). one_if (is_in_run x.page (pages_of x) page)) live i d lt);
       count =
-        let one : one_if (ltb 0 (pages_of e)) ≡ 1 = rw (lt-ltb 0 (pages_of e) some) refl in
-        let more = sum_by_more (λ (x : Extent). one_if (ltb 0 (pages_of x))) live i d lt in
-        omega (arith, length-append runs (r ∷ []), so_far.count, more, one);
+          let one : one_if (ltb 0 (pages_of e)) ≡ 1 = rw (lt-ltb 0 (pages_of e) some) refl in
+          let more = sum_by_more (λ (x : Extent). one_if (ltb 0 (pages_of x))) live i d lt in
+          omega (arith, length-append runs (r ∷ []), so_far.count, more, one);
       are_runs = All-push IsRun runs r so_far.are_runs (record { order = omega arith; limit = limit });
     }
 
@@ -66,14 +66,14 @@ not_in_none first page =
 pub runs_same : (live : List Extent) (runs : List Run) (i : ℕ) (d : Extent) → i < length live → pages_of (get_or live i d) ≡ 0 → AreRunsOf (take i live) runs → AreRunsOf (take (i + 1) live) runs
 runs_same live runs i d lt none so_far = record {
   times = λ page.
-    let zero_here : one_if (is_in_run (get_or live i d).page (pages_of (get_or live i d)) page) ≡ 0 = rw (none, not_in_none (get_or live i d).page page) refl in
-    let more = sum_by_more (λ (x : Extent). one_if (is_in_run x.page (pages_of x) page)) live i d lt in
-    let so = so_far.times page in
-    omega (arith, so, more, zero_here);
+      let zero_here : one_if (is_in_run (get_or live i d).page (pages_of (get_or live i d)) page) ≡ 0 = rw (none, not_in_none (get_or live i d).page page) refl in
+      let more = sum_by_more (λ (x : Extent). one_if (is_in_run x.page (pages_of x) page)) live i d lt in
+      let so = so_far.times page in
+      omega (arith, so, more, zero_here);
   count =
-    let zero_here : one_if (ltb 0 (pages_of (get_or live i d))) ≡ 0 = rw none refl in
-    let more = sum_by_more (λ (x : Extent). one_if (ltb 0 (pages_of x))) live i d lt in
-    omega (arith, so_far.count, more, zero_here);
+      let zero_here : one_if (ltb 0 (pages_of (get_or live i d))) ≡ 0 = rw none refl in
+      let more = sum_by_more (λ (x : Extent). one_if (ltb 0 (pages_of x))) live i d lt in
+      omega (arith, so_far.count, more, zero_here);
   are_runs = so_far.are_runs;
 }
 

@@ -41,33 +41,33 @@ turns edge inside least [] h = record {
 turns edge inside least (x ∷ edges) h =
     elim (cases_lt edge x) [
       | inl lt ↦ rw (lt-ltb edge x lt) (record {
-          below = λ n below. rw (lt-ltb n edge below, lt-ltb n x (omega arith)) refl;
-          from = λ n le. rw (le-ltb n edge le) (status-not inside (x ∷ edges) n);
-          last = ends-not inside (x ∷ edges);
-          longer = omega arith;
-          ascend = λ low k le limit. (le, limit, (omega arith, k.1, k.2));
-        })
+        below = λ n below. rw (lt-ltb n edge below, lt-ltb n x (omega arith)) refl;
+        from = λ n le. rw (le-ltb n edge le) (status-not inside (x ∷ edges) n);
+        last = ends-not inside (x ∷ edges);
+        longer = omega arith;
+        ascend = λ low k le limit. (le, limit, (omega arith, k.1, k.2));
+      })
       | inr from ↦ elim (cases_eq x edge) [
-          | inl e ↦ rw (le-ltb edge x from, eq-eqb x edge e) (record {
-              below = λ n below. rw (lt-ltb n x (omega arith)) (status-below inside (suc x) edges n h.2 (omega arith));
-              from = λ n le. rw (le-ltb n x (omega arith)) (sym (ap not (status-not inside edges n) ∙ not-not (status inside edges n)));
-              last = sym (ap not (ends-not inside edges) ∙ not-not (ends inside edges));
-              longer = omega arith;
-              ascend = λ low k le limit. Ascend-weaker low (suc x) edges (omega arith) k.2;
-            })
-          | inr ne ↦
+        | inl e ↦ rw (le-ltb edge x from, eq-eqb x edge e) (record {
+          below = λ n below. rw (lt-ltb n x (omega arith)) (status-below inside (suc x) edges n h.2 (omega arith));
+          from = λ n le. rw (le-ltb n x (omega arith)) (sym (ap not (status-not inside edges n) ∙ not-not (status inside edges n)));
+          last = sym (ap not (ends-not inside edges) ∙ not-not (ends inside edges));
+          longer = omega arith;
+          ascend = λ low k le limit. Ascend-weaker low (suc x) edges (omega arith) k.2;
+        })
+        | inr ne ↦
             let rest = turns edge (not inside) (suc x) edges h.2 in
             rw (le-ltb edge x from, ne_eqb x edge ne) (record {
               below = λ n below. elim (cases_lt n x) [
-                  | inl lt ↦ rw (lt-ltb n x lt) refl
-                  | inr le ↦ rw (le-ltb n x le) (rest.below n below)
-                ];
+                | inl lt ↦ rw (lt-ltb n x lt) refl
+                | inr le ↦ rw (le-ltb n x le) (rest.below n below)
+              ];
               from = λ n le. rw (le-ltb n x (omega arith)) (rest.from n le);
               last = rest.last;
               longer = let more = rest.longer in omega arith;
               ascend = λ low k le limit. (k.0, k.1, rest.ascend (suc x) k.2 (omega arith) limit);
             })
-        ]
+      ]
     ]
 
 -- the place of an edge among those that ascend

@@ -9,7 +9,12 @@ use ov_host::{Area, Extent, Failed, Host};
 
 /// Reads bytes of an extent from `from` on by one read, up to the end of the extent, of the buffer or of the
 /// page area, and answers how many it got.
-pub fn get<H: Host>(host: &mut H, extent: Extent, from: u32, buf: &mut [u8]) -> Result<usize, Failed>
+pub fn get<H: Host>(
+    host: &mut H,
+    extent: Extent,
+    from: u32,
+    buf: &mut [u8],
+) -> Result<usize, Failed>
     requires within { from ≤ extent.bytes }
     requires buffer { length buf.old ≤ 65536 }
     ensures call { Calls Looks (is_ok result) (H.state host.old) (H.state host.new) }

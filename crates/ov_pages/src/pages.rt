@@ -67,6 +67,7 @@ impl Pages {
     pub fn reserve(&mut self, n: u32) -> Result<u32, PageErr>
         requires { 1 ≤ n }
         ensures lowest { IfOk result (IsLowestRun self.old.pages n) }
+        ensures at_most { IfOk result (λ first. (end : ℕ) → IsHighest self.old.pages end → first ≤ end) }
         ensures grown { IfOk result (λ first. IsWithRun self.old.pages self.new.pages first n) }
         ensures room { OnOk result (self.new.room ≡ self.old.room + 1) }
         ensures full { (result ≡ Err PageErr.Full) ↔ IsRefused self.old.pages n }

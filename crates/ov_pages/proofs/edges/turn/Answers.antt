@@ -27,11 +27,11 @@ returns-else-at-len-clause-turned c =
     let ok : is_ok c.insert.result ≡ true = c.insert.ensures.succeeds room in
     let bound : c.partition_point-at.result ≤ length c.args.edges.now.items = omega (arith, len, c.partition_point-at.ensures.bound, c.deref.ensures.len) in
     c.insert.ensures.items ∙ rw ok (turned-insert c.args.edge 0 c.args.edges.now.items c.partition_point-at.result c.requires.ascend bound (λ k lt. ltb-true _ _ (point.0 k 0 (omega arith) lt)) (λ lt.
-      let least = ltb-false _ _ (point.1 c.partition_point-at.result 0 (omega arith) lt) in
-      elim c.else-at-len.branch [
-        | else-at-len-via-then-at-len+else-index-edge w ↦
+    let least = ltb-false _ _ (point.1 c.partition_point-at.result 0 (omega arith) lt) in
+    elim c.else-at-len.branch [
+      | else-at-len-via-then-at-len+else-index-edge w ↦
           let here = get_or_read_under _ _ _ w.index.result.now 0 w.index.ensures lt refl in
           let differs = w.if-index-edge.false in
           omega arith
-        | else-at-len-via-else-at-len w ↦ omega (arith, len)
-      ]))
+      | else-at-len-via-else-at-len w ↦ omega (arith, len)
+    ]))

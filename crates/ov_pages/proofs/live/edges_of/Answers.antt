@@ -10,6 +10,7 @@ returns-then-run-past-clause-cause c =
 
 pub loop-run-preserved : goal.loop-run-preserved
 loop-run-preserved c =
-    let none : Run = record { first = 0; past = 0 } in
-    (rw c.turn_run.ensures.turned (built_more c.args.runs.now c.loop-run.run-index c.loop-run.edges.items c.loop-run.past none c.loop-run.invariant.0 c.loop-run-test.true (c.requires.runs _ none c.loop-run-test.true) c.if-run-past.false),
-     omega (arith, c.turn_run.ensures.capacity, c.loop-run.invariant.1))
+    let none : Run = record { first = 0; past = 0 } in (
+      rw c.turn_run.ensures.turned (built_more c.args.runs.now c.loop-run.run-index c.loop-run.edges.items c.loop-run.past none c.loop-run.invariant.0 c.loop-run-test.true (c.requires.runs _ none c.loop-run-test.true) c.if-run-past.false),
+      omega (arith, c.turn_run.ensures.capacity, c.loop-run.invariant.1),
+    )

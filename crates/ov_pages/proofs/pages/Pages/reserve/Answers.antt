@@ -1,8 +1,8 @@
 use Rattle.std.proofs.Common.{ℕ, List, length, inr, refl, ap, subst, sym, ◌∙◌, arith}
 use Rattle.std.proofs.lemmas.Result.{err_from_is_err_and}
-use Rattle.ov_pages.specs.Sets.{Reserved, IsRefused}
+use Rattle.ov_pages.specs.Sets.{Reserved, IsRefused, IsLowestRun}
 use Rattle.ov_pages.proofs.RunLemmas.{none_from}
-use Rattle.ov_pages.proofs.FreeLemmas.{not_refused, taken}
+use Rattle.ov_pages.proofs.FreeLemmas.{not_refused, taken, lowest_at_most}
 use Rattle.ov_pages.proofs.pages.Pages.reserve.Goals as goal
 
 pub returns-in_default-clause-full : goal.returns-in_default-clause-full
@@ -25,6 +25,11 @@ invariant_of-self-2 c =
     let done = taken _ _ _ _ _ c.self.invariant.0 (ap (λ (v : Reserved). v.pages) c.self.view_is) lowest c.requires (rw c.in_ok-reserve.ensures.items at c.turn_run.ensures.turned) in
     let len = sym c.deref.ensures.len ∙ ap (λ (xs : List ℕ). length xs) c.deref.ensures.value in
     (done.turns.sound, omega (arith, done.turns.longer, c.turn_run.ensures.capacity, c.in_ok-reserve.ensures.ok, c.in_ok-reserve.ensures.len, len))
+
+pub returns-clause-at_most : goal.returns-clause-at_most
+returns-clause-at_most c =
+    let lowest : IsLowestRun c.args.self.now.pages c.args.n c.in-Some.first = rw (← c.self.view_is) (rw c.deref.ensures.value at c.in-Some.ensures) in
+    lowest_at_most c.args.self.now.pages c.args.n c.in-Some.first lowest
 
 pub returns-clause-grown : goal.returns-clause-grown
 returns-clause-grown c =
