@@ -1,10 +1,10 @@
 -- Pages kept by the edges of their runs.
-use Rattle.std.proofs.Common.{◌≡◌, ℕ, zero, suc, ◌+◌, ◌-◌, ◌<◌, ◌≤◌, ◌^◌, Bool, true, false, not, ◌||◌, eqb, List, [], ◌∷◌, ◌++◌, length, get_or, take, drop, refl, sym, ap, subst, ◌∙◌, inl, inr, arith}
+use Rattle.std.proofs.Common.{◌≡◌, ℕ, zero, suc, ◌+◌, ◌-◌, ◌<◌, ◌≤◌, ◌^◌, Bool, true, false, not, ◌||◌, eqb, List, [], ◌∷◌, ◌++◌, length, get_or, take, drop, refl, ◌∙◌, inl, inr, arith}
 use Rattle.std.proofs.lemmas.Bool.{cases_eq, cases_lt, cases_Bool, eq-eqb, ne_eqb, lt-ltb, le-ltb}
 use Rattle.std.proofs.Math.Seq.{take-length}
 use Rattle.std.specs.List.Sorted.{IsNonDecreasing}
 use Rattle.ov_pages.specs.Sets.{holds}
-use Rattle.ov_pages.specs.Edges.{run, Ascend, status, ends, AreEdges, pages_between}
+use Rattle.ov_pages.specs.Edges.{run, Ascend, status, ends, pages_between}
 
 holds-tail : (x : ℕ) (xs : List ℕ) (n : ℕ) → (x ≡ n → ⊥) → holds (x ∷ xs) n ≡ holds xs n
 holds-tail x xs n ne = rw (ne_eqb x n ne) refl

@@ -1,9 +1,9 @@
 -- Free runs.
-use Rattle.std.proofs.Common.{◌≡◌, ℕ, zero, suc, ◌+◌, ◌-◌, ◌<◌, ◌≤◌, ◌^◌, Bool, true, false, not, ◌||◌, ◌&&◌, List, [], ◌∷◌, length, get_or, take, drop, refl, sym, ap, subst, ◌∙◌, inl, inr, arith}
+use Rattle.std.proofs.Common.{◌≡◌, ℕ, suc, ◌+◌, ◌-◌, ◌<◌, ◌≤◌, ◌^◌, Bool, true, false, not, ◌||◌, ◌&&◌, List, [], ◌∷◌, length, get_or, take, drop, refl, sym, ap, subst, ◌∙◌, inl, inr, arith}
 use Rattle.std.proofs.lemmas.Bool.{cases_lt, cases_Bool, lt-ltb, le-ltb, le-leb, lt-leb}
 use Rattle.ov_pages.specs.Sets.{holds, is_in_run, IsWithRun, IsWithoutRun, IsFreeRun, IsLowestRun, IsReservedRun, IsRefused, IsHighest}
 use Rattle.ov_pages.specs.Edges.{Ascend, status, ends, AreEdges, pages_between, turned}
-use Rattle.ov_pages.proofs.EdgeLemmas.{Ascend-weaker, status-below, status-high, holds-between, front_pair}
+use Rattle.ov_pages.proofs.EdgeLemmas.{Ascend-weaker, status-high, holds-between, front_pair}
 use Rattle.ov_pages.proofs.TurnLemmas.{TurnsRun, turns_run}
 
 -- the edges from a place on, where no free run begins before it

@@ -1,20 +1,20 @@
 -- Runs of live extents: which they are, and the edges made of them in order.
-use Rattle.std.proofs.Common.{◌≡◌, ℕ, zero, suc, ◌+◌, ◌-◌, ◌*◌, ◌<◌, ◌≤◌, ◌^◌, ◌/◌, Bool, true, false, not, cond, ◌&&◌, ltb, leb, List, [], ◌∷◌, ◌++◌, length, get_or, take, drop, All, Option, Some, None, refl, sym, ap, subst, ◌∙◌, inl, inr, arith}
+use Rattle.std.proofs.Common.{◌≡◌, ℕ, zero, suc, ◌+◌, ◌<◌, ◌≤◌, ◌^◌, Bool, true, false, cond, ltb, List, [], ◌∷◌, ◌++◌, length, get_or, take, Option, Some, None, refl, sym, ap, ◌∙◌, inl, inr, arith}
 use Rattle.std.specs.Prelude.{option_map}
-use Rattle.std.specs.List.{sum_by, find}
-use Rattle.std.specs.List.Sorted.{IsNonDecreasingBy, IsPermutation}
-use Rattle.std.proofs.lemmas.Bool.{cases_lt, cases_Bool, lt-ltb, le-ltb, le-leb, lt-leb, ltb-false}
+use Rattle.std.specs.List.{find}
+use Rattle.std.specs.List.Sorted.{IsPermutation}
+use Rattle.std.proofs.lemmas.Bool.{cases_lt, lt-ltb, le-ltb, le-leb, lt-leb, ltb-false}
 use Rattle.std.proofs.lemmas.List.{length-append, take_all}
-use Rattle.std.proofs.lemmas.List.Sums.{sum_by-cons, sum_by_push, sum_by_more, sum_by-drop_more, sum_by-take-drop}
-use Rattle.std.proofs.lemmas.List.Elements.{All-push, All-get_or}
+use Rattle.std.proofs.lemmas.List.Sums.{sum_by_push, sum_by_more}
+use Rattle.std.proofs.lemmas.List.Elements.{All-push}
 use Rattle.std.proofs.lemmas.List.Sorted.{All-permutation, sum_by-IsPermutation, length_permutation}
 use Rattle.ov_host.specs.declared.area.Extent.{Extent}
 use Rattle.ov_host.specs.Extent.{pages_of}
 use Rattle.ov_pages.specs.declared.live.Run.{Run}
 use Rattle.ov_pages.specs.Sets.{is_in_run, one_if}
-use Rattle.ov_pages.specs.Live.{is_too_high, too_high_page, times_covered, count_covering, AreReserved, IsLeastOverlap}
-use Rattle.ov_pages.specs.Edges.{AreEdges, status, turned, pages_between}
-use Rattle.ov_pages.specs.Runs.{times_by, times_in, IsRun, AreRunsOf, AreEdgesOf, IsLeastTwice}
+use Rattle.ov_pages.specs.Live.{is_too_high, too_high_page, AreReserved, IsLeastOverlap}
+use Rattle.ov_pages.specs.Edges.{pages_between}
+use Rattle.ov_pages.specs.Runs.{times_by, IsRun, AreRunsOf, AreEdgesOf, IsLeastTwice}
 use Rattle.ov_pages.proofs.EdgeLemmas.{holds-between}
 
 pub passed_over : (b : Bool) (x : Extent) (found : Option Extent) → option_map (λ (e : Extent). e.page) (cond b (Some x) found) ≡ None → (b ≡ false) × (option_map (λ (e : Extent). e.page) found ≡ None)

@@ -1,10 +1,8 @@
 -- An edge is put in or taken out, and what that makes of the pages.
-use Rattle.std.proofs.Common.{◌≡◌, ℕ, zero, suc, ◌+◌, ◌-◌, ◌<◌, ◌≤◌, ◌^◌, Bool, true, false, not, ◌||◌, ◌&&◌, eqb, ltb, leb, List, [], ◌∷◌, ◌++◌, length, get_or, take, drop, refl, sym, ap, subst, ◌∙◌, inl, inr, arith}
-use Rattle.std.specs.Prelude.{insert, remove}
-use Rattle.std.proofs.lemmas.Bool.{cases_eq, cases_lt, cases_Bool, eq-eqb, ne_eqb, lt-ltb, le-ltb, le-leb, lt-leb}
-use Rattle.ov_pages.specs.Sets.{holds, is_in_run, IsWithRun, IsWithoutRun, IsFreeRun, IsReservedRun}
-use Rattle.ov_pages.specs.Edges.{Ascend, status, ends, AreEdges, pages_between, turned}
-use Rattle.ov_pages.proofs.EdgeLemmas.{Ascend-weaker, status-below, holds-between, Ascend-above}
+use Rattle.std.proofs.Common.{◌≡◌, ℕ, zero, suc, ◌+◌, ◌<◌, ◌≤◌, ◌^◌, Bool, true, false, not, List, [], ◌∷◌, ◌++◌, length, get_or, take, drop, refl, sym, ap, ◌∙◌, inl, inr, arith}
+use Rattle.std.proofs.lemmas.Bool.{cases_eq, cases_lt, eq-eqb, ne_eqb, lt-ltb, le-ltb}
+use Rattle.ov_pages.specs.Edges.{Ascend, status, ends, AreEdges, turned}
+use Rattle.ov_pages.proofs.EdgeLemmas.{Ascend-weaker, status-below}
 
 not-not : (b : Bool) → not (not b) ≡ b
 not-not true = refl

@@ -1,6 +1,5 @@
 -- What the calls answer, error by error.
-use Rattle.std.specs.Prelude.{◌≡◌, ◌↔◌, ℕ, ◌+◌, ◌*◌, ◌≤◌, List, None, Some, Result, Ok, Err, length, vec_capacity}
-use Rattle.std.specs.Global.{Vec}
+use Rattle.std.specs.Prelude.{◌≡◌, List, None, Some}
 use Rattle.ov_host.specs.declared.area.Extent.{Extent}
 use Rattle.ov_pages.specs.declared.live.Run.{Run}
 use Rattle.ov_pages.specs.declared.errors.PagesErr.{PagesErr}

@@ -1,6 +1,6 @@
 -- How a set of pages is kept: by its edges, ascending. At the first edge its first run begins, one past that
 -- run's last page is the second edge, and so on in turn.
-use Rattle.std.specs.Prelude.{◌≡◌, ℕ, zero, suc, ◌+◌, ◌-◌, ◌^◌, ◌<◌, ◌≤◌, Bool, false, not, nat_lt, ◌==◌, if◌then◌else◌, List, [], ◌∷◌, ◌++◌}
+use Rattle.std.specs.Prelude.{◌≡◌, ℕ, zero, suc, ◌-◌, ◌^◌, ◌≤◌, Bool, false, not, nat_lt, ◌==◌, if◌then◌else◌, List, [], ◌∷◌, ◌++◌}
 
 -- so many numbers from first on, one by one
 unfoldable pub run : ℕ → ℕ → List ℕ

@@ -1,5 +1,5 @@
 -- Runs of pages in order, from which the edges are made.
-use Rattle.std.specs.Prelude.{◌≡◌, ℕ, ◌+◌, ◌^◌, ◌<◌, ◌≤◌, false, ◌&&◌, nat_lt, nat_le, List, length, All}
+use Rattle.std.specs.Prelude.{◌≡◌, ℕ, ◌^◌, ◌<◌, ◌≤◌, false, ◌&&◌, nat_lt, nat_le, List, length, All}
 use Rattle.std.specs.List.{sum_by}
 use Rattle.ov_host.specs.declared.area.Extent.{Extent}
 use Rattle.ov_pages.specs.declared.live.Run.{Run}

@@ -1,6 +1,6 @@
-use Rattle.std.proofs.Common.{arith, rules}
+use Rattle.std.proofs.Common.{arith}
 use Rattle.ov_pages.specs.declared.live.Run.{Run}
-use Rattle.ov_pages.proofs.BuildLemmas.{built_none, built_more, built_all, overlaps}
+use Rattle.ov_pages.proofs.BuildLemmas.{built_more, overlaps}
 use Rattle.ov_pages.proofs.live.edges_of.Goals as goal
 
 pub returns-then-run-past-clause-cause : goal.returns-then-run-past-clause-cause

@@ -1,4 +1,4 @@
-use Rattle.std.proofs.Common.{◌≡◌, ℕ, Option, List, get_or, length, ◌-◌, ap, subst, sym, ◌∙◌}
+use Rattle.std.proofs.Common.{ℕ, Option, List, length, ◌-◌, ap, subst, sym, ◌∙◌}
 use Rattle.std.specs.Prelude.{unwrap_or}
 use Rattle.std.specs.List.{slice_get}
 use Rattle.std.proofs.lemmas.Option.{unwrap_or-slice_get}

@@ -1,4 +1,4 @@
-use Rattle.std.proofs.Common.{ℕ, List, length, ap, sym, ◌∙◌}
+use Rattle.std.proofs.Common.{List, length, ap, sym, ◌∙◌}
 use Rattle.ov_pages.specs.declared.live.Run.{Run}
 use Rattle.ov_pages.proofs.RunLemmas.{none_from, are_reserved}
 use Rattle.ov_pages.proofs.pages.Pages.of.Goals as goal
