@@ -4,3 +4,4 @@ pub mod FreeLemmas
 pub mod RunLemmas
 pub mod BuildLemmas
 pub mod LiveLemmas
+pub mod WriteLemmas

@@ -4,3 +4,4 @@ pub mod Edges
 pub mod Area
 pub mod Runs
 pub mod Answers
+pub mod Writes

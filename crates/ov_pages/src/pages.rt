@@ -1,12 +1,15 @@
 //! Which pages are reserved.
 
-ghost use Rattle.std.specs.Prelude.{◌≡◌, ◌↔◌, ℕ, ◌+◌, ◌-◌, ◌*◌, ◌/◌, ◌%◌, ◌<◌, ◌≤◌, true, length, is_ok, IfOk, IfErr, OnOk, OnErr, Err, if◌then◌else◌, ◌==◌};
+ghost use Rattle.std.specs.Prelude.{◌≡◌, ◌↔◌, ℕ, ◌+◌, ◌-◌, ◌*◌, ◌/◌, ◌%◌, ◌<◌, ◌≤◌, true, length, is_ok, IfOk, IfErr, OnOk, OnErr, Err, if◌then◌else◌, ◌==◌, List, take, drop};
 ghost use Rattle.ov_host.specs.Extent.{pages_of};
+ghost use Rattle.ov_host.specs.Disk.{Disk};
+ghost use Rattle.ov_host.specs.Stops.{Only};
 ghost use Rattle.ov_host.specs.Host.{Calls, bytes_of};
 ghost use Rattle.ov_host.specs.Tape.{Writes, overwritten};
 ghost use Rattle.ov_pages.specs.Sets.{IsLowestRun, IsRefused, IsReservedRun, IsWithRun, IsWithoutRun, IsHighest};
 ghost use Rattle.ov_pages.specs.Live.{AreReserved};
 ghost use Rattle.ov_pages.specs.Answers.{IsCause};
+ghost use Rattle.ov_pages.specs.Writes.{Grows, StaysOff, AreFree};
 
 use crate::edges::{lowest_run, turn_run};
 use crate::errors::{PageErr, PagesErr};
@@ -115,6 +118,12 @@ impl Pages {
         ensures call { Calls (Writes Area.Pages (4096 * page) bytes.now) (is_ok result) (H.state host.old) (H.state host.new) }
         ensures fetched { (H.state host.new).fetched ≡ (H.state host.old).fetched }
         ensures written { OnOk result ((H.state host.old).tells ≡ true → bytes_of Area.Pages (H.state host.new) ≡ overwritten (bytes_of Area.Pages (H.state host.old)) (4096 * page) bytes.now) }
+        ensures reads_back { OnOk result ((H.state host.old).tells ≡ true → take (length bytes.now) (drop (4096 * page) (bytes_of Area.Pages (H.state host.new))) ≡ bytes.now) }
+
+        // Writes to free pages compose: from a disk with nothing pending in its page area, each keeps to the same
+        // free ranges, and so does what a stop leaves.
+        ensures stops { (H.state host.old).tells ≡ true → (free : List (ℕ × ℕ)) (d : Disk) → Grows free d (H.state host.old).tape.disk → AreFree free (4096 * page) (length bytes.now) → Only (H.state host.old).tape (H.state host.new).tape (StaysOff free d) }
+        ensures grows { OnOk result ((H.state host.old).tells ≡ true → (free : List (ℕ × ℕ)) (d : Disk) → Grows free d (H.state host.old).tape.disk → AreFree free (4096 * page) (length bytes.now) → Grows free d (H.state host.new).tape.disk) }
     {
         host.write(Area::Pages, u64::from(page) * PAGE_BYTES, bytes)
     }
