@@ -87,7 +87,7 @@ pub tail_front : (schema : Shape) (last : ℕ) (rest : List ℕ) (r : Record) (t
 tail_front schema last rest r tail h e = record { next = h.0; held_is = e }
 
 -- the first of the records that are left is the one in front
-next_is : (schema : Shape) (last : ℕ) (rest : List ℕ) (r : Record) (after : List ℕ) → Begins schema last rest r after → (tail : List Record) → AreRecords schema last tail → rest ≡ segment_spelling tail
+pub next_is : (schema : Shape) (last : ℕ) (rest : List ℕ) (r : Record) (after : List ℕ) → Begins schema last rest r after → (tail : List Record) → AreRecords schema last tail → rest ≡ segment_spelling tail
     → (xs : List Record) × (tail ≡ r ∷ xs) × AreRecords schema r.rid xs × (after ≡ segment_spelling xs)
 next_is schema last rest r after b [] h e =
     let p = front schema last rest r after b in

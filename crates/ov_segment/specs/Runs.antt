@@ -6,6 +6,7 @@ use Rattle.ov_value.specs.Shapes.{Shape}
 use Rattle.ov_segment.specs.declared.numbered.Record.{Record}
 use Rattle.ov_segment.specs.declared.next.Next.{Next}
 use Rattle.ov_segment.specs.declared.next.Next.TheVariants as next
+use Rattle.ov_segment.specs.Segments.{AreRecords, segment_spelling}
 use Rattle.ov_segment.specs.Held.{Reader}
 use Rattle.ov_segment.specs.Reading.{after_feed, Answers}
 
@@ -48,3 +49,11 @@ abbrev pub NoneBad : List Step → Type 0
 NoneBad [] = Unit {0}
 NoneBad (Feed _ ∷ steps) = NoneBad steps
 NoneBad (Ask answer ∷ steps) = (IsBad answer → ⊥) × NoneBad steps
+
+-- the answers gave the first of the records, none was Bad, and what is held and more are the bytes of the others
+pub record Gives (schema : Shape) (steps : List Step) (new : Reader) (more : List ℕ) (records : List Record) : Type 0 where
+  pub others : List Record
+  pub records_are : records ≡ given steps ++ others
+  pub follow : AreRecords schema new.last others
+  pub none_bad : NoneBad steps
+  pub held_is : new.held ++ more ≡ segment_spelling others

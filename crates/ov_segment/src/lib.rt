@@ -10,6 +10,7 @@
 #![tactic(auto)]
 
 mod at;
+mod laws;
 mod next;
 mod numbered;
 mod reader;
@@ -17,9 +18,13 @@ mod reading;
 mod records;
 mod writing;
 
+pub use laws::{any_cuts, bad_stays, one_answer};
 pub use next::Next;
 pub use numbered::Record;
 pub use reader::SegmentReader;
 pub use reading::read_segment;
 pub use records::Records;
 pub use writing::segment_bytes;
+
+#[cfg(test)]
+mod tests;
