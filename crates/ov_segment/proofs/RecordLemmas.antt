@@ -1,22 +1,20 @@
 -- What stands at the front of a record's bytes, and that it stands nowhere else.
-use Rattle.std.proofs.Common.{◌≡◌, ◌<◌, ◌≤◌, ◌+◌, ◌%◌, ◌^◌, ℕ, suc, Bool, true, false, nat_le, List, [], ◌∷◌, ◌++◌, length, take, drop, get_or, refl, sym, ◌∙◌, ap, subst, arith, append_assoc, length-append, length-take, get_or-take, get_or-drop}
+use Rattle.std.proofs.Common.{◌≡◌, ◌<◌, ◌≤◌, ◌+◌, ◌%◌, ◌^◌, ℕ, Bool, true, false, nat_le, List, [], ◌∷◌, ◌++◌, length, take, drop, refl, sym, ◌∙◌, ap, arith, append_assoc, length-append, length-take}
 use Rattle.std.specs.List.{flat_map, All, AllByRecursion}
-use Rattle.std.specs.Int.{w32, to_be_bytes, from_be_bytes}
+use Rattle.std.specs.Int.{w32, to_be_bytes}
 use Rattle.std.proofs.lemmas.Bool.Decides.{nat_tests}
 use Rattle.std.proofs.lemmas.Bool.{leb-true, leb-false}
-use Rattle.std.proofs.lemmas.List.{take_at, drop_at, take-append-drop, get_or_past, length-drop, drop-drop}
+use Rattle.std.proofs.lemmas.List.{take-append-drop, length-drop, drop-drop}
 use Rattle.std.proofs.lemmas.Nat.{be_bytes_4, from_be_bytes-to_be_bytes_4}
 use Rattle.ov_value.specs.declared.value.Value.{Value}
-use Rattle.ov_value.specs.declared.spelled.RowBytes.{RowBytes}
 use Rattle.ov_value.specs.Shapes.{Shape}
 use Rattle.ov_value.specs.declared.value.Value.TheVariants.{Int, Text, Flag, Null}
 use Rattle.ov_value.specs.Spelling.{value_bytes, kept, mark_bytes, row_spelling, IsSpelling, IsRow, IsShort}
 use Rattle.std.proofs.lemmas.List.Elements.{All-from_recursion}
 use Rattle.ov_value.proofs.LowBytes.{AreBytes, take_fits, drop_fits}
-use Rattle.ov_value.proofs.MarkLemmas.{rows_same}
 use Rattle.ov_segment.specs.declared.numbered.Record.{Record}
-use Rattle.ov_segment.specs.Segments.{with_mark, record_bytes, segment_spelling, IsNext, AreRecords}
-use Rattle.ov_segment.specs.Reading.{rid_at, number_at, len_at, marked_at, InBounds, WantsMore, SpellsNone, IsOff, Begins}
+use Rattle.ov_segment.specs.Segments.{with_mark, record_bytes}
+use Rattle.ov_segment.specs.Reading.{rid_at, number_at, len_at, marked_at, InBounds, Begins}
 
 -- a length and its mark, and back
 mark_back : (marked : Bool) (len : ℕ) → len ≤ 65536 → (with_mark marked len < 2 ^ 32) × (with_mark marked len % 2 ^ 31 ≡ len) × (nat_le (2 ^ 31) (with_mark marked len) ≡ marked)

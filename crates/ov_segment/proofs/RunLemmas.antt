@@ -1,20 +1,18 @@
 -- Readers that are fed and asked in turn.
-use Rattle.std.proofs.Common.{inl, inr, ◌≡◌, ◌<◌, ◌≤◌, ◌+◌, ◌%◌, ◌^◌, ◌⊎◌, ℕ, suc, Bool, true, false, nat_le, List, [], ◌∷◌, ◌++◌, length, take, drop, refl, sym, ◌∙◌, ap, subst, arith, append_assoc, length-append}
-use Rattle.std.specs.List.{flat_map}
-use Rattle.std.proofs.lemmas.List.{append-nil, take_at, drop_at, nil_from_length, take-append-le, drop-append-le, length-drop}
+use Rattle.std.proofs.Common.{inl, inr, ◌≡◌, ◌<◌, ◌≤◌, ◌%◌, ◌^◌, ◌⊎◌, ℕ, true, false, nat_le, List, [], ◌∷◌, ◌++◌, length, take, drop, refl, sym, ◌∙◌, ap, subst, arith, append_assoc, length-append}
+use Rattle.std.proofs.lemmas.List.{append-nil, take_at, take-append-le, drop-append-le, length-drop}
 use Rattle.std.specs.Int.{w32, from_be_bytes}
 use mathlib.Core.Bool.{true≢false}
-use Rattle.ov_value.specs.declared.value.Value.{Value}
 use Rattle.ov_value.specs.Shapes.{Shape}
-use Rattle.ov_value.specs.Spelling.{row_spelling, IsRow, IsSpelling}
+use Rattle.ov_value.specs.Spelling.{row_spelling}
 use Rattle.ov_segment.specs.declared.numbered.Record.{Record}
 use Rattle.ov_segment.specs.declared.next.Next.{Next}
 use Rattle.ov_segment.specs.declared.next.Next.TheVariants as next
-use Rattle.ov_segment.specs.Segments.{record_bytes, segment_spelling, IsNext, AreRecords}
+use Rattle.ov_segment.specs.Segments.{record_bytes, segment_spelling, AreRecords}
 use Rattle.ov_segment.specs.Held.{Reader}
-use Rattle.ov_segment.specs.Reading.{fresh, after_feed, rid_at, number_at, len_at, marked_at, InBounds, WantsMore, SpellsNone, IsOff, Begins, Answers}
-use Rattle.ov_segment.specs.Runs.{Step, Feed, Ask, Goes, Run, fed, record_of, given, IsBad, NoneBad, Gives}
-use Rattle.ov_segment.proofs.RecordLemmas.{Front, front}
+use Rattle.ov_segment.specs.Reading.{fresh, rid_at, number_at, len_at, InBounds, WantsMore, IsOff, Begins, Answers}
+use Rattle.ov_segment.specs.Runs.{Step, Feed, Ask, Run, fed, given, Gives}
+use Rattle.ov_segment.proofs.RecordLemmas.{front}
 use Rattle.ov_segment.proofs.SegmentLemmas.{begins_same, begins_whole, begins_good, next_is, tail_front}
 
 pub after_bad : (schema : Shape) (old new : Reader) (answer : Next) → old.over ≡ true → Answers schema old answer new → (answer ≡ next.Bad) × (new ≡ old)

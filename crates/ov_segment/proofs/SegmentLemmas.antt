@@ -1,17 +1,15 @@
 -- What holds in the course of reading a segment.
-use Rattle.std.proofs.Common.{inl, inr, ◌≡◌, ◌<◌, ◌≤◌, ◌+◌, ◌-◌, ◌%◌, ◌^◌, ℕ, suc, Bool, true, false, List, [], ◌∷◌, ◌++◌, length, take, drop, refl, sym, ◌∙◌, ap, subst, arith, append_assoc, length-append}
-use Rattle.std.specs.List.{flat_map}
+use Rattle.std.proofs.Common.{inl, inr, ◌≡◌, ◌<◌, ◌≤◌, ◌-◌, ◌^◌, ℕ, List, [], ◌∷◌, ◌++◌, length, take, drop, refl, sym, ◌∙◌, ap, subst, arith, append_assoc}
 use Rattle.std.proofs.lemmas.Grind.{flat_map-append}
-use Rattle.std.proofs.lemmas.List.{append-nil, take_at, drop_at, nil_from_length, length-drop}
+use Rattle.std.proofs.lemmas.List.{append-nil, take_at, drop_at, length-drop}
 use Rattle.std.proofs.Math.Seq.{take-length}
-use Rattle.ov_value.specs.declared.spelled.RowBytes.{RowBytes}
 use Rattle.ov_value.specs.Shapes.{Shape}
 use Rattle.ov_value.specs.Spelling.{row_spelling}
 use Rattle.ov_value.proofs.MarkLemmas.{rows_same}
 use Rattle.ov_segment.specs.declared.numbered.Record.{Record}
 use Rattle.ov_segment.specs.Segments.{record_bytes, segment_spelling, IsNext, AreRecords}
-use Rattle.ov_segment.specs.Reading.{rid_at, len_at, marked_at, InBounds, WantsMore, SpellsNone, IsOff, Begins}
-use Rattle.ov_segment.proofs.RecordLemmas.{Front, front}
+use Rattle.ov_segment.specs.Reading.{len_at, InBounds, WantsMore, IsOff, Begins}
+use Rattle.ov_segment.proofs.RecordLemmas.{front}
 
 -- one record stands in front
 pub begins_same : (schema : Shape) (last : ℕ) (held : List ℕ) (r s : Record) (x y : List ℕ) → Begins schema last held r x → Begins schema last held s y → (r ≡ s) × (x ≡ y)

@@ -1,6 +1,6 @@
 -- What a reader answers that holds some bytes of a segment.
 --     Answers s old next new      from old it answers next, and then is new
-use Rattle.std.specs.Prelude.{◌≡◌, ◌⊎◌, ℕ, ◌+◌, ◌%◌, ◌^◌, ◌<◌, ◌≤◌, nat_le, Bool, true, false, List, [], ◌∷◌, ◌++◌, length, take, drop}
+use Rattle.std.specs.Prelude.{◌≡◌, ◌⊎◌, ℕ, ◌+◌, ◌%◌, ◌^◌, ◌<◌, ◌≤◌, nat_le, Bool, true, false, List, [], ◌++◌, length, take, drop}
 use Rattle.std.specs.Int.{w32, from_be_bytes}
 use Rattle.ov_value.specs.declared.value.Value.{Value}
 use Rattle.ov_value.specs.Shapes.{Shape}

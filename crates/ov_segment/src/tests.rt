@@ -118,13 +118,13 @@ fn in_pieces(
     size: usize,
 ) -> Result<(u32, bool, usize), AllocError> {
     let mut reader = SegmentReader::new(alloc)?;
-    let mut records = 0;
+    let mut records = 0u32;
     let mut bad = false;
     for piece in bytes.chunks(size.max(1)) {
         let _taken = reader.feed(piece);
         for _ in 0..4 {
             match reader.next(schema)? {
-                Next::Record(_one) => records += 1,
+                Next::Record(_one) => records = records.saturating_add(1),
                 Next::More => {}
                 Next::Bad => bad = true,
             }

@@ -1,6 +1,6 @@
-use Rattle.std.proofs.Common.{◌≡◌, ◌<◌, ◌≤◌, ◌+◌, ◌-◌, ◌%◌, ◌^◌, ℕ, nat_le, length, take, drop, arith, sym, ap, subst, ◌∙◌}
+use Rattle.std.proofs.Common.{◌≡◌, ◌<◌, ◌≤◌, ◌+◌, ◌-◌, ◌%◌, ◌^◌, nat_le, length, take, drop, arith, sym, ap, subst, ◌∙◌}
 use Rattle.ov_value.specs.Spelling.{IsSpelling}
-use Rattle.ov_segment.specs.Reading.{rid_at, number_at, len_at, marked_at, InBounds, Begins}
+use Rattle.ov_segment.specs.Reading.{rid_at, len_at, marked_at, InBounds, Begins}
 use Rattle.ov_segment.proofs.RecordLemmas.{record_again}
 use Rattle.ov_segment.proofs.at.record_at.Goals as goal
 

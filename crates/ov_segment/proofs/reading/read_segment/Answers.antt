@@ -1,4 +1,4 @@
-use Rattle.std.proofs.Common.{inl, inr, ◌≡◌, ◌≢◌, ◌++◌, ◌∷◌, [], ◌<◌, ℕ, List, length, drop, arith, rules, ap, sym, subst, ◌∙◌, Some}
+use Rattle.std.proofs.Common.{inl, inr, ◌≡◌, ◌≢◌, ◌++◌, ◌∷◌, [], ℕ, List, length, drop, arith, ap, sym, subst, ◌∙◌, Some}
 use Rattle.std.proofs.lemmas.Bool.{eqb-true, eqb-false}
 use Rattle.ov_segment.proofs.SegmentLemmas.{HasRead, tail_slice, read_next, read_none, read_only, begins_whole, begins_good}
 use Rattle.ov_segment.proofs.reading.read_segment.Goals as goal

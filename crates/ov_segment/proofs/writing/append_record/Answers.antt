@@ -1,4 +1,4 @@
-use Rattle.std.proofs.Common.{◌≡◌, ◌+◌, ◌^◌, ℕ, if◌then◌else◌, length, refl, sym, ap, ◌∙◌, arith}
+use Rattle.std.proofs.Common.{◌≡◌, ◌+◌, ◌^◌, if◌then◌else◌, length, refl, sym, ◌∙◌, arith}
 use Rattle.std.specs.Int.{w32, to_be_bytes}
 use Rattle.ov_value.specs.Spelling.{row_spelling}
 use Rattle.ov_segment.specs.Segments.{with_mark, record_bytes}
