@@ -1,0 +1,4 @@
+pub mod Segments
+pub mod Held
+pub mod Reading
+pub mod Runs
