@@ -48,6 +48,10 @@ does_more m n mid number call same kept first stays text =
           tape_more m.history mid n.history (contents m.areas) number call same kept first stays (contents n.areas)
           (take m.before m.printed.items) (take n.before n.printed.items) text;
       kept = kept_more m.history mid n.history (contents m.areas) number call same kept first stays;
+      start =
+          ap (λ c. at_rest c (take n.before n.printed.items))
+          (start_same m.history mid n.history (contents m.areas) number call same kept first stays (contents n.areas))
+          ∙ ap (λ printed. at_rest (at_start (kept_by m) (contents m.history.first) (contents m.areas)) printed) text;
     }
 
 -- what is there after a call is what the tape says

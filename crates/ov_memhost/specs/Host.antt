@@ -42,12 +42,13 @@ new_state c printed = record { tells = true; keeps = true; tape = fresh (at_rest
 pub record Does (call : Call) (number : ℕ) (old new : MemHost) : Type 0 where
   pub tape : tape_of new ≡ onto call (done call (tape_of old).disk) (tape_of old)
   pub kept : kept_by new ≡ kept_by old ++ record { number = number; call = call } ∷ []
+  pub start : start_of new ≡ start_of old
 
--- a call did nothing but count
+-- a call changed no byte, and isn't kept
 pub record Idle (old new : MemHost) : Type 0 where
   pub tape : tape_of new ≡ tape_of old
   pub kept : kept_by new ≡ kept_by old
-  pub fetched : new.fetched ≡ old.fetched
+  pub start : start_of new ≡ start_of old
 
 -- A host that was just made of an image: nothing is pending, no call is listed, and none was made.
 pub record IsNew (c : Image) (m : MemHost) : Type 0 where

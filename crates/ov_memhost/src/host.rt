@@ -145,7 +145,7 @@ impl Host for MemHost {
     ghost use Rattle.ov_host.specs.Host.{Calls, bytes_of, fetched_by, gave, Reads};
     ghost use Rattle.ov_host.specs.Tape.{Looks, Writes, Syncs, Prints};
     ghost use Rattle.ov_memhost.specs.Counts.{Answered, AnsweredAlways};
-    ghost use Rattle.ov_memhost.specs.Host.{state_of, kept_by, reads_of, Does, Idle};
+    ghost use Rattle.ov_memhost.specs.Host.{state_of, reads_of, Does, Idle};
 
     ghost state = { state_of };
 
@@ -156,7 +156,7 @@ impl Host for MemHost {
         ensures fetched { (state_of self.new).fetched ≡ (state_of self.old).fetched }
         ensures len { IfOk result (λ n. (state_of self.old).tells ≡ true → n ≡ length (bytes_of area (state_of self.old))) }
         ensures counts { AnsweredAlways (is_ok result) self.old.counts self.new.counts }
-        ensures nothing { Idle self.old self.new }
+        ensures idle { Idle self.old self.new }
     {
         if self.counts.enter() {
             return Err(Failed);
@@ -171,8 +171,8 @@ impl Host for MemHost {
         ensures within { IfOk result (λ n. n ≤ length buf.old) }
         ensures bytes { IfOk result (λ n. (state_of self.old).tells ≡ true → Reads area at n (state_of self.old) buf.old buf.new) }
         ensures counts { AnsweredAlways (is_ok result) self.old.counts self.new.counts }
-        ensures kept { kept_by self.new ≡ kept_by self.old }
-        ensures nothing { OnErr result (Idle self.old self.new × (buf.new ≡ buf.old)) }
+        ensures idle { Idle self.old self.new }
+        ensures nothing { OnErr result (buf.new ≡ buf.old) }
     {
         if self.counts.enter() {
             return Err(Failed);
