@@ -1,3 +1,4 @@
 pub mod RecordLemmas
 pub mod SegmentLemmas
 pub mod RunLemmas
+pub mod WrittenLemmas
