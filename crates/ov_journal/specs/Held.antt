@@ -1,0 +1,60 @@
+-- A journal on a host, and what its calls leave.
+use Rattle.std.specs.Prelude.{◌≡◌, ◌≤◌, ◌⊎◌, ℕ, true, List, []}
+use Rattle.ov_host.specs.Disk.{Disk, Image, Leaves, MayLeave, settled}
+use Rattle.ov_host.specs.Host.{State}
+use Rattle.ov_host.specs.Tape.{Torn}
+use Rattle.ov_journal.specs.Journal.{Kept, IsJournal, IsUnmade, and_one, end_of, new_kept}
+
+-- What a `Journal` keeps in memory: the place of the first closed gate, and the live slot's fields.
+pub record Numbers : Type 0 where
+  pub end : ℕ
+  pub epoch : ℕ
+  pub start : ℕ
+  pub format : ℕ
+
+-- what it says, with these payloads
+abbrev pub kept_by : Numbers → List (List ℕ) → Kept
+kept_by numbers payloads =
+    record { epoch = numbers.epoch; start = numbers.start; format = numbers.format; payloads = payloads }
+
+-- what every call keeps to, whatever it answers
+pub record Passes (old new : State) : Type 0 where
+  pub told : new.tells ≡ old.tells
+  pub kept : new.keeps ≡ old.keeps
+  pub faults : old.faults ≤ new.faults
+  pub fetched : new.fetched ≡ old.fetched
+
+-- a host that tells its bytes, with nothing pending in the journal's area
+pub record AtRest (s : State) : Type 0 where
+  pub told : s.tells ≡ true
+  pub rest : s.tape.disk.journal ≡ settled s.tape.disk.journal.bytes
+
+-- the numbers are those that this host's journal bytes give, with these payloads
+pub record IsAt (payloads : List (List ℕ)) (numbers : Numbers) (s : State) : Type 0 where
+  pub told : s.tells ≡ true
+  pub rest : s.tape.disk.journal ≡ settled s.tape.disk.journal.bytes
+  pub spells : IsJournal (kept_by numbers payloads) s.tape.disk.journal.bytes
+  pub place : numbers.end ≡ end_of (kept_by numbers payloads)
+
+-- a stop in a write to the journal
+pub record InJournal (at n : ℕ) (d : Disk) (c : Image) : Type 0 where
+  pub torn : Torn at n d.journal.bytes c.journal
+  pub pages : Leaves d.pages c.pages
+  pub printed : c.printed ≡ d.printed
+
+-- the records from before, or those and one more; all else as it could be left before
+pub record IsOldOrNew (kept : Kept) (payload : List ℕ) (d : Disk) (c : Image) : Type 0 where
+  pub journal : IsJournal kept c.journal ⊎ IsJournal (and_one kept payload) c.journal
+  pub pages : Leaves d.pages c.pages
+  pub printed : c.printed ≡ d.printed
+
+-- a journal that is unmade, or new and without a record; all else as it could be left before
+pub record IsUnmadeOrNew (d : Disk) (c : Image) : Type 0 where
+  pub journal : IsUnmade c.journal ⊎ IsJournal new_kept c.journal
+  pub pages : Leaves d.pages c.pages
+  pub printed : c.printed ≡ d.printed
+
+-- no page and nothing printed changed
+pub record SameButJournal (old new : Disk) : Type 0 where
+  pub pages_same : new.pages ≡ old.pages
+  pub printed_same : new.printed ≡ old.printed

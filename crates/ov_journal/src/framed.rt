@@ -1,0 +1,49 @@
+// A record, ready to be written.
+ghost use Rattle.std.specs.Prelude.{◌≡◌, ◌≤◌, ◌^◌, length, IfOk};
+
+use std::alloc::{AllocError, Global};
+use std::marker::Model;
+
+/// A record behind its gate: its payload's length and its payload, and a closed gate. Contracts see it as its payload.
+#[derive(Debug, Drop)]
+pub struct Framed {
+    bytes: Vec<u8>,
+}
+
+impl Model for Framed {
+    ghost use Rattle.std.specs.Prelude.{◌≡◌, ◌≤◌, ◌+◌, ◌-◌, ◌^◌, ℕ, List, [], ◌∷◌, ◌++◌, length, take, drop};
+    ghost use Rattle.ov_journal.specs.Bytes.{body};
+
+    ghost Value = { List ℕ };
+
+    ghost view = { λ f. take (length f.bytes.items - 5) (drop 4 f.bytes.items) };
+
+    ghost invariant = { λ f. (f.bytes.items ≡ body (take (length f.bytes.items - 5) (drop 4 f.bytes.items)) ++ 0 ∷ [])
+        × (length f.bytes.items ≤ 2 ^ 28 + 5) };
+}
+
+/// The record of a payload of at most 2^28 bytes.
+pub fn frame(alloc: Global, payload: &[u8]) -> Result<Framed, AllocError>
+    requires { length payload.now ≤ 2 ^ 28 }
+    ensures { IfOk result (λ framed. framed ≡ payload.now) }
+{
+    let mut bytes = Vec::with_capacity(alloc, payload.len() + 5)?;
+    let length = payload.len() as u32;
+    bytes.extend_from_slice(&length.to_be_bytes())?;
+    bytes.extend_from_slice(payload)?;
+    bytes.push(0)?;
+    Ok(Framed { bytes })
+}
+
+impl Framed {
+    ghost use Rattle.std.specs.Prelude.{[], ◌∷◌, ◌++◌};
+    ghost use Rattle.ov_journal.specs.Bytes.{body};
+
+    // What is written behind the gate.
+    pub fn as_bytes(&self) -> &[u8]
+        ensures bytes { result.now ≡ body self.now ++ 0 ∷ [] }
+        ensures bound { length self.now ≤ 2 ^ 28 }
+    {
+        self.bytes.as_slice()
+    }
+}

@@ -1,0 +1,104 @@
+// The journal: where its next record goes, and what its live slot says.
+ghost use Rattle.std.specs.Prelude.{◌≡◌, ◌<◌, ◌≤◌, ◌↔◌, ◌+◌, ◌^◌, ◌++◌, ◌∷◌, [], ℕ, List, IsTrue, true, length, IsErrOf, OnOk};
+ghost use Rattle.ov_host.specs.Host.{Rose, bytes_of};
+ghost use Rattle.ov_host.specs.Stops.{Only};
+ghost use Rattle.ov_journal.specs.Held.{Numbers, Passes, AtRest, IsAt, IsOldOrNew, SameButJournal, kept_by};
+
+use crate::errors::AppendErr;
+use crate::framed::Framed;
+use crate::writing::write_synced;
+use ov_host::{Area, Host};
+use std::marker::Model;
+
+// The greatest length of the journal, in bytes.
+const JOURNAL_BYTES: u64 = 1 << 28;
+
+// An open gate.
+const OPEN: u8 = 0xA5;
+
+/// The journal of a store: the place of its first closed gate, and its live slot's fields.
+#[derive(Debug, Drop)]
+pub struct Journal {
+    end: u64,
+    epoch: u32,
+    start: u32,
+    format: u32,
+}
+
+impl Model for Journal {
+    ghost use Rattle.std.specs.Prelude.{◌<◌, ◌^◌};
+    ghost use Rattle.ov_journal.specs.Held.{Numbers};
+
+    ghost Value = { Numbers };
+
+    ghost view = { λ j. record { end = j.end; epoch = j.epoch; start = j.start; format = j.format } };
+
+    ghost invariant = { λ j. j.end < 2 ^ 28 };
+}
+
+impl Journal {
+    /// The place of the first closed gate.
+    pub fn end(&self) -> u64
+        ensures { result ≡ self.now.end }
+    {
+        self.end
+    }
+
+    /// The epoch of the live half.
+    pub fn epoch(&self) -> u32
+        ensures { result ≡ self.now.epoch }
+    {
+        self.epoch
+    }
+
+    /// The place where the live half begins.
+    pub fn start(&self) -> u32
+        ensures { result ≡ self.now.start }
+    {
+        self.start
+    }
+
+    /// The format number of the live slot.
+    pub fn format(&self) -> u32
+        ensures { result ≡ self.now.format }
+    {
+        self.format
+    }
+
+    /// Whether the record and a closed gate behind it end at 2^28 or before.
+    pub fn fits(&self, framed: &Framed) -> bool
+        ensures { IsTrue result ↔ (self.now.end + 6 + length framed.now ≤ 2 ^ 28) }
+    {
+        (framed.as_bytes().len() as u64) < JOURNAL_BYTES - self.end
+    }
+
+    /// Appends a record: writes it behind the closed gate, and then opens that gate.
+    ///
+    /// `JournalFull` where the record and the closed gate behind it would pass 2^28 bytes; then nothing is changed. At
+    /// `Host` a stop leaves the old records, or the old ones and this one, and the journal isn't used again.
+    pub fn append<H: Host>(&mut self, host: &mut H, framed: &Framed) -> Result<(), AppendErr>
+        requires { (H.state host.old).tells ≡ true → self.old.end < length (bytes_of Area.Journal (H.state host.old)) }
+        ensures passes { Passes (H.state host.old) (H.state host.new) }
+        ensures full { IsErrOf result AppendErr.JournalFull ↔ (2 ^ 28 < self.old.end + 6 + length framed.now) }
+        ensures cause { IsErrOf result AppendErr.Host → Rose (H.state host.old).faults (H.state host.new).faults }
+        ensures stops { (payloads : List (List ℕ)) → IsAt payloads self.old (H.state host.old)
+            → Only (H.state host.old).tape (H.state host.new).tape
+                (IsOldOrNew (kept_by self.old payloads) framed.now (H.state host.old).tape.disk) }
+        ensures done { (payloads : List (List ℕ)) → IsAt payloads self.old (H.state host.old)
+            → OnOk result (IsAt (payloads ++ framed.now ∷ []) self.new (H.state host.new)) }
+        ensures same { AtRest (H.state host.old) → OnOk result (SameButJournal (H.state host.old).tape.disk (H.state host.new).tape.disk) }
+        ensures room { (H.state host.old).tells ≡ true → OnOk result (self.new.end < length (bytes_of Area.Journal (H.state host.new))) }
+        ensures full_same { IsErrOf result AppendErr.JournalFull → self.new ≡ self.old }
+        ensures full_untouched { IsErrOf result AppendErr.JournalFull → H.state host.new ≡ H.state host.old }
+    {
+        if !self.fits(framed) {
+            return Err(AppendErr::JournalFull);
+        }
+        let bytes = framed.as_bytes();
+        // The gate stays closed until what stands behind it is settled: only then may the record count.
+        write_synced(host, self.end + 1, bytes)?;
+        write_synced(host, self.end, &[OPEN])?;
+        self.end += bytes.len() as u64;
+        Ok(())
+    }
+}
