@@ -1,3 +1,7 @@
 pub mod Appending
+pub mod Loading
+pub mod NewHeader
+pub mod Pieces
+pub mod ReadingRecords
 pub mod Records
 pub mod Synced

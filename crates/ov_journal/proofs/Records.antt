@@ -149,7 +149,7 @@ opens kept payload b is fits =
     ∙ over_byte is.front (body payload ++ 0 ∷ is.rest) is.gate 165)
 
 -- what a gate may be
-is_or_not : (x : ℕ) → (x ≡ 165) ⊎ (x ≢ 165)
+pub is_or_not : (x : ℕ) → (x ≡ 165) ⊎ (x ≢ 165)
 is_or_not x = grind (arith)
 
 -- a stop in the second write

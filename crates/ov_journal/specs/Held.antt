@@ -1,5 +1,5 @@
 -- A journal on a host, and what its calls leave.
-use Rattle.std.specs.Prelude.{◌≡◌, ◌≤◌, ◌⊎◌, ℕ, true, List, []}
+use Rattle.std.specs.Prelude.{◌≡◌, ◌≢◌, ◌≤◌, ◌⊎◌, ℕ, true, List, [], ◌∷◌, length}
 use Rattle.ov_host.specs.Disk.{Disk, Image, Leaves, MayLeave, settled}
 use Rattle.ov_host.specs.Host.{State}
 use Rattle.ov_host.specs.Tape.{Torn}
@@ -53,6 +53,16 @@ pub record IsUnmadeOrNew (d : Disk) (c : Image) : Type 0 where
   pub journal : IsUnmade c.journal ⊎ IsJournal new_kept c.journal
   pub pages : Leaves d.pages c.pages
   pub printed : c.printed ≡ d.printed
+
+-- nothing is pending in the journal's area, which has a closed first byte and no more bytes than a header
+pub record IsClosed (s : State) : Type 0 where
+  pub told : s.tells ≡ true
+  pub rest : s.tape.disk.journal ≡ settled s.tape.disk.journal.bytes
+  pub gate : ℕ
+  pub behind : List ℕ
+  pub closed : gate ≢ 165
+  pub whole : s.tape.disk.journal.bytes ≡ gate ∷ behind
+  pub short : length behind ≤ 38
 
 -- no page and nothing printed changed
 pub record SameButJournal (old new : Disk) : Type 0 where

@@ -58,12 +58,20 @@ journal_end bytes = min (length bytes) (2 ^ 28)
 abbrev pub IsUnmade : List ℕ → Type 0
 IsUnmade bytes = (length bytes < 39) ⊎ ((length bytes ≡ 39) × (slice_index bytes 0 ≢ 165))
 
+-- a header may be there
+abbrev pub MayBeMade : List ℕ → Type 0
+MayBeMade bytes = (39 < length bytes) ⊎ ((length bytes ≡ 39) × (slice_index bytes 0 ≡ 165))
+
+-- another text than a journal's, or no live slot
+abbrev pub HasNoSlot : List ℕ → Type 0
+HasNoSlot head = (take 11 (drop 1 head) ≢ the_text) ⊎ (live_place head ≡ None)
+
 -- No journal of a store: a closed first byte before more than 39 bytes, or an open one before another text, or with no
 -- live slot.
 abbrev pub IsForeign : List ℕ → Type 0
 IsForeign bytes =
     ((39 < length bytes) × (slice_index bytes 0 ≢ 165))
-    ⊎ ((39 ≤ length bytes) × (slice_index bytes 0 ≡ 165) × ((take 11 (drop 1 bytes) ≢ the_text) ⊎ (live_place (take 38 bytes) ≡ None)))
+    ⊎ ((39 ≤ length bytes) × (slice_index bytes 0 ≡ 165) × HasNoSlot (take 38 bytes))
 
 -- a journal whose live slot has a format number that isn't known
 pub record IsOfFormat (found : ℕ) (bytes : List ℕ) : Type 0 where

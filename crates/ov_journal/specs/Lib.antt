@@ -1,3 +1,5 @@
 pub mod Bytes
-pub mod Journal
 pub mod Held
+pub mod Journal
+pub mod Opened
+pub mod Reading

@@ -6,15 +6,13 @@ ghost use Rattle.ov_journal.specs.Held.{Numbers, Passes, AtRest, IsAt, IsOldOrNe
 
 use crate::errors::AppendErr;
 use crate::framed::Framed;
+use crate::header::OPEN;
 use crate::writing::write_synced;
 use ov_host::{Area, Host};
 use std::marker::Model;
 
 // The greatest length of the journal, in bytes.
-const JOURNAL_BYTES: u64 = 1 << 28;
-
-// An open gate.
-const OPEN: u8 = 0xA5;
+pub(crate) const JOURNAL_BYTES: u64 = 1 << 28;
 
 /// The journal of a store: the place of its first closed gate, and its live slot's fields.
 #[derive(Debug, Drop)]
@@ -37,6 +35,19 @@ impl Model for Journal {
 }
 
 impl Journal {
+    // A journal with these numbers.
+    pub(crate) fn at(end: u64, epoch: u32, start: u32, format: u32) -> Journal
+        requires { end < 2 ^ 28 }
+        ensures { result ≡ record { end = end; epoch = epoch; start = start; format = format } }
+    {
+        Journal {
+            end,
+            epoch,
+            start,
+            format,
+        }
+    }
+
     /// The place of the first closed gate.
     pub fn end(&self) -> u64
         ensures { result ≡ self.now.end }

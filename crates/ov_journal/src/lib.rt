@@ -7,9 +7,15 @@
 
 mod errors;
 mod framed;
+mod header;
 mod journal;
+mod making;
+mod opening;
+mod payloads;
+mod reading;
 mod writing;
 
-pub use errors::AppendErr;
+pub use errors::{AppendErr, JournalErr};
 pub use framed::{Framed, frame};
 pub use journal::Journal;
+pub use payloads::{Payload, Payloads};

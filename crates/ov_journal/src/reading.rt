@@ -1,0 +1,98 @@
+// Reading the records of a half, one after the other.
+ghost use Rattle.std.specs.Prelude.{◌≡◌, ◌<◌, ◌≤◌, ◌+◌, ◌^◌, List, ℕ, true, length, take, drop, vec_len, Option, Some, None, Result, IfOk, IfSome, IfErr, IsErrOf, MatchOption};
+ghost use Rattle.ov_host.specs.Host.{Rose, bytes_of};
+ghost use Rattle.ov_journal.specs.Journal.{journal_end};
+ghost use Rattle.ov_journal.specs.Reading.{Looked, IsOutside, RecordIs, RecordsAre};
+
+use crate::errors::JournalErr;
+use crate::header::{OPEN, number_at};
+use crate::payloads::{Payload, Payloads};
+use ov_host::{Area, Host};
+use std::alloc::{AllocError, Global};
+
+// The most bytes that are read at once.
+const PIECE_BYTES: usize = 65_536;
+
+// The bytes before a record's payload: its gate, and the payload's length.
+const FRONT_BYTES: u64 = 5;
+
+// So many bytes, to read into.
+fn room(alloc: Global, size: usize) -> Result<Vec<u8>, AllocError>
+    requires { size ≤ 65536 }
+    ensures { IfOk result (λ buffer. vec_len buffer ≡ size) }
+{
+    vec![in alloc; 0u8; size]
+}
+
+// So many bytes of the journal from a place on, by pieces. `None` where the host gave fewer.
+fn read_bytes<H: Host>(alloc: Global, host: &mut H, at: u64, count: usize) -> Result<Option<Vec<u8>>, JournalErr>
+    requires { at + count < 2 ^ 28 }
+    ensures looked { Looked (H.state host.old) (H.state host.new) }
+    ensures cause { IsErrOf result JournalErr.Host → Rose (H.state host.old).faults (H.state host.new).faults }
+    ensures kind { IfErr result (λ e. IsOutside e) }
+    ensures size { IfOk result (λ read. IfSome read (λ bytes. vec_len bytes ≡ count)) }
+    ensures bytes { (H.state host.old).tells ≡ true → at + count ≤ length (bytes_of Area.Journal (H.state host.old))
+        → IfOk result (λ read. MatchOption read ⊥ (λ bytes. bytes.items ≡ take count (drop at (bytes_of Area.Journal (H.state host.old))))) }
+{
+    let mut bytes = Vec::with_capacity(alloc, count)?;
+    let mut piece = room(alloc, count.min(PIECE_BYTES))?;
+    while bytes.len() < count {
+        // The last piece may be shorter.
+        piece.truncate(count - bytes.len());
+        let given = host.read(Area::Journal, at + bytes.len() as u64, &mut piece)?;
+        if given < piece.len() {
+            return Ok(None);
+        }
+        bytes.extend_from_slice(&piece)?;
+    }
+    Ok(Some(bytes))
+}
+
+// The payload of the record whose gate is at this place, or `None` where that gate is closed. The journal ends at `end`.
+fn read_record<H: Host>(alloc: Global, host: &mut H, at: u64, end: u64) -> Result<Option<Payload>, JournalErr>
+    requires before { at < end }
+    requires small { end ≤ 2 ^ 28 }
+    ensures looked { Looked (H.state host.old) (H.state host.new) }
+    ensures cause { IsErrOf result JournalErr.Host → Rose (H.state host.old).faults (H.state host.new).faults }
+    ensures within { IfOk result (λ read. IfSome read (λ payload. at + 5 + length payload < end)) }
+    ensures bytes { (H.state host.old).tells ≡ true → end ≤ length (bytes_of Area.Journal (H.state host.old))
+        → RecordIs at end (drop at (bytes_of Area.Journal (H.state host.old))) result }
+{
+    let mut front = [0u8; FRONT_BYTES as usize];
+    host.read(Area::Journal, at, &mut front)?;
+    if front[0] != OPEN {
+        return Ok(None);
+    }
+    if end - at <= FRONT_BYTES {
+        return Err(JournalErr::Damaged { at });
+    }
+    let count = number_at(&front, 1);
+    if end - at - FRONT_BYTES <= u64::from(count) {
+        return Err(JournalErr::Damaged { at });
+    }
+    // Where the host gives fewer bytes than it said there are, the record passes what can be read.
+    match read_bytes(alloc, host, at + FRONT_BYTES, count as usize)? {
+        Some(bytes) => Ok(Some(Payload::new(bytes))),
+        None => Err(JournalErr::Damaged { at }),
+    }
+}
+
+// The payloads of the records from a place on, up to the first closed gate, and the place of that gate. The journal ends
+// at `end`.
+pub fn read_records<H: Host>(alloc: Global, host: &mut H, start: u64, end: u64) -> Result<(u64, Payloads), JournalErr>
+    requires before { start < end }
+    requires small { end ≤ 2 ^ 28 }
+    ensures looked { Looked (H.state host.old) (H.state host.new) }
+    ensures cause { IsErrOf result JournalErr.Host → Rose (H.state host.old).faults (H.state host.new).faults }
+    ensures within { IfOk result (λ read. read.0 < end) }
+    ensures bytes { (H.state host.old).tells ≡ true → end ≤ length (bytes_of Area.Journal (H.state host.old))
+        → RecordsAre start end (bytes_of Area.Journal (H.state host.old)) result }
+{
+    let mut payloads = Vec::new(alloc);
+    let mut at = start;
+    while let Some(payload) = read_record(alloc, host, at, end)? {
+        at += FRONT_BYTES + payload.as_slice().len() as u64;
+        payloads.push(payload)?;
+    }
+    Ok((at, Payloads::new(payloads)))
+}
