@@ -25,7 +25,6 @@ none_stops ps p numbers s at =
     (λ c left. record { journal = inl (subst Spelled (sym (Area c left)) at.spells); pages = left.pages; printed = left.printed })
 
 module _ (ps : List (List ℕ)) (p x : List ℕ) (numbers : Numbers) (end : ℕ) (s0 s1 : State) (at : IsAt ps numbers s0) (here : end ≡ numbers.end) (frame : x ≡ body p ++ 0 ∷ []) where
-
   abbrev kept : Kept
   kept = kept_by numbers ps
 
@@ -49,7 +48,6 @@ module _ (ps : List (List ℕ)) (p x : List ℕ) (numbers : Numbers) (end : ℕ)
       (subst Place at_end (stops at_rest))
 
   module _ (told : s1.tells ≡ s0.tells) (disk : s1.tape.disk ≡ with_area Journal (settled (overwritten s0.tape.disk.journal.bytes (end + 1) x)) s0.tape.disk) (fits : end + 6 + length p ≤ 2 ^ 28) where
-
     rest_between : AtRest s1
     rest_between =
         let Rest : Disk → Type 0 = λ d. d.journal ≡ settled d.journal.bytes

@@ -27,7 +27,7 @@ first_stays bytes = get_or-take 38 bytes 0 0 (omega arith)
 
 no_slot : (bytes : List ℕ) → MayBeMade bytes → HasNoSlot (take 38 bytes) → IsForeign bytes
 no_slot bytes (inl more) none =
-    elim (is_or_not (get_or bytes 0 0)) [ | inl counts ↦ inr (omega arith, counts, none) | inr shut ↦ inl (more, shut) ]
+    elim (is_or_not (get_or bytes 0 0)) [ inl counts ↦ inr (omega arith, counts, none) | inr shut ↦ inl (more, shut) ]
 no_slot bytes (inr exact) none = inr (omega (arith, exact.0), exact.1, none)
 
 foreign : (bytes : List ℕ) → MayBeMade bytes → (get_or (take 38 bytes) 0 0 ≢ 165) ⊎ HasNoSlot (take 38 bytes) → IsForeign bytes
@@ -44,7 +44,6 @@ refuses_header (errors.Format found) bytes made refused =
 refuses_header (errors.Damaged place) bytes made refused = absurd refused
 
 module _ (bytes : List ℕ) (place limit : ℕ) (slot : Slot) (header : IsHeader place slot (take 38 bytes)) (known : IsKnown slot.format) (is_end : limit ≡ journal_end bytes) (low : 38 ≤ slot.start) (below : slot.start < limit) where
-
   abbrev with_records : List (List ℕ) → Kept
   with_records ps = record { epoch = slot.epoch; start = slot.start; format = slot.format; payloads = ps }
 

@@ -90,7 +90,6 @@ torn_open b c gate is torn =
     ]
 
 module _ (s0 s1 s2 : State) (sofar : Only s0.tape s1.tape (IsUnmadeOrNew s0.tape.disk)) (same : SameButJournal s0.tape.disk s1.tape.disk) (is : IsClosed s1) where
-
   closed_rest : AtRest s1
   closed_rest = record { told = is.told; rest = is.rest }
 
@@ -108,7 +107,6 @@ module _ (s0 s1 s2 : State) (sofar : Only s0.tape s1.tape (IsUnmadeOrNew s0.tape
       (stops closed_rest))
 
   module _ (stops : AtRest s1 → Only s1.tape s2.tape (InJournal 1 38 s1.tape.disk)) (told : s2.tells ≡ s1.tells) (disk : s2.tape.disk ≡ with_area Journal (settled (overwritten s1.tape.disk.journal.bytes 1 BEHIND_GATE)) s1.tape.disk) where
-
     rest_between : AtRest s2
     rest_between =
         let Rest : Disk → Type 0 = λ d. d.journal ≡ settled d.journal.bytes

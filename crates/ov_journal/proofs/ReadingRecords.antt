@@ -71,7 +71,6 @@ past_at start at limit place bytes ps below there sofar here is =
 -- ---- one record
 
 module _ (before : State) (at limit n : ℕ) (front : List ℕ) (old : List ℕ) (told : before.tells ≡ true) (within : limit ≤ length (bytes_of Journal before)) (below : at < limit) (reads : Reads Journal at n before old front) (five : length old ≡ 5) (fresh : length front ≡ 5) where
-
   abbrev all : List ℕ
   all = bytes_of Journal before
 
@@ -93,7 +92,6 @@ module _ (before : State) (at limit n : ℕ) (front : List ℕ) (old : List ℕ)
   past_short open_ short = record { rest = drop (at + 1) all; whole = opened open_; past = omega (arith, short) }
 
   module _ (room : at + 5 < limit) (open_ : get_or front 0 0 ≡ 165) where
-
     full : n ≡ 5
     full = omega (arith, reads.count, five)
 

@@ -10,7 +10,6 @@ use Rattle.ov_host.proofs.Writes.{settled_leaves, marked_leaves, torn_overwritte
 use Rattle.ov_journal.specs.Held.{InJournal, AtRest}
 
 module _ (d : Disk) (at : ℕ) (x : List ℕ) (within : at ≤ length d.journal.bytes) (rest : d.journal ≡ settled d.journal.bytes) where
-
   -- while the write is on its way
   pub pending_leaves : (c : Image) → During (Writes Journal at x) d c → InJournal at (length x) d c
   pending_leaves c left =

@@ -55,6 +55,11 @@ pub record IsSettled (d e : Disk) : Type 0 where
   pub journal : e.journal ≡ settled d.journal.bytes
   pub printed : e.printed ≡ d.printed
 
+-- nothing is pending in the page area, and no page and nothing printed changed
+pub record ArePagesSettled (d e : Disk) : Type 0 where
+  pub pages : e.pages ≡ settled d.pages.bytes
+  pub printed : e.printed ≡ d.printed
+
 -- why a journal isn't opened; only at Host something may have been written
 abbrev pub Refuses : JournalErr → Disk → Disk → Type 0
 Refuses errors.Host d e = Unit {0}

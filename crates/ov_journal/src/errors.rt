@@ -1,10 +1,10 @@
 // Why a call of the journal didn't do its work.
-use ov_host::Failed;
-use std::alloc::{AllocError, AllocFailed};
-
 ghost use Rattle.ov_journal.specs.declared.errors.AppendErr.TheVariants as appending;
 ghost use Rattle.ov_journal.specs.declared.errors.JournalErr.TheVariants as opening;
 ghost use Rattle.std.specs.Prelude.{◌≡◌};
+
+use ov_host::Failed;
+use std::alloc::{AllocError, AllocFailed};
 
 /// Why a record was not appended.
 #[derive(Clone, Copy, Debug, PartialEq, Eq)]

@@ -94,7 +94,7 @@ impl Journal {
         ensures cause { IsErrOf result AppendErr.Host → Rose (H.state host.old).faults (H.state host.new).faults }
         ensures stops { (payloads : List (List ℕ)) → IsAt payloads self.old (H.state host.old)
             → Only (H.state host.old).tape (H.state host.new).tape
-                (IsOldOrNew (kept_by self.old payloads) framed.now (H.state host.old).tape.disk) }
+            (IsOldOrNew (kept_by self.old payloads) framed.now (H.state host.old).tape.disk) }
         ensures done { (payloads : List (List ℕ)) → IsAt payloads self.old (H.state host.old)
             → OnOk result (IsAt (payloads ++ framed.now ∷ []) self.new (H.state host.new)) }
         ensures same { AtRest (H.state host.old) → OnOk result (SameButJournal (H.state host.old).tape.disk (H.state host.new).tape.disk) }

@@ -25,7 +25,12 @@ fn room(alloc: Global, size: usize) -> Result<Vec<u8>, AllocError>
 }
 
 // So many bytes of the journal from a place on, by pieces. `None` where the host gave fewer.
-fn read_bytes<H: Host>(alloc: Global, host: &mut H, at: u64, count: usize) -> Result<Option<Vec<u8>>, JournalErr>
+fn read_bytes<H: Host>(
+    alloc: Global,
+    host: &mut H,
+    at: u64,
+    count: usize,
+) -> Result<Option<Vec<u8>>, JournalErr>
     requires { at + count < 2 ^ 28 }
     ensures looked { Looked (H.state host.old) (H.state host.new) }
     ensures cause { IsErrOf result JournalErr.Host → Rose (H.state host.old).faults (H.state host.new).faults }
@@ -49,7 +54,12 @@ fn read_bytes<H: Host>(alloc: Global, host: &mut H, at: u64, count: usize) -> Re
 }
 
 // The payload of the record whose gate is at this place, or `None` where that gate is closed. The journal ends at `end`.
-fn read_record<H: Host>(alloc: Global, host: &mut H, at: u64, end: u64) -> Result<Option<Payload>, JournalErr>
+fn read_record<H: Host>(
+    alloc: Global,
+    host: &mut H,
+    at: u64,
+    end: u64,
+) -> Result<Option<Payload>, JournalErr>
     requires before { at < end }
     requires small { end ≤ 2 ^ 28 }
     ensures looked { Looked (H.state host.old) (H.state host.new) }
@@ -79,7 +89,12 @@ fn read_record<H: Host>(alloc: Global, host: &mut H, at: u64, end: u64) -> Resul
 
 // The payloads of the records from a place on, up to the first closed gate, and the place of that gate. The journal ends
 // at `end`.
-pub fn read_records<H: Host>(alloc: Global, host: &mut H, start: u64, end: u64) -> Result<(u64, Payloads), JournalErr>
+pub fn read_records<H: Host>(
+    alloc: Global,
+    host: &mut H,
+    start: u64,
+    end: u64,
+) -> Result<(u64, Payloads), JournalErr>
     requires before { start < end }
     requires small { end ≤ 2 ^ 28 }
     ensures looked { Looked (H.state host.old) (H.state host.new) }
