@@ -6,3 +6,4 @@ pub mod Pieces
 pub mod ReadingRecords
 pub mod Records
 pub mod Synced
+pub mod Unique
