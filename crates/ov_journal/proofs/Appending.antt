@@ -1,5 +1,5 @@
 -- A record is appended: its body behind the closed gate, and then the gate.
-use Rattle.std.proofs.Common.{◌≡◌, ◌≤◌, ◌<◌, ◌⊎◌, inl, inr, ℕ, ◌+◌, ◌^◌, true, List, [], ◌∷◌, ◌++◌, length, refl, sym, ◌∙◌, ap, subst, arith}
+use Rattle.std.proofs.Common.{◌≡◌, ◌≤◌, inl, ℕ, ◌+◌, ◌^◌, List, [], ◌∷◌, ◌++◌, length, refl, sym, ◌∙◌, ap, subst, arith}
 use Rattle.std.specs.List.{flat_map}
 use Rattle.std.specs.Int.{w32, to_be_bytes}
 use Rattle.std.proofs.lemmas.List.{length-append, flat_map_more}
@@ -7,13 +7,13 @@ use Rattle.ov_host.specs.declared.area.Area.TheVariants.{Journal}
 use Rattle.ov_host.specs.Disk.{Disk, Image, Leaves, MayLeave, with_area, settled}
 use Rattle.ov_host.specs.Host.{State}
 use Rattle.ov_host.specs.Stops.{Only}
-use Rattle.ov_host.specs.Tape.{Torn, Tape, overwritten}
+use Rattle.ov_host.specs.Tape.{overwritten}
 use Rattle.ov_host.proofs.Stops.{only_start, only_then, only_wider}
 use Rattle.ov_host.proofs.Writes.{settled_leaves}
 use Rattle.ov_journal.specs.Bytes.{body, record_of}
 use Rattle.ov_journal.specs.Journal.{Kept, IsJournal, end_of, and_one}
 use Rattle.ov_journal.specs.Held.{Numbers, kept_by, AtRest, IsAt, InJournal, IsOldOrNew}
-use Rattle.ov_journal.proofs.Records.{IsStaged, torn_journal, stages, staged_is, opens, opens_or_not}
+use Rattle.ov_journal.proofs.Records.{IsStaged, torn_journal, stages, opens, opens_or_not}
 
 -- nothing was written
 pub none_stops : (ps : List (List ℕ)) (p : List ℕ) (numbers : Numbers) (s : State) → IsAt ps numbers s → Only s.tape s.tape (IsOldOrNew (kept_by numbers ps) p s.tape.disk)

@@ -1,5 +1,5 @@
 -- From the records that were read to the journal that they are of.
-use Rattle.std.proofs.Common.{◌≡◌, ◌≢◌, ◌<◌, ◌≤◌, ◌⊎◌, inl, inr, ◌+◌, ◌^◌, ℕ, min, true, List, [], ◌∷◌, ◌++◌, length, take, drop, get_or, Result, Ok, Err, refl, sym, ◌∙◌, ap, subst, arith}
+use Rattle.std.proofs.Common.{◌≡◌, ◌≢◌, ◌<◌, ◌≤◌, ◌⊎◌, inl, inr, ◌+◌, ℕ, List, ◌∷◌, ◌++◌, length, take, drop, get_or, Err, sym, ◌∙◌, ap, subst, arith}
 use Rattle.std.specs.List.{flat_map}
 use Rattle.std.proofs.lemmas.List.{append_assoc, drop_at, take-append-drop, take-append-le, take-take, length-take, length-append, get_or-take}
 use Rattle.ov_host.specs.Stops.{Only}
@@ -7,9 +7,8 @@ use Rattle.ov_host.specs.Tape.{Tape}
 use Rattle.ov_host.specs.Disk.{Image}
 use Rattle.ov_journal.specs.declared.errors.JournalErr.{JournalErr}
 use Rattle.ov_journal.specs.declared.errors.JournalErr.TheVariants as errors
-use Rattle.ov_journal.specs.Bytes.{Slot, IsHeader, record_of, number_at}
-use Rattle.ov_journal.specs.Journal.{Kept, slot_of, end_of, IsKnown, IsFront, IsJournal, journal_end, IsForeign, HasNoSlot, MayBeMade, IsOfFormat, StartsOff, PassesEnd}
-use Rattle.ov_journal.specs.Held.{Numbers, kept_by}
+use Rattle.ov_journal.specs.Bytes.{Slot, IsHeader, record_of}
+use Rattle.ov_journal.specs.Journal.{Kept, IsKnown, IsFront, IsJournal, journal_end, IsForeign, HasNoSlot, MayBeMade, PassesEnd}
 use Rattle.ov_journal.specs.Opened.{Loads}
 use Rattle.ov_journal.specs.Reading.{AreRecords, PassAt, RecordsAre, RefusesHeader}
 use Rattle.ov_journal.proofs.Records.{is_or_not}

@@ -1,13 +1,12 @@
 -- The three writes of a new header.
-use Rattle.std.proofs.Common.{◌≡◌, ◌≢◌, ◌≤◌, ◌<◌, ◌⊎◌, inl, inr, ℕ, ◌+◌, ◌^◌, max, true, List, [], ◌∷◌, ◌++◌, length, take, drop, get_or, refl, sym, ◌∙◌, ap, subst, arith}
-use Rattle.std.proofs.lemmas.List.{append-nil}
+use Rattle.std.proofs.Common.{◌≡◌, ◌≢◌, ◌≤◌, ◌<◌, ◌⊎◌, inl, inr, ℕ, ◌+◌, true, List, [], ◌∷◌, ◌++◌, length, take, drop, get_or, refl, sym, ◌∙◌, ap, subst, arith}
 use Rattle.std.proofs.lemmas.Bool.{cases_lt}
 use Rattle.std.proofs.Math.ListN.{drop_of_length-le}
 use Rattle.ov_host.specs.declared.area.Area.TheVariants.{Journal}
 use Rattle.ov_host.specs.Disk.{Disk, Image, Leaves, MayLeave, with_area, settled}
 use Rattle.ov_host.specs.Host.{State}
 use Rattle.ov_host.specs.Stops.{Only}
-use Rattle.ov_host.specs.Tape.{Torn, Tape, overwritten}
+use Rattle.ov_host.specs.Tape.{Torn, overwritten}
 use Rattle.ov_host.proofs.Stops.{only_start, only_then, only_wider}
 use Rattle.ov_host.proofs.Writes.{settled_leaves}
 use Rattle.ov_journal.specs.declared.making.TheConstants.{BEHIND_GATE}

@@ -1,10 +1,9 @@
 -- A journal is opened: both areas are synced, and then it is read, or made.
-use Rattle.std.proofs.Common.{◌≡◌, ◌≢◌, ◌<◌, ◌≤◌, ◌⊎◌, inl, inr, ℕ, true, List, [], length, take, get_or, Result, Ok, Err, refl, sym, ◌∙◌, ap, subst, arith}
+use Rattle.std.proofs.Common.{◌≡◌, ◌≢◌, ◌<◌, ◌≤◌, ◌⊎◌, inl, inr, ℕ, true, List, length, take, get_or, Result, Ok, Err, sym, ◌∙◌, ap, subst, arith}
 use Rattle.std.specs.Prelude.{MatchResult}
 use Rattle.std.proofs.lemmas.List.{take-take, get_or-take}
-use Rattle.ov_host.specs.declared.area.Area.TheVariants.{Journal}
 use Rattle.ov_host.specs.Disk.{Disk, Image, Leaves, MayLeave, as_read, settled}
-use Rattle.ov_host.specs.Host.{State, bytes_of}
+use Rattle.ov_host.specs.Host.{State}
 use Rattle.ov_host.specs.Stops.{Only}
 use Rattle.ov_host.specs.Tape.{Tape}
 use Rattle.ov_host.proofs.Stops.{only_then, only_wider}
@@ -13,7 +12,7 @@ use Rattle.ov_journal.specs.declared.errors.JournalErr.{JournalErr}
 use Rattle.ov_journal.specs.declared.errors.JournalErr.TheVariants as errors
 use Rattle.ov_journal.specs.Journal.{IsUnmade}
 use Rattle.ov_journal.specs.Held.{Numbers, AtRest, IsUnmadeOrNew}
-use Rattle.ov_journal.specs.Opened.{Loads, IsBegun, NotBegun, IsSettled, HasStood, IsMade, Refuses, IsMaking, IsLeftByOpen}
+use Rattle.ov_journal.specs.Opened.{Loads, IsBegun, NotBegun, IsSettled, HasStood, IsMade, Refuses, IsLeftByOpen}
 use Rattle.ov_journal.proofs.Loading.{looked_stops}
 
 -- the journal's bytes stay
@@ -35,7 +34,6 @@ settling_stops s t stops = only_wider s t (MayLeave s.disk) (IsLeftByOpen s.disk
 -- ---- a journal that is read
 
 module _ (s0 s1 : State) (is : IsSettled s0.tape.disk s1.tape.disk) where
-
   stood : (s2 : State) (read : Numbers × List (List ℕ)) → s2.tape ≡ s1.tape → Loads (Ok read) s0.tape.disk.journal.bytes → HasStood s0.tape.disk s2.tape.disk read.0 read.1
   stood s2 read same loads =
       record { stands = loads.0; same = ap (λ t. as_read t.disk) same ∙ same_read s0.tape.disk s1.tape.disk is }
@@ -59,7 +57,6 @@ module _ (s0 s1 : State) (is : IsSettled s0.tape.disk s1.tape.disk) where
   -- ---- a journal that is made
 
   module _ (s2 : State) (looked : s2.tape ≡ s1.tape) (unmade : IsUnmade s2.tape.disk.journal.bytes) where
-
     was_unmade : IsUnmade s0.tape.disk.journal.bytes
     was_unmade = subst IsUnmade (ap (λ t. t.disk.journal.bytes) looked ∙ same_bytes s0.tape.disk s1.tape.disk is) unmade
 
@@ -72,12 +69,14 @@ module _ (s0 s1 : State) (is : IsSettled s0.tape.disk s1.tape.disk) where
         (looked_stops s0.tape s1.tape s2.tape (IsLeftByOpen s0.tape.disk) looked (settling_stops s0.tape s1.tape before))
         (only_wider s2.tape s3.tape (IsUnmadeOrNew s2.tape.disk) (IsLeftByOpen s0.tape.disk)
         (λ c left.
-        inr (was_unmade,
-        record {
-          journal = left.journal;
-          pages = settled_leaves s0.tape.disk.pages.bytes c.pages (subst (λ a. Leaves a c.pages) pages_are left.pages);
-          printed = left.printed ∙ ap (λ t. t.disk.printed) looked ∙ is.printed;
-        }))
+        inr (
+          was_unmade,
+          record {
+            journal = left.journal;
+            pages = settled_leaves s0.tape.disk.pages.bytes c.pages (subst (λ a. Leaves a c.pages) pages_are left.pages);
+            printed = left.printed ∙ ap (λ t. t.disk.printed) looked ∙ is.printed;
+          },
+        ))
         after)
 
     made : (s3 : State) (read : Numbers × List (List ℕ)) → IsBegun s2 s3 read.0 read.1 → IsMade s0.tape.disk read.0 read.1
@@ -115,8 +114,10 @@ settled_rest s0 s1 s2 told is looked =
 pub seen_unmade : (size : ℕ) (bytes head : List ℕ) → size ≡ length bytes → (39 ≤ length bytes → head ≡ take 39 bytes) → (size < 39) ⊎ ((size ≡ 39) × (get_or head 0 0 ≢ 165)) → IsUnmade bytes
 seen_unmade size bytes head long there (inl less) = inl (omega arith)
 seen_unmade size bytes head long there (inr exact) =
-    inr (omega (arith, exact.0),
-    λ e. exact.1 (ap (λ (b : List ℕ). get_or b 0 0) (there (omega (arith, exact.0))) ∙ get_or-take 39 bytes 0 0 (omega arith) ∙ e))
+    inr (
+      omega (arith, exact.0),
+      λ e. exact.1 (ap (λ (b : List ℕ). get_or b 0 0) (there (omega (arith, exact.0))) ∙ get_or-take 39 bytes 0 0 (omega arith) ∙ e),
+    )
 
 seen_long : (size : ℕ) (bytes head : List ℕ) → size ≡ length bytes → (39 < size) ⊎ ((size ≡ 39) × (get_or head 0 0 ≡ 165)) → 39 ≤ length bytes
 seen_long size bytes head long (inl more) = omega arith

@@ -1,14 +1,12 @@
 -- Reading records, one after the other.
-use Rattle.std.proofs.Common.{◌≡◌, ◌≢◌, ◌<◌, ◌≤◌, ◌⊎◌, inl, inr, ◌+◌, ◌-◌, ℕ, suc, true, List, [], ◌∷◌, ◌++◌, length, take, drop, get_or, min, refl, sym, ◌∙◌, ap, subst, arith, add-one, add-zero}
+use Rattle.std.proofs.Common.{◌≡◌, ◌≢◌, ◌<◌, ◌≤◌, ◌+◌, ℕ, suc, true, List, [], ◌∷◌, ◌++◌, length, take, drop, get_or, sym, ◌∙◌, ap, subst, arith, add-one, add-zero}
 use Rattle.std.specs.List.{flat_map}
 use Rattle.std.specs.Int.{w32, to_be_bytes, from_be_bytes}
-use Rattle.std.proofs.lemmas.List.{append_assoc, drop-drop, drop_at, take_all, take-append-drop, take-take, length-take, length-drop, length-append, get_or-drop, get_or-take, get_or_past, flat_map_more}
-use Rattle.std.proofs.lemmas.Bool.{cases_lt}
-use Rattle.std.proofs.lemmas.Nat.{be_bytes_4, from_be_bytes-to_be_bytes_4}
-use Rattle.std.proofs.Math.Seq.{drop-cons, take-add}
+use Rattle.std.proofs.lemmas.List.{append_assoc, drop-drop, drop_at, take_all, take-append-drop, take-take, length-take, length-drop, length-append, get_or-drop, get_or-take, flat_map_more}
+use Rattle.std.proofs.Math.Seq.{drop-cons}
 use Rattle.ov_host.specs.declared.area.Area.TheVariants.{Journal}
 use Rattle.ov_host.specs.Host.{State, Reads, bytes_of}
-use Rattle.ov_journal.specs.Bytes.{body, record_of, number_at}
+use Rattle.ov_journal.specs.Bytes.{record_of, number_at}
 use Rattle.ov_journal.specs.Reading.{Looked, IsRecord, IsPast, AreRecords, PassAt}
 
 -- the records so far, and what reading did to the host

@@ -1,11 +1,10 @@
 -- The bytes of a journal before, between and after the two writes of a record.
-use Rattle.std.proofs.Common.{◌≡◌, ◌≢◌, ◌≤◌, ◌<◌, ◌⊎◌, inl, inr, ℕ, suc, ◌+◌, ◌-◌, ◌^◌, Bool, true, false, eqb, List, [], ◌∷◌, ◌++◌, length, take, drop, get_or, refl, sym, ◌∙◌, ap, subst, arith, add-one}
-use Rattle.std.specs.List.{flat_map}
+use Rattle.std.proofs.Common.{◌≡◌, ◌≢◌, ◌≤◌, ◌<◌, ◌⊎◌, inl, inr, ℕ, suc, ◌+◌, ◌^◌, List, [], ◌∷◌, ◌++◌, length, take, drop, get_or, refl, sym, ◌∙◌, ap, subst, arith, add-one}
 use Rattle.std.specs.Int.{w32, to_be_bytes}
-use Rattle.std.proofs.lemmas.List.{append_assoc, append-nil, take_at, drop_at, take-append-drop, take-append-le, drop-append-le, length-take, length-drop, length-append, flat_map_more}
+use Rattle.std.proofs.lemmas.List.{append_assoc, take_at, drop_at, take-append-drop, take-append-le, drop-append-le, length-drop, length-append, flat_map_more}
 use Rattle.std.proofs.Math.Seq.{drop-cons}
 use Rattle.ov_host.specs.Tape.{Torn, overwritten}
-use Rattle.ov_journal.specs.Bytes.{Slot, IsHeader, body, record_of}
+use Rattle.ov_journal.specs.Bytes.{IsHeader, body, record_of}
 use Rattle.ov_journal.specs.Journal.{Kept, IsFront, IsJournal, slot_of, end_of, and_one}
 
 snoc : (front rest : List ℕ) (x : ℕ) → (front ++ x ∷ []) ++ rest ≡ front ++ x ∷ rest

@@ -1,10 +1,10 @@
 -- A write to the journal and the sync behind it, where nothing is pending before.
-use Rattle.std.proofs.Common.{◌≡◌, ◌≤◌, ℕ, Bool, true, false, List, length, refl, sym, ◌∙◌, ap, subst, arith}
-use Rattle.ov_host.specs.declared.area.Area.TheVariants.{Pages, Journal}
-use Rattle.ov_host.specs.Disk.{Disk, Image, Stored, Leaves, MayLeave, with_area, settled}
+use Rattle.std.proofs.Common.{◌≡◌, ◌≤◌, ℕ, Bool, true, false, List, length, sym, ◌∙◌, subst}
+use Rattle.ov_host.specs.declared.area.Area.TheVariants.{Journal}
+use Rattle.ov_host.specs.Disk.{Disk, Image, Stored, Leaves, MayLeave, settled}
 use Rattle.ov_host.specs.Host.{State, Calls}
 use Rattle.ov_host.specs.Stops.{Only}
-use Rattle.ov_host.specs.Tape.{Call, Writes, Syncs, Torn, Tape, Plays, During, marked, overwritten, done}
+use Rattle.ov_host.specs.Tape.{Writes, Syncs, Torn, During, marked, overwritten, done}
 use Rattle.ov_host.proofs.Stops.{only_then, call_only, during_torn, done_disk}
 use Rattle.ov_host.proofs.Writes.{settled_leaves, marked_leaves, torn_overwritten}
 use Rattle.ov_journal.specs.Held.{InJournal, AtRest}

@@ -1,5 +1,5 @@
 -- Bytes are one thing at most.
-use Rattle.std.proofs.Common.{◌≡◌, ◌≢◌, ◌<◌, ◌≤◌, ◌⊎◌, inl, inr, ℕ, ◌+◌, ◌^◌, min, List, [], ◌∷◌, ◌++◌, length, take, drop, get_or, Option, Some, None, refl, sym, ◌∙◌, ap, subst, arith}
+use Rattle.std.proofs.Common.{◌≡◌, ◌<◌, ◌≤◌, ◌⊎◌, inl, inr, ℕ, ◌+◌, ◌^◌, List, [], ◌∷◌, ◌++◌, length, take, drop, get_or, Some, None, refl, sym, ◌∙◌, ap, subst, arith}
 use Rattle.std.specs.List.{flat_map}
 use Rattle.std.specs.Int.{w32, to_be_bytes, from_be_bytes}
 use Rattle.std.proofs.lemmas.List.{append_assoc, take_at, drop_at, take-append-le, drop-append-le, length-append, get_or-take}
@@ -31,7 +31,7 @@ not_unmade p s bytes is (inr exact) = exact.1 (first_opens p s bytes is)
 not_foreign : (p : ℕ) (s : Slot) (bytes : List ℕ) → IsHeaded p s bytes → IsForeign bytes → ⊥
 not_foreign p s bytes is (inl closed) = closed.1 (first_opens p s bytes is)
 not_foreign p s bytes is (inr none) =
-    elim none.2 [ | inl other ↦ other is.header.text | inr gone ↦ let e : None ≡ Some p = sym gone ∙ is.header.live in absurd cc ]
+    elim none.2 [ inl other ↦ other is.header.text | inr gone ↦ let e : None ≡ Some p = sym gone ∙ is.header.live in absurd cc ]
 
 unmade_not_foreign : (bytes : List ℕ) → IsUnmade bytes → IsForeign bytes → ⊥
 unmade_not_foreign bytes (inl less) (inl closed) = omega (arith, closed.0)
@@ -78,8 +78,10 @@ same_parts : (p q a b : List ℕ) → length p < 2 ^ 32 → length q < 2 ^ 32 �
 same_parts p q a b small_p small_q e =
     let long : length p ≡ length q = same_length p q a b small_p small_q e
     in let parts : p ++ a ≡ q ++ b = sym (behind_length p a) ∙ ap (drop 4) e ∙ behind_length q b
-    in (sym (take_at p a (length p) refl) ∙ ap (take (length p)) parts ∙ take_at q b (length p) (sym long),
-    sym (drop_at p a (length p) refl) ∙ ap (drop (length p)) parts ∙ drop_at q b (length p) (sym long))
+    in (
+      sym (take_at p a (length p) refl) ∙ ap (take (length p)) parts ∙ take_at q b (length p) (sym long),
+      sym (drop_at p a (length p) refl) ∙ ap (drop (length p)) parts ∙ drop_at q b (length p) (sym long),
+    )
 
 one_in_front : (p q : List ℕ) (ps qs : List (List ℕ)) (x y : ℕ) (xs ys : List ℕ) → p ≡ q → IsSame ps qs x y ⊎ (GoesOn ps qs x xs ⊎ GoesOn qs ps y ys) → IsSame (p ∷ ps) (q ∷ qs) x y ⊎ (GoesOn (p ∷ ps) (q ∷ qs) x xs ⊎ GoesOn (q ∷ qs) (p ∷ ps) y ys)
 one_in_front p q ps qs x y xs ys e (inl is) = inl (record { payloads = let f = is.payloads in cc; gate = is.gate })
@@ -111,7 +113,6 @@ record IsFronted (kept : Kept) (bytes : List ℕ) (x : ℕ) (xs : List ℕ) : Ty
   begins : IsFront kept front
 
 module _ (kept : Kept) (bytes : List ℕ) (x : ℕ) (xs : List ℕ) (is : IsFronted kept bytes x xs) where
-
   total : length bytes ≡ length is.front + length (x ∷ xs)
   total = ap length is.whole ∙ length-append is.front (x ∷ xs)
 
@@ -148,7 +149,6 @@ past_end k j bytes x y xs ys a b start on past =
 
 -- two fronts of the same bytes
 module _ (k j : Kept) (bytes : List ℕ) (x y : ℕ) (xs ys : List ℕ) (a : IsFronted k bytes x xs) (b : IsFronted j bytes y ys) where
-
   slots : slot_of k ≡ slot_of j
   slots = same_slot a.begins.place b.begins.place (slot_of k) (slot_of j) (take 38 bytes) (headed k bytes x xs a).header (headed j bytes y ys b).header
 
@@ -180,7 +180,7 @@ same_journals : (k j : Kept) (bytes : List ℕ) → IsJournal k bytes → IsJour
 same_journals k j bytes a b =
     elim (compared k j bytes a.gate b.gate a.rest b.rest (holds_fronted k bytes a) (holds_fronted j bytes b)) [
       | inl same ↦ same_kept k j bytes a.gate b.gate a.rest b.rest (holds_fronted k bytes a) (holds_fronted j bytes b) same.payloads
-      | inr other ↦ elim other [ | inl on ↦ absurd (a.closed on.opened) | inr on ↦ absurd (b.closed on.opened) ]
+      | inr other ↦ elim other [ inl on ↦ absurd (a.closed on.opened) | inr on ↦ absurd (b.closed on.opened) ]
     ]
 
 no_journal_passes : (k : Kept) (place : ℕ) (bytes : List ℕ) → IsJournal k bytes → PassesEnd place bytes → ⊥
@@ -220,12 +220,12 @@ not_off : (k : Kept) (bytes : List ℕ) (x : ℕ) (xs : List ℕ) (place : ℕ) 
 not_off k bytes x xs place is off =
     let same : slot_of k ≡ off.slot = same_slot is.begins.place place (slot_of k) off.slot (take 38 bytes) (headed k bytes x xs is).header off.header
     in let start : k.start ≡ off.slot.start = ap (λ (s : Slot). s.start) same
-    in elim off.off [ | inl low ↦ omega (arith, low, start, is.begins.low) | inr high ↦ omega (arith, high, start, within k bytes x xs is) ]
+    in elim off.off [ inl low ↦ omega (arith, low, start, is.begins.low) | inr high ↦ omega (arith, high, start, within k bytes x xs is) ]
 
 not_of_format : (p : ℕ) (s : Slot) (found : ℕ) (bytes : List ℕ) → IsHeaded p s bytes → IsKnown s.format → IsOfFormat found bytes → ⊥
 not_of_format p s found bytes is known other =
     let same : s.format ≡ other.slot.format = ap (λ (t : Slot). t.format) (same_slot p other.place s other.slot (take 38 bytes) is.header other.header)
-    in elim known [ | inl one ↦ other.unknown.0 (sym same ∙ one) | inr two ↦ other.unknown.1 (sym same ∙ two) ]
+    in elim known [ inl one ↦ other.unknown.0 (sym same ∙ one) | inr two ↦ other.unknown.1 (sym same ∙ two) ]
 
 -- ---- all of them
 

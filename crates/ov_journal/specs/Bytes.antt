@@ -1,5 +1,5 @@
 -- The bytes of a journal: a header with two slots, and records.
-use Rattle.std.specs.Prelude.{◌≡◌, ℕ, ◌+◌, Bool, true, nat_lt, ◌==◌, if◌then◌else◌, List, ◌∷◌, [], ◌++◌, length, take, drop, slice_index, Option, Some, None}
+use Rattle.std.specs.Prelude.{◌≡◌, ℕ, ◌+◌, Bool, nat_lt, ◌==◌, if◌then◌else◌, List, ◌∷◌, [], ◌++◌, length, take, drop, slice_index, Option, Some, None}
 use Rattle.std.specs.Int.{w32, to_be_bytes, from_be_bytes}
 
 -- a gate is open exactly where it is A5

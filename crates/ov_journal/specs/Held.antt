@@ -1,6 +1,6 @@
 -- A journal on a host, and what its calls leave.
-use Rattle.std.specs.Prelude.{◌≡◌, ◌≢◌, ◌≤◌, ◌⊎◌, ℕ, true, List, [], ◌∷◌, length}
-use Rattle.ov_host.specs.Disk.{Disk, Image, Leaves, MayLeave, settled}
+use Rattle.std.specs.Prelude.{◌≡◌, ◌≢◌, ◌≤◌, ◌⊎◌, ℕ, true, List, ◌∷◌, length}
+use Rattle.ov_host.specs.Disk.{Disk, Image, Leaves, settled}
 use Rattle.ov_host.specs.Host.{State}
 use Rattle.ov_host.specs.Tape.{Torn}
 use Rattle.ov_journal.specs.Journal.{Kept, IsJournal, IsUnmade, and_one, end_of, new_kept}

@@ -1,5 +1,5 @@
 -- What the bytes of the journal's area are.
-use Rattle.std.specs.Prelude.{◌≡◌, ◌≢◌, ◌≤◌, ◌<◌, ◌⊎◌, ℕ, ◌+◌, ◌^◌, min, List, [], ◌∷◌, ◌++◌, length, take, drop, slice_index, Option, None}
+use Rattle.std.specs.Prelude.{◌≡◌, ◌≢◌, ◌≤◌, ◌<◌, ◌⊎◌, ℕ, ◌+◌, ◌^◌, min, List, [], ◌∷◌, ◌++◌, length, take, drop, slice_index, None}
 use Rattle.std.specs.List.{flat_map}
 use Rattle.ov_journal.specs.Bytes.{Slot, IsHeader, the_text, live_place, number_at, record_of}
 

@@ -1,10 +1,10 @@
 -- What opening a journal answers, and what a stop in it leaves.
-use Rattle.std.specs.Prelude.{◌≡◌, ◌≢◌, ◌⊎◌, ℕ, true, List, [], Result, Ok, Err}
+use Rattle.std.specs.Prelude.{◌≡◌, ◌≢◌, ◌⊎◌, ℕ, List, [], Result, Ok, Err}
 use Rattle.ov_host.specs.Disk.{Disk, Image, MayLeave, as_read, settled}
 use Rattle.ov_host.specs.Host.{State}
 use Rattle.ov_journal.specs.declared.errors.JournalErr.{JournalErr}
 use Rattle.ov_journal.specs.declared.errors.JournalErr.TheVariants as errors
-use Rattle.ov_journal.specs.Journal.{Kept, AreaIs, Unmade, Foreign, OfFormat, DamagedAt, Holds, IsUnmade, IsJournal, new_kept, end_of}
+use Rattle.ov_journal.specs.Journal.{AreaIs, Unmade, Foreign, OfFormat, DamagedAt, Holds, IsUnmade, IsJournal, new_kept, end_of}
 use Rattle.ov_journal.specs.Held.{Numbers, kept_by, IsAt}
 
 -- the numbers of a new journal

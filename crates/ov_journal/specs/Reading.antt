@@ -1,11 +1,11 @@
 -- What the steps of reading a journal answer.
-use Rattle.std.specs.Prelude.{◌≡◌, ◌≢◌, ◌≤◌, ◌<◌, ◌⊎◌, ℕ, ◌+◌, true, List, ◌∷◌, ◌++◌, length, take, drop, slice_index, Option, Some, None, Result, Ok, Err}
+use Rattle.std.specs.Prelude.{◌≡◌, ◌≢◌, ◌≤◌, ◌<◌, ◌⊎◌, ℕ, ◌+◌, true, List, ◌∷◌, ◌++◌, length, drop, slice_index, Option, Some, None, Result, Ok, Err}
 use Rattle.std.specs.List.{flat_map}
 use Rattle.ov_host.specs.Host.{State}
 use Rattle.ov_journal.specs.declared.errors.JournalErr.{JournalErr}
 use Rattle.ov_journal.specs.declared.errors.JournalErr.TheVariants as errors
 use Rattle.ov_journal.specs.Bytes.{Slot, IsHeader, number_at, record_of}
-use Rattle.ov_journal.specs.Journal.{IsKnown, HasNoSlot}
+use Rattle.ov_journal.specs.Journal.{HasNoSlot}
 
 -- nothing but the count of faults changed
 pub record Looked (old new : State) : Type 0 where

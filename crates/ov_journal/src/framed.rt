@@ -40,7 +40,7 @@ impl Framed {
     ghost use Rattle.ov_journal.specs.Bytes.{body};
 
     // What is written behind the gate.
-    pub fn as_bytes(&self) -> &[u8]
+    pub(crate) fn as_bytes(&self) -> &[u8]
         ensures bytes { result.now ≡ body self.now ++ 0 ∷ [] }
         ensures bound { length self.now ≤ 2 ^ 28 }
     {

@@ -21,3 +21,42 @@ pub use framed::{Framed, frame};
 pub use journal::Journal;
 pub use laws::{a_journal_ends_at_its_first_closed_gate, bytes_are_one_thing};
 pub use payloads::{Payload, Payloads};
+
+#[cfg(test)]
+mod tests {
+    use super::*;
+    use ov_host::NullHost;
+    use std::test::Fail;
+
+    #[test]
+    fn an_empty_host_gets_a_new_journal(rt: HostRuntime) -> Result<(), Fail> {
+        let alloc = rt.alloc();
+        let mut host = NullHost::new(false);
+        let (mut journal, payloads) = Journal::open(alloc, &mut host)?;
+        assert_eq!(rt; payloads.as_slice().len(), 0);
+        assert_eq!(rt; payloads.into_vec().len(), 0);
+        assert_eq!(rt; journal.epoch(), 1);
+        assert_eq!(rt; journal.start(), 38);
+        assert_eq!(rt; journal.format(), 2);
+        let record = frame(alloc, b"abc")?;
+        assert!(rt; journal.fits(&record));
+        journal.append(&mut host, &record)?;
+        // A record of three bytes takes eight: its gate, its length and its payload.
+        assert_eq!(rt; journal.end(), 46);
+        Ok(())
+    }
+
+    #[test]
+    fn a_host_that_fails_is_told_so(rt: HostRuntime) {
+        let opened = Journal::open(rt.alloc(), &mut NullHost::new(true)).err();
+        assert_eq!(rt; opened, Some(JournalErr::Host));
+    }
+
+    #[test]
+    fn a_payload_gives_its_bytes_back(rt: HostRuntime) -> Result<(), Fail> {
+        let payload = Payload::new(vec![in rt.alloc(); 7, 8]?);
+        assert_eq!(rt; payload.as_slice(), [7, 8].as_slice());
+        assert_eq!(rt; payload.into_bytes().as_slice(), [7, 8].as_slice());
+        Ok(())
+    }
+}

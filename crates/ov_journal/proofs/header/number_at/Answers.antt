@@ -1,4 +1,4 @@
-use Rattle.std.proofs.Common.{rules, ℕ, ◌≡◌, ◌<◌, ◌≤◌, ◌⊎◌, inl, inr, ◌+◌, length, List, take, drop, get_or, arith, refl}
+use Rattle.std.proofs.Common.{rules, ℕ, ◌≡◌, ◌<◌, inl, inr, ◌+◌, length, List, take, drop, get_or, arith}
 use Rattle.std.proofs.lemmas.Bool.{cases_lt}
 use Rattle.std.proofs.lemmas.List.{get_or-take, get_or-drop, get_or_past, length-take, length-drop}
 use Rattle.std.proofs.lemmas.Nat.{be_bytes_4}

@@ -1,4 +1,4 @@
-use Rattle.std.proofs.Common.{◌≡◌, ◌<◌, true, length, arith}
+use Rattle.std.proofs.Common.{arith}
 use Rattle.ov_journal.proofs.NewHeader.{unmade_stops, closing_stops}
 use Rattle.ov_journal.proofs.making.close.Goals as goal
 

@@ -1,10 +1,8 @@
-use Rattle.std.proofs.Common.{ℕ, ◌≡◌, ◌<◌, ◌≤◌, ◌+◌, length, List, true, take, drop, get_or, Option, Vec, Global, refl, sym, ap, subst, ◌∙◌, arith, rules}
+use Rattle.std.proofs.Common.{ℕ, ◌≡◌, ◌<◌, ◌+◌, length, List, take, drop, get_or, Option, Vec, Global, refl, ap, subst, ◌∙◌, arith, rules}
 use Rattle.std.specs.Prelude.{MatchOption}
-use Rattle.std.specs.Int.{w32, to_be_bytes}
 use Rattle.ov_host.specs.declared.area.Area.TheVariants.{Journal}
 use Rattle.ov_host.specs.Host.{bytes_of}
 use Rattle.ov_host.specs.Tape.{Tape}
-use Rattle.ov_journal.specs.Bytes.{number_at}
 use Rattle.ov_journal.proofs.ReadingRecords.{record_is}
 use Rattle.ov_journal.proofs.reading.read_record.Goals as goal
 

@@ -1,4 +1,4 @@
-use Rattle.std.proofs.Common.{ℕ, ◌≡◌, ◌<◌, ◌≤◌, ◌+◌, ◌++◌, ◌∷◌, [], length, List, Option, Ok, true, drop, refl, sym, ap, subst, ◌∙◌, arith, rules}
+use Rattle.std.proofs.Common.{ℕ, ◌≡◌, ◌<◌, ◌+◌, length, List, Option, Ok, drop, ap, subst}
 use Rattle.std.specs.Prelude.{IfSome}
 use Rattle.ov_host.specs.declared.area.Area.TheVariants.{Journal}
 use Rattle.ov_host.specs.Host.{bytes_of}

@@ -1,4 +1,4 @@
-use Rattle.std.proofs.Common.{rules, ℕ, ◌+◌, ◌≤◌, ◌^◌, ◌≡◌, length, List, ◌∙◌, ap}
+use Rattle.std.proofs.Common.{rules, ◌+◌, ◌≤◌, ◌^◌, ◌≡◌, length, ◌∙◌, ap}
 use Rattle.ov_journal.specs.Held.{Numbers}
 use Rattle.ov_journal.proofs.Appending.{none_stops, first_stops, both_stops, both_done}
 use Rattle.ov_journal.proofs.journal.Journal.append.Goals as goal

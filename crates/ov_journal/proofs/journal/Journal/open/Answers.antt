@@ -1,9 +1,8 @@
-use Rattle.std.proofs.Common.{ℕ, ◌≡◌, ◌<◌, ◌≤◌, length, List, true, take, sym, ap, subst, ◌∙◌}
+use Rattle.std.proofs.Common.{◌≡◌, true, take, sym, ap, subst, ◌∙◌}
 use Rattle.ov_host.specs.declared.area.Area.TheVariants.{Journal}
 use Rattle.ov_host.specs.Host.{State, bytes_of}
 use Rattle.ov_host.specs.Tape.{Tape}
 use Rattle.ov_journal.specs.Journal.{IsUnmade}
-use Rattle.ov_journal.specs.Held.{AtRest}
 use Rattle.ov_journal.specs.Opened.{IsLeftByOpen}
 use Rattle.ov_journal.proofs.Loading.{looked_stops}
 use Rattle.ov_journal.proofs.Opened.{settling_stops, making_stops, loaded, begun, settled_rest, seen_unmade, header_there}
