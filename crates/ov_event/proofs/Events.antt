@@ -16,7 +16,7 @@ use Rattle.ov_event.specs.Reading.{Reading, ◌>>=◌, Gives, u8_at, u32_at, tex
 use Rattle.ov_event.specs.Records.{parents_at, place_at, dataset_at}
 use Rattle.ov_event.specs.Events.{init_at, tail_at, commit_at, wide_at, plan_at, copy_at, fields_at, event_at, all_of}
 use Rattle.ov_event.specs.Spelling.{parents, place, column, spelling, AreColumns, IsSchema, AreParents, IsPlaced, IsMaybePlan, IsEvent}
-use Rattle.ov_event.specs.Fitting.{ColumnsFit, SchemaFits, MaybePlanFits, Fits}
+use Rattle.ov_event.specs.Fitting.{ColumnFits, ColumnsFit, SchemaFits, TargetFits, VersionFits, PartFits, RawTargetFits, MaybePlanFits, Fits}
 use Rattle.ov_event.proofs.Formats.{IsBytes, IsBytes-rest, Takes, IsFormat, some_is, bind_some, u8_format, u32_format, text_format, end_format, and_then, making, counting}
 use Rattle.ov_event.proofs.Records.{extent_format, columns_format, schema_format, parents_format, place_format, target_format, dataset_format}
 
@@ -57,29 +57,29 @@ made_again f make t rest h = rw (f.again t rest h) refl
 
 
 fields_take : (tag : ℕ) (bytes : List ℕ) (x : Event × List ℕ) → IsBytes bytes → fields_at tag bytes ≡ Some x → Takes spelling IsEvent (tag ∷ bytes) x
-unfolding fields_at, init_at, commit_at, plan_at, copy_at, wide_at, spelling, IsEvent
+unfolding fields_at init_at commit_at plan_at copy_at wide_at spelling IsEvent
 fields_take zero bytes x fits e = absurd cc
 fields_take (suc zero) bytes x fits e =
     takes_event (and_then text_format (and_then schema_format (and_then u32_format (and_then extent_format (and_then extent_format end_format)))))
     (λ t. Init t.0 t.1.0 t.1.1.0 t.1.1.1.0 t.1.1.1.1.0) 1 (λ t. refl) (λ t h. (h.0, h.1.0, h.1.1.0, h.1.1.1.0, h.1.1.1.1.0)) bytes x fits e
 fields_take (suc (suc zero)) bytes x fits e =
-    takes_event (and_then u32_format (and_then u32_format (and_then text_format (and_then tail_format end_format))))
-    (λ t. let l = t.1.1.1.0 in Commit t.0 t.1.0 t.1.1.0 l.parents l.rows l.fresh l.place l.added l.list l.segment) 2 (λ t. rw append-nil refl)
-    (λ t h. let l = h.1.1.1.0 in (h.0, h.1.0, h.1.1.0, l.0, l.1, l.2, l.3, l.4, l.5, l.6)) bytes x fits e
+    takes_event (and_then u32_format (and_then u32_format (and_then text_format tail_format)))
+    (λ t. let l = t.1.1.1 in Commit t.0 t.1.0 t.1.1.0 l.parents l.rows l.fresh l.place l.added l.list l.segment) 2 (λ t. refl)
+    (λ t h. let l = h.1.1.1 in (h.0, h.1.0, h.1.1.0, l.0, l.1, l.2, l.3, l.4, l.5, l.6)) bytes x fits e
 fields_take (suc (suc (suc zero))) bytes x fits e =
-    takes_event (and_then u32_format (and_then u32_format (and_then u32_format (and_then (counting {bits = 32} u32_format target_format) end_format))))
+    takes_event (and_then u32_format (and_then u32_format (and_then u32_format (and_then (counting 32 u32_format target_format) end_format))))
     (λ t. Plan t.0 t.1.0 t.1.1.0 t.1.1.1.0) 3 (λ t. refl) (λ t h. (h.0, h.1.0, h.1.1.0, h.1.1.1.0)) bytes x fits e
 fields_take (suc (suc (suc (suc zero)))) bytes x fits e =
     takes_event (and_then u32_format (and_then u32_format (and_then extent_format end_format)))
     (λ t. Copy t.0 t.1.0 t.1.1.0) 4 (λ t. refl) (λ t h. (h.0, h.1.0, h.1.1.0)) bytes x fits e
-fields_take (suc (suc (suc (suc (suc zero))))) bytes x fits e = takes_event u32_format Flip 5 (λ t. rw append-nil refl) (λ t h. h) bytes x fits e
-fields_take (suc (suc (suc (suc (suc (suc zero)))))) bytes x fits e = takes_event u32_format Drop 6 (λ t. rw append-nil refl) (λ t h. h) bytes x fits e
-fields_take (suc (suc (suc (suc (suc (suc (suc zero))))))) bytes x fits e = takes_event u32_format Base 7 (λ t. rw append-nil refl) (λ t h. h) bytes x fits e
-fields_take (suc (suc (suc (suc (suc (suc (suc (suc zero)))))))) bytes x fits e = takes_event dataset_format Whole 8 (λ t. rw append-nil refl) (λ t h. h) bytes x fits e
+fields_take (suc (suc (suc (suc (suc zero))))) bytes x fits e = takes_event (and_then u32_format end_format) (λ t. Flip t.0) 5 (λ t. refl) (λ t h. h.0) bytes x fits e
+fields_take (suc (suc (suc (suc (suc (suc zero)))))) bytes x fits e = takes_event (and_then u32_format end_format) (λ t. Drop t.0) 6 (λ t. refl) (λ t h. h.0) bytes x fits e
+fields_take (suc (suc (suc (suc (suc (suc (suc zero))))))) bytes x fits e = takes_event (and_then u32_format end_format) (λ t. Base t.0) 7 (λ t. refl) (λ t h. h.0) bytes x fits e
+fields_take (suc (suc (suc (suc (suc (suc (suc (suc zero)))))))) bytes x fits e = takes_event (and_then dataset_format end_format) (λ t. Whole t.0) 8 (λ t. refl) (λ t h. h.0) bytes x fits e
 fields_take (suc (suc (suc (suc (suc (suc (suc (suc (suc zero))))))))) bytes x fits e =
-    takes_event (and_then u32_format (and_then u32_format (and_then text_format (and_then columns_format (and_then tail_format end_format)))))
-    (λ t. let l = t.1.1.1.1.0 in Wide t.0 t.1.0 t.1.1.0 t.1.1.1.0 l.parents l.rows l.fresh l.place l.added l.list l.segment) 9 (λ t. rw append-nil refl)
-    (λ t h. let l = h.1.1.1.1.0 in (h.0, h.1.0, h.1.1.0, h.1.1.1.0, l.0, l.1, l.2, l.3, l.4, l.5, l.6)) bytes x fits e
+    takes_event (and_then u32_format (and_then u32_format (and_then text_format (and_then columns_format tail_format))))
+    (λ t. let l = t.1.1.1.1 in Wide t.0 t.1.0 t.1.1.0 t.1.1.1.0 l.parents l.rows l.fresh l.place l.added l.list l.segment) 9 (λ t. refl)
+    (λ t h. let l = h.1.1.1.1 in (h.0, h.1.0, h.1.1.0, h.1.1.1.0, l.0, l.1, l.2, l.3, l.4, l.5, l.6)) bytes x fits e
 fields_take (suc (suc (suc (suc (suc (suc (suc (suc (suc (suc n)))))))))) bytes x fits e = absurd cc
 
 event_takes : (bytes : List ℕ) (x : Event × List ℕ) → IsBytes bytes → event_at bytes ≡ Some x → Takes spelling IsEvent bytes x
@@ -88,32 +88,30 @@ event_takes [] x fits e = absurd cc
 event_takes (tag ∷ bytes) x fits e = fields_take tag bytes x (IsBytes-rest tag bytes fits) e
 
 event_again : (e : Event) (rest : List ℕ) → IsEvent e → event_at (spelling e ++ rest) ≡ Some (e, rest)
-unfolding event_at, fields_at, init_at, commit_at, plan_at, copy_at, wide_at, spelling, IsEvent
+unfolding event_at fields_at init_at commit_at plan_at copy_at wide_at spelling IsEvent
 event_again (Init name s rows list segment) rest h =
     made_again (and_then text_format (and_then schema_format (and_then u32_format (and_then extent_format (and_then extent_format end_format)))))
     (λ t. Init t.0 t.1.0 t.1.1.0 t.1.1.1.0 t.1.1.1.1.0) (name, (s, (rows, (list, (segment, tt))))) rest (h.0, (h.1, (h.2, (h.3, (h.4, tt)))))
 event_again (Commit cvd vid message ps rows fresh placed added list segment) rest h =
     let l : Tail = record { parents = ps; rows = rows; fresh = fresh; place = placed; added = added; list = list; segment = segment } in
-    ap (λ (r : List ℕ). commit_at ((u32 cvd ++ (u32 vid ++ (text message ++ r))) ++ rest)) (sym (append-nil (tail l)))
-    ∙ made_again (and_then u32_format (and_then u32_format (and_then text_format (and_then tail_format end_format))))
-    (λ t. let l = t.1.1.1.0 in Commit t.0 t.1.0 t.1.1.0 l.parents l.rows l.fresh l.place l.added l.list l.segment) (cvd, (vid, (message, (l, tt)))) rest
-    (h.0, (h.1, (h.2, ((h.3, h.4, h.5, h.6, h.7, h.8, h.9), tt))))
+    made_again (and_then u32_format (and_then u32_format (and_then text_format tail_format)))
+    (λ t. let l = t.1.1.1 in Commit t.0 t.1.0 t.1.1.0 l.parents l.rows l.fresh l.place l.added l.list l.segment) (cvd, (vid, (message, l))) rest
+    (h.0, (h.1, (h.2, (h.3, h.4, h.5, h.6, h.7, h.8, h.9))))
 event_again (Plan cvd p q targets) rest h =
-    made_again (and_then u32_format (and_then u32_format (and_then u32_format (and_then (counting {bits = 32} u32_format target_format) end_format))))
+    made_again (and_then u32_format (and_then u32_format (and_then u32_format (and_then (counting 32 u32_format target_format) end_format))))
     (λ t. Plan t.0 t.1.0 t.1.1.0 t.1.1.1.0) (cvd, (p, (q, (targets, tt)))) rest (h.0, (h.1, (h.2, (h.3, tt))))
 event_again (Copy cvd count segment) rest h =
     made_again (and_then u32_format (and_then u32_format (and_then extent_format end_format)))
     (λ t. Copy t.0 t.1.0 t.1.1.0) (cvd, (count, (segment, tt))) rest (h.0, (h.1, (h.2, tt)))
-event_again (Flip cvd) rest h = rw append-nil (made_again u32_format Flip cvd rest h)
-event_again (Drop cvd) rest h = rw append-nil (made_again u32_format Drop cvd rest h)
-event_again (Base next) rest h = rw append-nil (made_again u32_format Base next rest h)
-event_again (Whole w) rest h = rw append-nil (made_again dataset_format Whole w rest h)
+event_again (Flip cvd) rest h = made_again (and_then u32_format end_format) (λ t. Flip t.0) (cvd, tt) rest (h, tt)
+event_again (Drop cvd) rest h = made_again (and_then u32_format end_format) (λ t. Drop t.0) (cvd, tt) rest (h, tt)
+event_again (Base next) rest h = made_again (and_then u32_format end_format) (λ t. Base t.0) (next, tt) rest (h, tt)
+event_again (Whole w) rest h = made_again (and_then dataset_format end_format) (λ t. Whole t.0) (w, tt) rest (h, tt)
 event_again (Wide cvd vid message columns ps rows fresh placed added list segment) rest h =
     let l : Tail = record { parents = ps; rows = rows; fresh = fresh; place = placed; added = added; list = list; segment = segment } in
-    ap (λ (r : List ℕ). wide_at ((u32 cvd ++ (u32 vid ++ (text message ++ (counted u8 column columns ++ r)))) ++ rest)) (sym (append-nil (tail l)))
-    ∙ made_again (and_then u32_format (and_then u32_format (and_then text_format (and_then columns_format (and_then tail_format end_format)))))
-    (λ t. let l = t.1.1.1.1.0 in Wide t.0 t.1.0 t.1.1.0 t.1.1.1.0 l.parents l.rows l.fresh l.place l.added l.list l.segment) (cvd, (vid, (message, (columns, (l, tt))))) rest
-    (h.0, (h.1, (h.2, (h.3, ((h.4, h.5, h.6, h.7, h.8, h.9, h.10), tt)))))
+    made_again (and_then u32_format (and_then u32_format (and_then text_format (and_then columns_format tail_format))))
+    (λ t. let l = t.1.1.1.1 in Wide t.0 t.1.0 t.1.1.0 t.1.1.1.0 l.parents l.rows l.fresh l.place l.added l.list l.segment) (cvd, (vid, (message, (columns, l)))) rest
+    (h.0, (h.1, (h.2, (h.3, (h.4, h.5, h.6, h.7, h.8, h.9, h.10)))))
 
 -- ---- all of the bytes
 
@@ -152,24 +150,24 @@ each : {A : Type 0} {P Q : A → Type 0} → ((x : A) → P x → Q x) → (xs :
 each f [] h = tt
 each f (x ∷ xs) h = (f x h.0, each f xs h.1)
 
-all_fit : {A : Type 0} {P Q : A → Type 0} → ((x : A) → P x → Q x) → (xs : List A) → AllByRecursion P xs → All Q xs
-all_fit {A} {P} {Q} f xs h = All-from_recursion Q xs (each f xs h)
+all_fit : {A : Type 0} {P : A → Type 0} (Q : A → Type 0) → ((x : A) → P x → Q x) → (xs : List A) → AllByRecursion P xs → All Q xs
+all_fit Q f xs h = All-from_recursion Q xs (each f xs h)
 
 columns_fit : (cs : List Column) → AreColumns cs → ColumnsFit cs
-columns_fit cs h = (h.0, all_fit (λ c p. p.1) cs h.1)
+columns_fit cs h = (h.0, all_fit ColumnFits (λ c p. p.1) cs h.1)
 
 schema_fits : (s : RawSchema) → IsSchema s → SchemaFits s
 schema_fits s h = (columns_fit s.columns h.0, h.1.0)
 
 plan_fits : (p : Option RawPlan) → IsMaybePlan p → MaybePlanFits p
 plan_fits None h = tt
-plan_fits (Some p) h = (h.2.0, all_fit (λ t q. (q.0.0, q.3.0)) p.targets h.2.1, h.3.0)
+plan_fits (Some p) h = (h.2.0, all_fit RawTargetFits (λ t q. (q.0.0, q.3.0)) p.targets h.2.1, h.3.0)
 
 pub fits_of : (e : Event) → IsEvent e → Fits e
 unfolding IsEvent
 fits_of (Init name s rows list segment) h = (h.0.1, schema_fits s h.1)
 fits_of (Commit cvd vid message ps rows fresh placed added list segment) h = (h.2.1, h.3.0)
-fits_of (Plan cvd p q targets) h = (h.3.0, all_fit (λ t g. g.2.0) targets h.3.1)
+fits_of (Plan cvd p q targets) h = (h.3.0, all_fit TargetFits (λ t g. g.2.0) targets h.3.1)
 fits_of (Copy cvd count segment) h = tt
 fits_of (Flip cvd) h = tt
 fits_of (Drop cvd) h = tt
@@ -178,9 +176,9 @@ fits_of (Whole w) h = record {
   name = h.name.1;
   schema = schema_fits w.schema h.schema;
   versions = h.versions.0;
-  each_version = all_fit (λ v g. (g.0.0, g.1.1)) w.versions h.versions.1;
+  each_version = all_fit VersionFits (λ v g. (g.0.0, g.1.1)) w.versions h.versions.1;
   parts = h.parts.0;
-  each_part = all_fit (λ p g. (g.1.0, g.2.0, g.4.0)) w.parts h.parts.1;
+  each_part = all_fit PartFits (λ p g. (g.1.0, g.2.0, g.4.0)) w.parts h.parts.1;
   plan = plan_fits w.plan h.plan;
 }
 fits_of (Wide cvd vid message columns ps rows fresh placed added list segment) h = (h.2.1, columns_fit columns h.3, h.4.0)

@@ -110,11 +110,11 @@ number_again w limit wide n rest lt =
     rw (long, take_at (to_be_bytes w n) rest (byte_len w) len, drop_at (to_be_bytes w n) rest (byte_len w) len, wide.again n lt) refl
 
 pub u16_format : IsFormat u16_at u16 (λ n. n < 2 ^ 16)
-unfolding u16_at, u16
+unfolding u16_at u16
 u16_format = record { takes = number_takes w16 (2 ^ 16) wide16; again = number_again w16 (2 ^ 16) wide16 }
 
 pub u32_format : IsFormat u32_at u32 IsU32
-unfolding u32_at, u32
+unfolding u32_at u32
 u32_format = record { takes = number_takes w32 (2 ^ 32) wide32; again = number_again w32 (2 ^ 32) wide32 }
 
 -- ---- texts
@@ -131,7 +131,7 @@ front_again t rest =
     rw (long, take_at t rest (length t) refl, drop_at t rest (length t) refl) refl
 
 text_takes : (bytes : List ℕ) (x : List ℕ × List ℕ) → IsBytes bytes → text_at bytes ≡ Some x → Takes text IsText bytes x
-unfolding text_at, text
+unfolding text_at text
 text_takes bytes x fits e =
     let a = bind_some (u32_at bytes) (λ n. front_at n.0 n.1 >>= λ t. cond (is_utf8 t.0) (Some (t.0, t.1)) None) x e in
     let b = bind_some (front_at a.0.0 a.0.1) (λ t. cond (is_utf8 t.0) (Some (t.0, t.1)) None) x a.2 in
@@ -142,7 +142,7 @@ text_takes bytes x fits e =
     subst (Takes text IsText bytes) g.1 (record { parts = parts; good = (IsUtf8-from_is_utf8 b.0.0 g.0, rw front.1 len.good); rest_fits = front.2 })
 
 text_again : (t rest : List ℕ) → IsText t → text_at (text t ++ rest) ≡ Some (t, rest)
-unfolding text_at, text
+unfolding text_at text
 text_again t rest h = rw (append_assoc (u32 (length t)) t rest, u32_format.again (length t) (t ++ rest) h.1, front_again t rest, is_utf8-from_IsUtf8 t h.0) refl
 
 pub text_format : IsFormat text_at text IsText
@@ -224,10 +224,10 @@ items_again {A} {a} {s} {P} f (x ∷ xs) rest h =
     let regrouped : flat_map s (x ∷ xs) ++ rest ≡ s x ++ (flat_map s xs ++ rest) = ap (λ (y : List ℕ). y ++ rest) (flat_map-cons s x xs) ∙ append_assoc (s x) (flat_map s xs) rest in
     ap (items_at a (suc (length xs))) regrouped ∙ rw (f.again x (flat_map s xs ++ rest) h.0, items_again f xs rest h.1) refl
 
-pub counting : {A : Type 0} {count : Reading ℕ} {number : ℕ → List ℕ} {bits : ℕ} {a : Reading A} {s : A → List ℕ} {P : A → Type 0}
+pub counting : {A : Type 0} {count : Reading ℕ} {number : ℕ → List ℕ} (bits : ℕ) {a : Reading A} {s : A → List ℕ} {P : A → Type 0}
     → IsFormat count number (λ n. n < 2 ^ bits) → IsFormat a s P → IsFormat (counted_at count a) (counted number s) (AreFew bits P)
-unfolding counted_at, counted
-counting {A} {count} {number} {bits} {a} {s} {P} f g = record {
+unfolding counted_at counted
+counting {A} {count} {number} bits {a} {s} {P} f g = record {
   takes = λ bytes x fits e.
     let c = bind_some (count bytes) (λ n. items_at a n.0 n.1) x e in
     let first = f.takes bytes c.0 fits c.1 in

@@ -23,13 +23,13 @@ tail_at =
 
 unfoldable pub commit_at : Reading Event
 commit_at =
-    made_at (λ t. let l = t.1.1.1.0 in Commit t.0 t.1.0 t.1.1.0 l.parents l.rows l.fresh l.place l.added l.list l.segment)
-    (u32_at then u32_at then text_at then tail_at then end_at)
+    made_at (λ t. let l = t.1.1.1 in Commit t.0 t.1.0 t.1.1.0 l.parents l.rows l.fresh l.place l.added l.list l.segment)
+    (u32_at then u32_at then text_at then tail_at)
 
 unfoldable pub wide_at : Reading Event
 wide_at =
-    made_at (λ t. let l = t.1.1.1.1.0 in Wide t.0 t.1.0 t.1.1.0 t.1.1.1.0 l.parents l.rows l.fresh l.place l.added l.list l.segment)
-    (u32_at then u32_at then text_at then columns_at then tail_at then end_at)
+    made_at (λ t. let l = t.1.1.1.1 in Wide t.0 t.1.0 t.1.1.0 t.1.1.1.0 l.parents l.rows l.fresh l.place l.added l.list l.segment)
+    (u32_at then u32_at then text_at then columns_at then tail_at)
 
 unfoldable pub plan_at : Reading Event
 plan_at = made_at (λ t. Plan t.0 t.1.0 t.1.1.0 t.1.1.1.0) (u32_at then u32_at then u32_at then counted_at u32_at target_at then end_at)
@@ -44,10 +44,10 @@ fields_at (suc zero) bytes = init_at bytes
 fields_at (suc (suc zero)) bytes = commit_at bytes
 fields_at (suc (suc (suc zero))) bytes = plan_at bytes
 fields_at (suc (suc (suc (suc zero)))) bytes = copy_at bytes
-fields_at (suc (suc (suc (suc (suc zero))))) bytes = made_at Flip u32_at bytes
-fields_at (suc (suc (suc (suc (suc (suc zero)))))) bytes = made_at Drop u32_at bytes
-fields_at (suc (suc (suc (suc (suc (suc (suc zero))))))) bytes = made_at Base u32_at bytes
-fields_at (suc (suc (suc (suc (suc (suc (suc (suc zero)))))))) bytes = made_at Whole dataset_at bytes
+fields_at (suc (suc (suc (suc (suc zero))))) bytes = made_at (λ t. Flip t.0) (u32_at then end_at) bytes
+fields_at (suc (suc (suc (suc (suc (suc zero)))))) bytes = made_at (λ t. Drop t.0) (u32_at then end_at) bytes
+fields_at (suc (suc (suc (suc (suc (suc (suc zero))))))) bytes = made_at (λ t. Base t.0) (u32_at then end_at) bytes
+fields_at (suc (suc (suc (suc (suc (suc (suc (suc zero)))))))) bytes = made_at (λ t. Whole t.0) (dataset_at then end_at) bytes
 fields_at (suc (suc (suc (suc (suc (suc (suc (suc (suc zero))))))))) bytes = wide_at bytes
 fields_at (suc (suc (suc (suc (suc (suc (suc (suc (suc (suc n)))))))))) bytes = None
 

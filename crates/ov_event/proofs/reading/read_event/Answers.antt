@@ -14,5 +14,5 @@ returns-in-Ok-clause-fits c = fits_of c.in-Ok.event (is_found c.args.bytes.now c
 
 pub returns-in-Err-Unspelled-clause-only : goal.returns-in-Err-Unspelled-clause-only
 returns-in-Err-Unspelled-clause-only c e good spelled =
-    let none : all_of c.args.bytes.now ≡ None = c.in-Err-Unspelled.ensures in
+    let none : all_of c.args.bytes.now ≡ None = rw c.in-Err-Unspelled.field-0-is at c.in-Err-Unspelled.ensures in
     sym none ∙ is_read c.args.bytes.now e good spelled
