@@ -1,6 +1,5 @@
 -- Each event is read as it is spelled, and from no other bytes.
-use Rattle.std.proofs.Common.{◌≡◌, ℕ, zero, suc, ◌<◌, ◌^◌, eqb, Bool, true, false, cond, List, [], ◌∷◌, ◌++◌, length, Option, Some, None, Result, Ok, Err, refl, sym, ap, subst, ◌∙◌}
-use Rattle.std.specs.Prelude.{IfOk, IfSome}
+use Rattle.std.proofs.Common.{◌≡◌, ℕ, zero, suc, eqb, Bool, true, false, cond, List, [], ◌∷◌, ◌++◌, length, Option, Some, None, refl, sym, ap, subst, ◌∙◌}
 use Rattle.std.specs.List.{All, AllByRecursion}
 use Rattle.std.proofs.lemmas.List.Elements.{All-from_recursion}
 use Rattle.std.proofs.lemmas.Bool.{eqb-true}
@@ -11,13 +10,12 @@ use Rattle.ov_event.specs.declared.event.Event.{Event}
 use Rattle.ov_event.specs.declared.event.Event.TheVariants.{Init, Commit, Plan, Copy, Flip, Drop, Base, Whole, Wide}
 use Rattle.ov_event.specs.declared.event.RawSchema.{RawSchema}
 use Rattle.ov_event.specs.declared.whole.RawPlan.{RawPlan}
-use Rattle.ov_event.specs.Fields.{fields, u8, u32, text, extent, counted, IsU32, IsText, IsExtent}
-use Rattle.ov_event.specs.Reading.{Reading, ◌>>=◌, Gives, u8_at, u32_at, text_at, extent_at, made_at}
-use Rattle.ov_event.specs.Records.{parents_at, place_at, dataset_at}
+use Rattle.ov_event.specs.Fields.{fields, u32, extent, IsU32, IsExtent}
+use Rattle.ov_event.specs.Reading.{Reading, made_at}
 use Rattle.ov_event.specs.Events.{init_at, tail_at, commit_at, wide_at, plan_at, copy_at, fields_at, event_at, all_of}
-use Rattle.ov_event.specs.Spelling.{parents, place, column, spelling, AreColumns, IsSchema, AreParents, IsPlaced, IsMaybePlan, IsEvent}
+use Rattle.ov_event.specs.Spelling.{parents, place, spelling, AreColumns, IsSchema, AreParents, IsPlaced, IsMaybePlan, IsEvent}
 use Rattle.ov_event.specs.Fitting.{ColumnFits, ColumnsFit, SchemaFits, TargetFits, VersionFits, PartFits, RawTargetFits, MaybePlanFits, Fits}
-use Rattle.ov_event.proofs.Formats.{IsBytes, IsBytes-rest, Takes, IsFormat, some_is, bind_some, u8_format, u32_format, text_format, end_format, and_then, making, counting}
+use Rattle.ov_event.proofs.Formats.{IsBytes, IsBytes-rest, Takes, IsFormat, some_is, bind_some, u32_format, text_format, end_format, and_then, making, counting}
 use Rattle.ov_event.proofs.Records.{extent_format, columns_format, schema_format, parents_format, place_format, target_format, dataset_format}
 
 -- the bytes of what a commit has behind its message and its columns

@@ -8,9 +8,8 @@ use Rattle.std.proofs.lemmas.List.{take_at, drop_at, take-append-drop, length-ap
 use Rattle.std.proofs.lemmas.List.Concat.{flat_map-cons}
 use Rattle.std.proofs.lemmas.Nat.{be_bytes_2, be_bytes_4, from_be_bytes-to_be_bytes_2, from_be_bytes-to_be_bytes_4}
 use Rattle.std.proofs.lemmas.Str.{IsUtf8-from_is_utf8, is_utf8-from_IsUtf8}
-use Rattle.ov_host.specs.declared.area.Extent.{Extent}
-use Rattle.ov_event.specs.Fields.{fields, u8, u16, u32, text, extent, counted, IsU8, IsU32, IsText, IsExtent, AreFew}
-use Rattle.ov_event.specs.Reading.{Reading, ◌>>=◌, u8_at, number_at, u16_at, u32_at, front_at, text_at, end_at, ◌then◌, made_at, items_at, counted_at, extent_at}
+use Rattle.ov_event.specs.Fields.{u8, u16, u32, text, counted, IsU8, IsU32, IsText, AreFew}
+use Rattle.ov_event.specs.Reading.{Reading, ◌>>=◌, u8_at, number_at, u16_at, u32_at, front_at, text_at, end_at, ◌then◌, made_at, items_at, counted_at}
 
 abbrev pub IsBytes : List ℕ → Type 0
 IsBytes bytes = (i : ℕ) → get_or bytes i 0 < 256

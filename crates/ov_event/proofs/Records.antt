@@ -1,14 +1,12 @@
 -- Each record of an event is read as it is spelled.
-use Rattle.std.proofs.Common.{◌≡◌, ℕ, zero, suc, ◌<◌, ◌^◌, List, [], ◌∷◌, ◌++◌, Option, Some, None, refl, sym, ap, subst, ◌∙◌}
-use Rattle.ov_host.specs.declared.area.Extent.{Extent}
-use Rattle.ov_value.specs.declared.column.Column.{Column}
+use Rattle.std.proofs.Common.{◌≡◌, ℕ, zero, suc, List, [], ◌∷◌, ◌++◌, Option, Some, None, refl, ap, subst}
 use Rattle.ov_value.specs.declared.column.Kind.{Kind}
 use Rattle.ov_value.specs.declared.column.Kind.TheVariants as kind
 use Rattle.ov_event.specs.declared.event.Placed.{Placed}
 use Rattle.ov_event.specs.declared.event.Placed.TheVariants.{Own, Join}
 use Rattle.ov_event.specs.declared.whole.RawPlan.{RawPlan}
-use Rattle.ov_event.specs.Fields.{u8, u16, u32, text, extent, counted, IsU8, IsU32, IsExtent, AreFew}
-use Rattle.ov_event.specs.Reading.{Reading, ◌>>=◌, u8_at, u16_at, u32_at, extent_at, counted_at, made_at}
+use Rattle.ov_event.specs.Fields.{u8, u32, extent, counted, IsU32, IsExtent, AreFew}
+use Rattle.ov_event.specs.Reading.{u32_at, extent_at, counted_at}
 use Rattle.ov_event.specs.Records.{kind_at, column_at, columns_at, schema_at, parent_at, parents_at, numbers_at, place_at, target_at, version_at, part_at, raw_target_at, raw_plan_at, maybe_plan_at, dataset_at}
 use Rattle.ov_event.specs.Spelling.{kind_code, column, schema, parent, parents, place, target, version, part, raw_target, raw_plan, maybe_plan, dataset, IsColumn, AreColumns, IsSchema, AreParents, IsPlaced, AreNumbers, IsTarget, IsVersion, IsPart, IsRawTarget, IsRawPlan, IsMaybePlan, IsDataset}
 use Rattle.ov_event.proofs.Formats.{IsBytes, IsBytes-rest, Takes, IsFormat, some_is, bind_some, u8_format, u16_format, u32_format, text_format, end_format, and_then, making, counting}

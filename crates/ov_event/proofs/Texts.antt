@@ -3,7 +3,7 @@ use Rattle.std.proofs.Common.{◌≡◌, ℕ, false, List, Some, None, refl, IsU
 use Rattle.std.specs.Str.{is_utf8}
 use Rattle.std.proofs.lemmas.Str.{IsUtf8-from_is_utf8, is_utf8-from_IsUtf8}
 use Rattle.std.proofs.lemmas.Bool.{false_from_ne_true}
-use Rattle.ov_event.specs.Reading.{◌>>=◌, u32_at, front_at, text_at}
+use Rattle.ov_event.specs.Reading.{u32_at, front_at, text_at}
 
 pub text_read : (bytes : List ℕ) (n : ℕ) (behind t rest : List ℕ) → u32_at bytes ≡ Some (n, behind) → front_at n behind ≡ Some (t, rest) → IsUtf8 t → text_at bytes ≡ Some (t, rest)
 unfolding text_at

@@ -1,9 +1,7 @@
 -- Which fields each event is read from.
-use Rattle.std.specs.Prelude.{ℕ, zero, suc, List, [], ◌∷◌, length, Option, Some, None, ◌==◌, if◌then◌else◌}
-use Rattle.ov_host.specs.declared.area.Extent.{Extent}
+use Rattle.std.specs.Prelude.{ℕ, zero, suc, List, length, Option, Some, None, ◌==◌, if◌then◌else◌}
 use Rattle.ov_event.specs.declared.event.Event.{Event}
 use Rattle.ov_event.specs.declared.event.Event.TheVariants.{Init, Commit, Plan, Copy, Flip, Drop, Base, Whole, Wide}
-use Rattle.ov_event.specs.declared.event.Placed.{Placed}
 use Rattle.ov_event.specs.declared.commit.Tail.{Tail}
 use Rattle.ov_event.specs.Reading.{Reading, ◌>>=◌, u8_at, u32_at, text_at, extent_at, counted_at, ◌then◌, end_at, made_at}
 use Rattle.ov_event.specs.Records.{columns_at, schema_at, parents_at, place_at, target_at, dataset_at}

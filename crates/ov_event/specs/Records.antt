@@ -12,7 +12,7 @@ use Rattle.ov_event.specs.declared.whole.RawPlan.{RawPlan}
 use Rattle.ov_event.specs.declared.whole.RawTarget.{RawTarget}
 use Rattle.ov_event.specs.declared.whole.RawVersion.{RawVersion}
 use Rattle.ov_event.specs.declared.whole.Whole.{Whole as Dataset}
-use Rattle.ov_event.specs.Reading.{Reading, ◌>>=◌, u8_at, u16_at, u32_at, text_at, extent_at, counted_at, ◌then◌, end_at, made_at}
+use Rattle.ov_event.specs.Reading.{Reading, u8_at, u16_at, u32_at, text_at, extent_at, counted_at, ◌then◌, end_at, made_at}
 
 unfoldable pub kind_at : Reading Kind
 kind_at [] = None

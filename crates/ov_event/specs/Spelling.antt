@@ -1,5 +1,5 @@
 -- The one spelling of each event: its tag, and then its fields.
-use Rattle.std.specs.Prelude.{◌≡◌, ℕ, List, [], ◌∷◌, ◌++◌, Option, Some, None}
+use Rattle.std.specs.Prelude.{ℕ, List, [], ◌∷◌, ◌++◌, Option, Some, None}
 use Rattle.ov_value.specs.declared.column.Column.{Column}
 use Rattle.ov_value.specs.declared.column.Kind.{Kind}
 use Rattle.ov_value.specs.declared.column.Kind.TheVariants as kind

@@ -1,4 +1,3 @@
-use Rattle.std.proofs.Common.{ap, ◌∙◌}
 use Rattle.std.proofs.lemmas.Result.{err_from_is_err_and}
 use Rattle.ov_event.specs.Reading.{items_at}
 use Rattle.ov_event.proofs.Loop.{goes_on, ends, is_done}

@@ -1,4 +1,4 @@
-use Rattle.std.proofs.Common.{◌≡◌, ◌∙◌, sym, Some, None, arith}
+use Rattle.std.proofs.Common.{◌≡◌, ◌∙◌, sym, None, arith}
 use Rattle.ov_event.specs.Events.{all_of}
 use Rattle.ov_event.proofs.Events.{is_found, is_read, fits_of}
 use Rattle.ov_event.proofs.reading.read_event.Goals as goal

@@ -1,4 +1,3 @@
-use Rattle.std.proofs.Common.{◌∙◌, ap, Some}
 use Rattle.ov_event.proofs.Texts.{text_read, no_text}
 use Rattle.ov_event.proofs.field.TxtField.read.Goals as goal
 
