@@ -29,7 +29,13 @@ tail_format : IsFormat tail_at tail IsTail
 unfolding tail_at
 tail_format =
     making (λ t. record {
-      parents = t.0; rows = t.1.0; fresh = t.1.1.0; place = t.1.1.1.0; added = t.1.1.1.1.0; list = t.1.1.1.1.1.0; segment = t.1.1.1.1.1.1.0;
+      parents = t.0;
+      rows = t.1.0;
+      fresh = t.1.1.0;
+      place = t.1.1.1.0;
+      added = t.1.1.1.1.0;
+      list = t.1.1.1.1.1.0;
+      segment = t.1.1.1.1.1.1.0;
     })
     (λ b. (b.parents, (b.rows, (b.fresh, (b.place, (b.added, (b.list, (b.segment, tt))))))))
     (λ b. refl) (λ x. refl)
@@ -52,7 +58,6 @@ takes_event {A} {a} {s} {P} f make tag spelled good bytes x fits e =
 
 made_again : {A : Type 0} {a : Reading A} {s : A → List ℕ} {P : A → Type 0} → IsFormat a s P → (make : A → Event) (t : A) (rest : List ℕ) → P t → made_at make a (s t ++ rest) ≡ Some (make t, rest)
 made_again f make t rest h = rw (f.again t rest h) refl
-
 
 fields_take : (tag : ℕ) (bytes : List ℕ) (x : Event × List ℕ) → IsBytes bytes → fields_at tag bytes ≡ Some x → Takes spelling IsEvent (tag ∷ bytes) x
 unfolding fields_at init_at commit_at plan_at copy_at wide_at spelling IsEvent

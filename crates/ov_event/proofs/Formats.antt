@@ -160,18 +160,18 @@ pub and_then : {A B : Type 0} {a : Reading A} {s : A → List ℕ} {P : A → Ty
     → IsFormat a s P → IsFormat b t Q → IsFormat (a then b) (λ p. s p.0 ++ t p.1) (λ p. P p.0 × Q p.1)
 and_then {A} {B} {a} {s} {P} {b} {t} {Q} f g = record {
   takes = λ bytes x fits e.
-    let c = bind_some (a bytes) (λ y. b y.1 >>= λ z. Some ((y.0, z.0), z.1)) x e in
-    let d = bind_some (b c.0.1) (λ z. Some ((c.0.0, z.0), z.1)) x c.2 in
-    let first = f.takes bytes c.0 fits c.1 in
-    let second = g.takes c.0.1 d.0 first.rest_fits d.1 in
-    let is : ((c.0.0, d.0.0), d.0.1) ≡ x = some_is ((c.0.0, d.0.0), d.0.1) x d.2 in
-    subst (Takes (λ p. s p.0 ++ t p.1) (λ p. P p.0 × Q p.1) bytes) is (record {
-      parts = first.parts ∙ ap (λ (r : List ℕ). s c.0.0 ++ r) second.parts ∙ sym (append_assoc (s c.0.0) (t d.0.0) d.0.1);
-      good = (first.good, second.good);
-      rest_fits = second.rest_fits;
-    });
+      let c = bind_some (a bytes) (λ y. b y.1 >>= λ z. Some ((y.0, z.0), z.1)) x e in
+      let d = bind_some (b c.0.1) (λ z. Some ((c.0.0, z.0), z.1)) x c.2 in
+      let first = f.takes bytes c.0 fits c.1 in
+      let second = g.takes c.0.1 d.0 first.rest_fits d.1 in
+      let is : ((c.0.0, d.0.0), d.0.1) ≡ x = some_is ((c.0.0, d.0.0), d.0.1) x d.2 in
+      subst (Takes (λ p. s p.0 ++ t p.1) (λ p. P p.0 × Q p.1) bytes) is (record {
+        parts = first.parts ∙ ap (λ (r : List ℕ). s c.0.0 ++ r) second.parts ∙ sym (append_assoc (s c.0.0) (t d.0.0) d.0.1);
+        good = (first.good, second.good);
+        rest_fits = second.rest_fits;
+      });
   again = λ p rest h.
-    ap (a then b) (append_assoc (s p.0) (t p.1) rest) ∙ rw (f.again p.0 (t p.1 ++ rest) h.0, g.again p.1 rest h.1) refl;
+      ap (a then b) (append_assoc (s p.0) (t p.1) rest) ∙ rw (f.again p.0 (t p.1 ++ rest) h.0, g.again p.1 rest h.1) refl;
 }
 
 -- what is made of fields, and gives them back
@@ -180,15 +180,15 @@ pub making : {A B : Type 0} {a : Reading A} {s : A → List ℕ} {P : A → Type
     → IsFormat a s P → IsFormat (made_at make a) (λ b. s (back b)) Q
 making {A} {B} {a} {s} {P} make back {Q} there here good bad f = record {
   takes = λ bytes x fits e.
-    let c = bind_some (a bytes) (λ y. Some (make y.0, y.1)) x e in
-    let first = f.takes bytes c.0 fits c.1 in
-    let is : (make c.0.0, c.0.1) ≡ x = some_is (make c.0.0, c.0.1) x c.2 in
-    let same : c.0.0 ≡ back (make c.0.0) = sym (here c.0.0) in
-    subst (Takes (λ b. s (back b)) Q bytes) is (record {
-      parts = first.parts ∙ ap (λ (y : A). s y ++ c.0.1) same;
-      good = good (make c.0.0) (subst P same first.good);
-      rest_fits = first.rest_fits;
-    });
+      let c = bind_some (a bytes) (λ y. Some (make y.0, y.1)) x e in
+      let first = f.takes bytes c.0 fits c.1 in
+      let is : (make c.0.0, c.0.1) ≡ x = some_is (make c.0.0, c.0.1) x c.2 in
+      let same : c.0.0 ≡ back (make c.0.0) = sym (here c.0.0) in
+      subst (Takes (λ b. s (back b)) Q bytes) is (record {
+        parts = first.parts ∙ ap (λ (y : A). s y ++ c.0.1) same;
+        good = good (make c.0.0) (subst P same first.good);
+        rest_fits = first.rest_fits;
+      });
   again = λ b rest h. rw (f.again (back b) rest (bad b h), there b) refl;
 }
 
@@ -228,14 +228,14 @@ pub counting : {A : Type 0} {count : Reading ℕ} {number : ℕ → List ℕ} (b
 unfolding counted_at counted
 counting {A} {count} {number} bits {a} {s} {P} f g = record {
   takes = λ bytes x fits e.
-    let c = bind_some (count bytes) (λ n. items_at a n.0 n.1) x e in
-    let first = f.takes bytes c.0 fits c.1 in
-    let items = items_take g c.0.0 c.0.1 x first.rest_fits c.2 in
-    record {
-      parts = rw items.len (first.parts ∙ ap (λ (r : List ℕ). number c.0.0 ++ r) items.parts ∙ sym (append_assoc (number c.0.0) (flat_map s x.0) x.1));
-      good = (rw items.len first.good, items.good);
-      rest_fits = items.rest_fits;
-    };
+      let c = bind_some (count bytes) (λ n. items_at a n.0 n.1) x e in
+      let first = f.takes bytes c.0 fits c.1 in
+      let items = items_take g c.0.0 c.0.1 x first.rest_fits c.2 in
+      record {
+        parts = rw items.len (first.parts ∙ ap (λ (r : List ℕ). number c.0.0 ++ r) items.parts ∙ sym (append_assoc (number c.0.0) (flat_map s x.0) x.1));
+        good = (rw items.len first.good, items.good);
+        rest_fits = items.rest_fits;
+      };
   again = λ xs rest h.
-    rw (append_assoc (number (length xs)) (flat_map s xs) rest, f.again (length xs) (flat_map s xs ++ rest) h.0) (items_again g xs rest h.1);
+      rw (append_assoc (number (length xs)) (flat_map s xs) rest, f.again (length xs) (flat_map s xs ++ rest) h.0) (items_again g xs rest h.1);
 }

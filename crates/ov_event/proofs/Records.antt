@@ -144,14 +144,30 @@ pub dataset_format : IsFormat dataset_at dataset IsDataset
 unfolding dataset_at dataset
 dataset_format =
     making (λ t. record {
-      number = t.0; name = t.1.0; schema = t.1.1.0; records = t.1.1.1.0; p = t.1.1.1.1.0; q = t.1.1.1.1.1.0; next = t.1.1.1.1.1.1.0;
-      versions = t.1.1.1.1.1.1.1.0; parts = t.1.1.1.1.1.1.1.1.0; plan = t.1.1.1.1.1.1.1.1.1.0;
+      number = t.0;
+      name = t.1.0;
+      schema = t.1.1.0;
+      records = t.1.1.1.0;
+      p = t.1.1.1.1.0;
+      q = t.1.1.1.1.1.0;
+      next = t.1.1.1.1.1.1.0;
+      versions = t.1.1.1.1.1.1.1.0;
+      parts = t.1.1.1.1.1.1.1.1.0;
+      plan = t.1.1.1.1.1.1.1.1.1.0;
     })
     (λ b. (b.number, (b.name, (b.schema, (b.records, (b.p, (b.q, (b.next, (b.versions, (b.parts, (b.plan, tt)))))))))))
     (λ b. refl) (λ x. refl)
     (λ b h. record {
-      number = h.0; name = h.1.0; schema = h.1.1.0; records = h.1.1.1.0; p = h.1.1.1.1.0; q = h.1.1.1.1.1.0; next = h.1.1.1.1.1.1.0;
-      versions = h.1.1.1.1.1.1.1.0; parts = h.1.1.1.1.1.1.1.1.0; plan = h.1.1.1.1.1.1.1.1.1.0;
+      number = h.0;
+      name = h.1.0;
+      schema = h.1.1.0;
+      records = h.1.1.1.0;
+      p = h.1.1.1.1.0;
+      q = h.1.1.1.1.1.0;
+      next = h.1.1.1.1.1.1.0;
+      versions = h.1.1.1.1.1.1.1.0;
+      parts = h.1.1.1.1.1.1.1.1.0;
+      plan = h.1.1.1.1.1.1.1.1.1.0;
     })
     (λ b h. (h.number, (h.name, (h.schema, (h.records, (h.p, (h.q, (h.next, (h.versions, (h.parts, (h.plan, tt)))))))))))
     (and_then u32_format (and_then text_format (and_then schema_format (and_then u32_format (and_then u32_format (and_then u32_format (and_then u32_format

@@ -15,7 +15,13 @@ init_at =
 unfoldable pub tail_at : Reading Tail
 tail_at =
     made_at (λ t. record {
-      parents = t.0; rows = t.1.0; fresh = t.1.1.0; place = t.1.1.1.0; added = t.1.1.1.1.0; list = t.1.1.1.1.1.0; segment = t.1.1.1.1.1.1.0;
+      parents = t.0;
+      rows = t.1.0;
+      fresh = t.1.1.0;
+      place = t.1.1.1.0;
+      added = t.1.1.1.1.0;
+      list = t.1.1.1.1.1.0;
+      segment = t.1.1.1.1.1.1.0;
     })
     (parents_at then u32_at then u32_at then place_at then u32_at then extent_at then extent_at then end_at)
 

@@ -80,8 +80,16 @@ maybe_plan_at (suc (suc n) ∷ bytes) = None
 unfoldable pub dataset_at : Reading Dataset
 dataset_at =
     made_at (λ t. record {
-      number = t.0; name = t.1.0; schema = t.1.1.0; records = t.1.1.1.0; p = t.1.1.1.1.0; q = t.1.1.1.1.1.0; next = t.1.1.1.1.1.1.0;
-      versions = t.1.1.1.1.1.1.1.0; parts = t.1.1.1.1.1.1.1.1.0; plan = t.1.1.1.1.1.1.1.1.1.0;
+      number = t.0;
+      name = t.1.0;
+      schema = t.1.1.0;
+      records = t.1.1.1.0;
+      p = t.1.1.1.1.0;
+      q = t.1.1.1.1.1.0;
+      next = t.1.1.1.1.1.1.0;
+      versions = t.1.1.1.1.1.1.1.0;
+      parts = t.1.1.1.1.1.1.1.1.0;
+      plan = t.1.1.1.1.1.1.1.1.1.0;
     })
     (u32_at then text_at then schema_at then u32_at then u32_at then u32_at then u32_at
     then counted_at u32_at version_at then counted_at u32_at part_at then maybe_plan_at then end_at)

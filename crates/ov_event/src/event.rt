@@ -67,11 +67,17 @@ pub enum Event {
         segment: Extent,
     },
     /// The migration's partitions take the place of the old ones.
-    Flip { cvd: u32 },
+    Flip {
+        cvd: u32,
+    },
     /// The dataset is gone.
-    Drop { cvd: u32 },
+    Drop {
+        cvd: u32,
+    },
     /// The next dataset gets this number.
-    Base { next: u32 },
+    Base {
+        next: u32,
+    },
     /// A dataset as it stands.
     Whole(Whole),
     /// A version is committed that adds columns at the right.

@@ -7,7 +7,6 @@ ghost use Rattle.ov_event.specs.Spelling.{parent};
 ghost use Rattle.ov_event.specs.Records.{parent_at};
 ghost use Rattle.ov_event.specs.Reading.{Gives, u8_at, u16_at, u32_at, text_at, front_at, extent_at};
 
-
 use crate::stop::Stop;
 use ov_host::Extent;
 use ov_value::Txt;

@@ -59,10 +59,7 @@ impl<T: Field> Field for Items<T> {
 
 /// Items behind their number in one byte.
 #[tactic(auto, unfolding(crate::specs::Reading::counted_at))]
-pub(crate) fn few_of<T: Field>(
-    alloc: Global,
-    bytes: &[u8],
-) -> Result<(Items<T>, &[u8]), Stop>
+pub(crate) fn few_of<T: Field>(alloc: Global, bytes: &[u8]) -> Result<(Items<T>, &[u8]), Stop>
     ensures { Gives (λ x. (x.0, x.1.now)) result (counted_at u8_at T.at bytes.now) }
 {
     let (count, rest) = u8::read(alloc, bytes)?;
@@ -92,10 +89,7 @@ fn u16_of(bytes: &[u8]) -> Result<(u16, &[u8]), Stop>
 
 /// Parents and their weights, behind their number in two bytes.
 #[tactic(auto, unfolding(crate::specs::Reading::counted_at))]
-pub(crate) fn parents_of(
-    alloc: Global,
-    bytes: &[u8],
-) -> Result<(Items<(u32, u32)>, &[u8]), Stop>
+pub(crate) fn parents_of(alloc: Global, bytes: &[u8]) -> Result<(Items<(u32, u32)>, &[u8]), Stop>
     ensures { Gives (λ x. (x.0, x.1.now)) result (parents_at bytes.now) }
 {
     let (count, rest) = u16_of(bytes)?;

@@ -111,10 +111,7 @@ impl Field for RawPlan {
 
 /// A migration behind a 1, or none behind a 0.
 #[tactic(auto, unfolding(crate::specs::Records::maybe_plan_at))]
-pub(crate) fn maybe_plan_of(
-    alloc: Global,
-    bytes: &[u8],
-) -> Result<(Option<RawPlan>, &[u8]), Stop>
+pub(crate) fn maybe_plan_of(alloc: Global, bytes: &[u8]) -> Result<(Option<RawPlan>, &[u8]), Stop>
     ensures { Gives (λ x. (x.0, x.1.now)) result (maybe_plan_at bytes.now) }
 {
     match bytes {

@@ -111,12 +111,7 @@ fn plan_of(alloc: Global, bytes: &[u8]) -> Result<(Event, &[u8]), Stop>
     let (p, rest) = u32::read(alloc, rest)?;
     let (q, rest) = u32::read(alloc, rest)?;
     let (targets, rest) = Items::read(alloc, rest)?;
-    let event = Event::Plan {
-        cvd,
-        p,
-        q,
-        targets,
-    };
+    let event = Event::Plan { cvd, p, q, targets };
     Ok((event, rest))
 }
 

@@ -3,7 +3,7 @@
 use super::*;
 use ov_host::Extent;
 use ov_value::Kind;
-use std::alloc::Global;
+use std::alloc::{AllocError, Global};
 use std::test::Fail;
 
 const INIT: &[u8] = b"\x01\0\0\0\x06people\
@@ -19,8 +19,11 @@ const PLAN: &[u8] = b"\x03\0\0\0\x01\0\0\0\x05\0\0\0\x02\0\0\0\x02\
     \0\0\0\x04\0\0\0\0\0\0\0\0\0\0\0\0";
 
 const COPY: &[u8] = b"\x04\0\0\0\x01\0\0\0\x03\0\0\0\x05\0\0\0\x60";
+
 const FLIP: &[u8] = b"\x05\0\0\x01\x02";
+
 const DROP: &[u8] = b"\x06\x80\0\0\0";
+
 const BASE: &[u8] = b"\x07\0\0\0\x03";
 
 const WHOLE: &[u8] = b"\x08\0\0\0\x01\0\0\0\x01d\x01\0\0\0\x01k\x03\x01\0\
@@ -36,38 +39,56 @@ const WIDE: &[u8] = b"\x09\0\0\0\x01\0\0\0\x02\0\0\0\0\
 
 const EVENTS: [&[u8]; 9] = [INIT, COMMIT, PLAN, COPY, FLIP, DROP, BASE, WHOLE, WIDE];
 
-// That the bytes spell an event which has these bytes; one byte less and one more spell nothing.
-fn both_ways(alloc: Global, bytes: &[u8]) -> Result<(), Fail> {
-    let event = read_event(alloc, bytes)?.ok_or("the bytes are an event")?;
-    if bytes_of(alloc, &event)?.as_slice() != bytes {
-        return Err(Fail::from("what is read has other bytes"));
+// Whether the bytes spell an event which has these bytes.
+fn come_back(alloc: Global, bytes: &[u8]) -> Result<bool, AllocError> {
+    match read_event(alloc, bytes)? {
+        None => Ok(false),
+        Some(event) => {
+            let again = bytes_of(alloc, &event)?;
+            Ok(again.as_slice() == bytes)
+        }
     }
+}
+
+fn spell_none(alloc: Global, bytes: &[u8]) -> Result<bool, AllocError> {
+    Ok(read_event(alloc, bytes)?.is_none())
+}
+
+fn with_one_more(alloc: Global, bytes: &[u8]) -> Result<Vec<u8>, AllocError> {
     let mut longer = Vec::from_slice(alloc, bytes)?;
     longer.push(0)?;
-    let shorter = bytes.split_last().ok_or("an event has bytes")?.1;
-    if read_event(alloc, longer.as_slice())?.is_some() || read_event(alloc, shorter)?.is_some() {
-        return Err(Fail::from("other bytes spell an event too"));
+    Ok(longer)
+}
+
+fn with_one_less(bytes: &[u8]) -> &[u8] {
+    match bytes.split_last() {
+        None => bytes,
+        Some((_, front)) => front,
     }
-    Ok(())
 }
 
 #[test]
 fn each_event_both_ways(rt: HostRuntime) -> Result<(), Fail> {
     for bytes in EVENTS {
-        both_ways(rt.alloc(), bytes)?;
+        assert!(rt; come_back(rt.alloc(), bytes)?);
+        let longer = with_one_more(rt.alloc(), bytes)?;
+        assert!(rt; spell_none(rt.alloc(), longer.as_slice())?);
+        assert!(rt; spell_none(rt.alloc(), with_one_less(bytes))?);
     }
     Ok(())
 }
 
 #[test]
 fn the_worked_example(rt: HostRuntime) -> Result<(), Fail> {
-    let Some(Event::Init {
-        name,
-        schema,
-        rows,
-        list,
-        segment,
-    }) = read_event(rt.alloc(), INIT)?
+    let Some(
+        Event::Init {
+            name,
+            schema,
+            rows,
+            list,
+            segment,
+        },
+    ) = read_event(rt.alloc(), INIT)?
     else {
         return Err(Fail::from("an Init"));
     };
@@ -93,18 +114,20 @@ fn the_worked_example(rt: HostRuntime) -> Result<(), Fail> {
 
 #[test]
 fn a_commit_has_these_fields(rt: HostRuntime) -> Result<(), Fail> {
-    let Some(Event::Commit {
-        cvd,
-        vid,
-        message,
-        parents,
-        rows,
-        fresh,
-        place,
-        added,
-        list,
-        segment,
-    }) = read_event(rt.alloc(), COMMIT)?
+    let Some(
+        Event::Commit {
+            cvd,
+            vid,
+            message,
+            parents,
+            rows,
+            fresh,
+            place,
+            added,
+            list,
+            segment,
+        },
+    ) = read_event(rt.alloc(), COMMIT)?
     else {
         return Err(Fail::from("a Commit"));
     };
@@ -123,12 +146,27 @@ fn off_the_grammar(rt: HostRuntime) -> Result<(), Fail> {
         ("nothing", b""),
         ("tag 0", b"\0\0\0\0\x01"),
         ("tag 10", b"\x0a\0\0\0\x01"),
-        ("no UTF-8", b"\x01\0\0\0\x01\xff\0\0\0\0\0\x02\0\0\0\0\0\0\0\x08\0\0\0\x01\0\0\0\x3e"),
-        ("kind 0", b"\x01\0\0\0\x01a\x01\0\0\0\x01a\0\0\0\0\0\x02\0\0\0\0\0\0\0\x08\0\0\0\x01\0\0\0\x3e"),
-        ("kind 4", b"\x01\0\0\0\x01a\x01\0\0\0\x01a\x04\0\0\0\0\x02\0\0\0\0\0\0\0\x08\0\0\0\x01\0\0\0\x3e"),
-        ("place 2", b"\x02\0\0\0\x01\0\0\0\x02\0\0\0\0\0\0\0\0\0\x09\0\0\0\x03\x02\0\0\0\x04\0\0\0\x07\0\0\0\x02\0\0\0\x10\0\0\0\x03\0\0\0\x20"),
+        (
+            "no UTF-8",
+            b"\x01\0\0\0\x01\xff\0\0\0\0\0\x02\0\0\0\0\0\0\0\x08\0\0\0\x01\0\0\0\x3e",
+        ),
+        (
+            "kind 0",
+            b"\x01\0\0\0\x01a\x01\0\0\0\x01a\0\0\0\0\0\x02\0\0\0\0\0\0\0\x08\0\0\0\x01\0\0\0\x3e",
+        ),
+        (
+            "kind 4",
+            b"\x01\0\0\0\x01a\x01\0\0\0\x01a\x04\0\0\0\0\x02\0\0\0\0\0\0\0\x08\0\0\0\x01\0\0\0\x3e",
+        ),
+        (
+            "place 2",
+            b"\x02\0\0\0\x01\0\0\0\x02\0\0\0\0\0\0\0\0\0\x09\0\0\0\x03\x02\0\0\0\x04\0\0\0\x07\0\0\0\x02\0\0\0\x10\0\0\0\x03\0\0\0\x20",
+        ),
         ("a text past the end", b"\x01\xff\xff\xff\xffa"),
-        ("targets past the end", b"\x03\0\0\0\x01\0\0\0\x05\0\0\0\x02\xff\xff\xff\xff"),
+        (
+            "targets past the end",
+            b"\x03\0\0\0\x01\0\0\0\x05\0\0\0\x02\xff\xff\xff\xff",
+        ),
     ];
     for (what, bytes) in cases {
         assert!(rt; read_event(rt.alloc(), bytes)?.is_none(), "{what}");
