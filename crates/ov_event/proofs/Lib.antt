@@ -1,0 +1,5 @@
+pub mod Events
+pub mod Formats
+pub mod Loop
+pub mod Records
+pub mod Texts

@@ -1,0 +1,26 @@
+//! The events of the journal, and the bytes of each: one spelling for each event.
+#![tactic(auto)]
+
+mod commit;
+mod dataset;
+mod event;
+mod field;
+mod items;
+mod laws;
+mod list;
+mod plan;
+mod reading;
+mod schema;
+mod stop;
+mod whole;
+mod writing;
+
+pub use event::{Event, Placed, PlanTarget, RawSchema};
+pub use items::Items;
+pub use laws::one_event;
+pub use reading::read_event;
+pub use whole::{RawPart, RawPlan, RawTarget, RawVersion, Whole};
+pub use writing::bytes_of;
+
+#[cfg(test)]
+mod tests;
