@@ -45,4 +45,6 @@ pub fn run_fresh(
 }
 
 #[cfg(test)]
+mod journal_tests;
+#[cfg(test)]
 mod tests;
