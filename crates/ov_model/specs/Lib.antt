@@ -1,4 +1,15 @@
+pub mod Act
 pub mod Book
+pub mod Course
+pub mod Csv
+pub mod Forms
+pub mod Line
 pub mod Lists
 pub mod Merge
+pub mod Moves
 pub mod Records
+pub mod Replies
+pub mod Steps
+pub mod Values
+pub mod Words
+pub mod World

@@ -1,7 +1,12 @@
 -- Members of lists.
 use Rattle.std.specs.Prelude.{◌≡◌, ◌⊎◌, List, [], ◌∷◌}
+use Rattle.std.specs.List.{flat_map}
 use Rattle.std.specs.declared.cmp.Ordering.{Ordering}
 use Rattle.std.specs.declared.cmp.Ordering.TheVariants.{Less}
+
+-- these lists, one after another
+abbrev pub joined : {X : Type 0} → List (List X) → List X
+joined lists = flat_map (λ xs. xs) lists
 
 -- it is one of these
 abbrev pub IsIn : {X : Type 0} → List X → X → Type 0

@@ -1,0 +1,19 @@
+//! What a query answers.
+
+use crate::seq::Seq;
+use ov_value::{Kind, Value};
+
+/// A cell of an answer: a value, a sum or number, or nothing, which the sum, the least and the greatest of no values are.
+#[derive(Debug, Drop)]
+pub enum Cell {
+    Value(Value),
+    Sum(i128),
+    Nothing,
+}
+
+/// The kind of each column, and the rows.
+#[derive(Debug, Drop)]
+pub struct Answer {
+    pub kinds: Seq<Kind>,
+    pub rows: Seq<Seq<Cell>>,
+}

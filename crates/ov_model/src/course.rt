@@ -1,0 +1,50 @@
+// Laws of a whole run.
+ghost use Rattle.std.specs.Prelude.{◌≡◌, ◌≤◌, ◌+◌, ℕ, List, [], ◌∷◌, ◌++◌, length, slice_get, Some};
+ghost use Rattle.ov_model.specs.Act.{Session};
+ghost use Rattle.ov_model.specs.Course.{Item, Space, Served, SaysSome, after, course, due, moves_of, play, world_after, world_at};
+ghost use Rattle.ov_model.specs.Moves.{Move, moved};
+ghost use Rattle.ov_model.specs.Words.{lines_of};
+ghost use Rattle.ov_model.specs.World.{World, AllBegun, empty_world};
+
+/// The course of a script's lines is that of the first of them and then that of the others, from the World and the session
+/// that the first ones leave, with the space that they leave. So is the play.
+pub fn a_course_goes_on()
+    ensures course { (steps : ℕ) (w : World) (s : Session) (a b : List (List ℕ)) (space : Space)
+        → course steps w s (a ++ b) space
+        ≡ after (course steps w s a space).items
+        (course steps (course steps w s a space).world (course steps w s a space).session b (course steps w s a space).left) }
+    ensures play { (a b : List Item) → play (a ++ b) ≡ play a ++ play b }
+{}
+
+/// A text of whole lines, each ended by a line feed, and then more: its lines are those of both.
+pub fn whole_lines_stand_alone()
+    ensures { (a b : List ℕ) → lines_of ((a ++ 10 ∷ []) ++ b) ≡ lines_of (a ++ 10 ∷ []) ++ lines_of b }
+{}
+
+/// The World after a course is the one after its moves.
+pub fn a_course_ends_at_its_moves()
+    ensures { (steps : ℕ) (w : World) (s : Session) (lines : List (List ℕ)) (space : Space)
+        → (course steps w s lines space).world ≡ world_after w (course steps w s lines space).items }
+{}
+
+/// `World(k + 1)` is one move after `World(k)`, and the last of them is the World after all.
+pub fn worlds_are_one_move_apart()
+    ensures next { (w : World) (items : List Item) (k : ℕ) (m : Move) → slice_get (moves_of items) k ≡ Some m
+        → world_at w items (k + 1) ≡ moved m (world_at w items k) }
+    ensures last { (w : World) (items : List Item) → world_at w items (length (moves_of items)) ≡ world_after w items }
+{}
+
+/// What is due before a reply is due before the next one.
+pub fn due_never_falls()
+    ensures next { (j : ℕ) (items : List Item) → due j items ≤ due (j + 1) items }
+    ensures all { (j : ℕ) (items : List Item) → due j items ≤ length (moves_of items) }
+{}
+
+/// No reply of a run from an empty store is empty, nor one of a run from a World whose datasets each have a version, as all
+/// have.
+pub fn no_reply_of_a_run_is_empty()
+    ensures says { (steps : ℕ) (w : World) (s : Session) (lines : List (List ℕ)) (space : Space) → AllBegun w.sets
+        → SaysSome (course steps w s lines space).items }
+    ensures start { AllBegun empty_world.sets }
+    ensures kept { (w : World) (m : Move) → AllBegun w.sets → AllBegun (moved m w).sets }
+{}
