@@ -1,6 +1,9 @@
 pub mod Courses
 pub mod Growing
+pub mod Lines
 pub mod Merging
 pub mod Origins
 pub mod Own
 pub mod Replying
+pub mod Rids
+pub mod Worked

@@ -1,29 +1,26 @@
 -- No reply is empty.
-use Rattle.std.proofs.Common.{◌≡◌, ◌<◌, ◌+◌, ℕ, zero, suc, Bool, true, false, List, [], ◌∷◌, ◌++◌, length, map, filter, refl, sym, ◌∙◌, ap, subst, inl, inr, arith}
+use Rattle.std.proofs.Common.{◌≡◌, ◌<◌, ◌+◌, ℕ, zero, suc, Bool, true, false, List, [], ◌∷◌, ◌++◌, length, filter, refl, subst, arith}
 use Rattle.std.specs.Prelude.{◌≢◌, Option, Some, None, Result, Ok, Err, if◌then◌else◌, not, ◌==◌}
-use Rattle.std.specs.FinMap.{get}
-use Rattle.std.specs.List.{flat_map, concat}
+use Rattle.std.specs.List.{concat}
 use Rattle.std.proofs.lemmas.List.{length-append}
-use Rattle.std.proofs.lemmas.Bool.{cases_Bool}
 use Rattle.csv.specs.Writing.{default_writer, row_text, row_body, is_blank}
 use Rattle.ov_value.specs.declared.column.Column.{Column}
 use Rattle.ov_value.specs.declared.schema_err.SchemaErr.{SchemaErr}
 use Rattle.ov_value.specs.Shapes.{Shape, names}
-use Rattle.ov_model.specs.Act.{Session, Deed, tells, refuses, does, unless, with_rows, with_file, from_file, rows_refusal, init_refusal, init_deed, gives, merge_of, vids_refusal, checkout_deed, records_refusal, fresh_of, commit_rows, schema_with, commit_under, commit_refusal, commit_deed, columns_of, log_deed, log_lines, ls_line, drop_deed, deed}
+use Rattle.ov_model.specs.Act.{Session, Deed, does, unless, with_rows, with_file, rows_refusal, init_refusal, gives, merge_of, vids_refusal, checkout_deed, records_refusal, fresh_of, commit_rows, schema_with, commit_under, commit_refusal, commit_deed, columns_of, log_deed, log_lines, drop_deed, deed}
 use Rattle.ov_model.specs.Book.{Row, Version, Cvd}
-use Rattle.ov_model.specs.Course.{Item, Makes, Says, Room, Enough, NoRun, Full, Space, first, rest, Served, SaysSome, nothing, after, replied, attempt, attempts, try_step, step_by, steps, steps_then, and_steps, line_served, served, course}
-use Rattle.ov_model.specs.Csv.{text_of, rows_of, fields_of}
-use Rattle.ov_model.specs.Forms.{built_forms, schema_refusal}
+use Rattle.ov_model.specs.Course.{Item, Makes, Says, Room, Enough, NoRun, Full, Space, first, rest, Served, SaysSome, after, replied, attempt, attempts, try_step, step_by, steps, steps_then, and_steps, line_served, served, course}
+use Rattle.ov_model.specs.Csv.{text_of, rows_of}
+use Rattle.ov_model.specs.Forms.{built_forms}
 use Rattle.ov_model.specs.Line.{Line, Comment, Asks, Refused, line_of}
 use Rattle.ov_model.specs.Moves.{Move, Init, Commit, Drop, moved, change, numbered, committed, with_version, version_of, wide}
-use Rattle.ov_model.specs.Replies.{line, reply_text, has_text, log_line, budget_lines, optimize_line}
+use Rattle.ov_model.specs.Replies.{line, reply_text, has_text, log_line, budget_lines}
 use Rattle.ov_model.specs.Steps.{next_step}
 use Rattle.ov_model.specs.World.{Dataset, World, AllBegun, set_named, first_set, named}
 use Rattle.ov_model.specs.declared.command.Command.{Command}
 use Rattle.ov_model.specs.declared.command.Command.TheVariants as asks
 use Rattle.ov_model.specs.declared.refusal.Refusal.{Refusal}
 use Rattle.ov_model.specs.declared.refusal.Refusal.TheVariants as no
-use Rattle.ov_model.specs.declared.reply.LogLine.{LogLine}
 use Rattle.ov_model.specs.declared.reply.Reply.{Reply}
 use Rattle.ov_model.specs.declared.reply.Reply.TheVariants as says
 
@@ -106,7 +103,7 @@ checkout_texted s vids file name (Some d) = unless_texted s (vids_refusal (lengt
 under_texted : (w : World) (s : Session) (d : Dataset) (parents message : List ℕ) (added : List Column) (file : List ℕ) (schema : Result Shape SchemaErr) → Texted (commit_under w s d parents message added file schema)
 under_texted w s d parents message added file (Err refusal) = refl
 under_texted w s d parents message added file (Ok schema) =
-    file_texted w s schema (not (length added == 0)) file (commit_rows s d parents message added) (get s.files file)
+    file_texted w s schema (not (length added == 0)) file (commit_rows s d parents message added) (s.files file)
     (λ rows. unless_texted s (records_refusal (wide added d) (fresh_of (wide added d) parents message rows)) _ refl)
 
 commit_texted : (w : World) (s : Session) (name parents message : List ℕ) (added : List Column) (file : List ℕ) (d : Option Dataset) → Texted (commit_deed w s name parents message added file d)
@@ -137,7 +134,7 @@ drop_texted s name (Some d) = refl
 deed_texted : (w : World) (s : Session) (command : Command) → AllBegun w.sets → Texted (deed w s command)
 deed_texted w s (asks.Init cvd schema file) begun =
     unless_texted s (init_refusal w cvd) _
-    (file_texted w s schema false file (λ rows. does s (Init cvd schema rows) (says.Init cvd (length rows))) (get s.files file) (λ rows. refl))
+    (file_texted w s schema false file (λ rows. does s (Init cvd schema rows) (says.Init cvd (length rows))) (s.files file) (λ rows. refl))
 deed_texted w s (asks.Checkout cvd vids file None) begun = checkout_texted s vids file cvd (set_named w cvd)
 deed_texted w s (asks.Checkout cvd vids file (Some table)) begun = refl
 deed_texted w s (asks.Commit cvd vids file message added) begun = commit_texted w s cvd vids message (columns_of added) file (set_named w cvd)

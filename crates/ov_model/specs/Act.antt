@@ -1,11 +1,9 @@
 -- What a command means over a World: its moves, its reply, and the files after it.
 --     deed w files command      the first refusal in its order, or else what is done and said
-use Rattle.std.specs.Prelude.{ℕ, ◌+◌, ◌^◌, Bool, true, false, not, ◌||◌, ◌&&◌, ◌==◌, nat_le, nat_lt, if◌then◌else◌, List, [], ◌∷◌, ◌++◌, length, map, Option, Some, None, Result, Ok, Err, is_some}
-use Rattle.std.specs.FinMap.{FinMap, get, insert}
+use Rattle.std.specs.Prelude.{ℕ, ◌+◌, ◌^◌, Bool, false, not, ◌||◌, ◌==◌, nat_le, nat_lt, if◌then◌else◌, List, [], ◌∷◌, ◌++◌, length, map, Option, Some, None, Result, Ok, Err, is_some}
+use Rattle.std.specs.Str.{bytes_eq}
 use Rattle.std.specs.List.{list_any}
 use Rattle.std.specs.Option.{option_or}
-use Rattle.std.specs.Ordering.{nat_cmp}
-use Rattle.std.specs.Cmp.Lexicographic.{slice_cmp}
 use Rattle.ov_value.specs.declared.column.Column.{Column}
 use Rattle.ov_value.specs.declared.schema_err.SchemaErr.{SchemaErr}
 use Rattle.ov_value.specs.Making.{widened}
@@ -15,7 +13,7 @@ use Rattle.ov_model.specs.Book.{Row, Version, Cvd}
 use Rattle.ov_model.specs.Csv.{rows_of, text_of}
 use Rattle.ov_model.specs.Forms.{schema_refusal}
 use Rattle.ov_model.specs.Merge.{has_key, in_key_order, merged}
-use Rattle.ov_model.specs.Moves.{Move, Init, Commit, Drop, committed, version_of, wide}
+use Rattle.ov_model.specs.Moves.{Move, Init, Commit, Drop, version_of, wide}
 use Rattle.ov_model.specs.Records.{recs, records_of, fresh_in, order_of, rows_at}
 use Rattle.ov_model.specs.World.{Dataset, World, set_named, is_one}
 use Rattle.ov_model.specs.declared.command.Command.{Command}
@@ -27,9 +25,12 @@ use Rattle.ov_model.specs.declared.reply.LogLine.{LogLine}
 use Rattle.ov_model.specs.declared.reply.Reply.{Reply}
 use Rattle.ov_model.specs.declared.reply.Reply.TheVariants as says
 
--- from names to bytes
+-- what the file of each name has; None where there is no such file
 abbrev pub Files : Type 0
-Files = FinMap (slice_cmp nat_cmp) (List ℕ)
+Files = List ℕ → Option (List ℕ)
+
+abbrev pub put : Files → List ℕ → List ℕ → Files
+put files name bytes = λ other. if bytes_eq other name then Some bytes else files other
 
 -- what goes from line to line beside the World: the files, and the name of the user
 pub record Session : Type 0 where
@@ -105,7 +106,7 @@ with_file w s schema adds name next None = refuses s (no.NoFile name)
 with_file w s schema adds name next (Some bytes) = with_rows w s schema adds next (rows_of schema bytes)
 
 abbrev pub from_file : World → Session → Shape → Bool → List ℕ → (List Row → Deed) → Deed
-from_file w s schema adds name next = with_file w s schema adds name next (get s.files name)
+from_file w s schema adds name next = with_file w s schema adds name next (s.files name)
 
 -- Init: a dataset more. There is none of its name, there are fewer than 1,024, and there is a number for it.
 abbrev pub init_refusal : World → List ℕ → Option Refusal
@@ -129,7 +130,7 @@ merge_of cvd vids = merged cvd.schema (rows_listed cvd.versions vids)
 abbrev pub gives : Session → Cvd → List Row → Option (List ℕ) → Deed
 gives s cvd rows None = tells s (says.Csv (text_of cvd.schema rows))
 gives s cvd rows (Some file) =
-    tells (record s { files = insert s.files file (text_of cvd.schema rows) }) (says.ToFile cvd.name (length rows) file)
+    tells (record s { files = put s.files file (text_of cvd.schema rows) }) (says.ToFile cvd.name (length rows) file)
 
 abbrev pub checkout_deed : Session → List ℕ → Option (List ℕ) → List ℕ → Option Dataset → Deed
 checkout_deed s vids file name None = refuses s (no.NoCvd name)

@@ -4,7 +4,7 @@
 --     world_at w items k      the World after the first k moves
 --     due j items      the moves before the j-th reply
 --     whole items x      how many replies stand whole at the front of x
-use Rattle.std.specs.Prelude.{◌≡◌, ◌≢◌, ℕ, zero, suc, ◌+◌, Bool, true, false, ◌==◌, if◌then◌else◌, List, [], ◌∷◌, ◌++◌, length, drop, Option, Some, None}
+use Rattle.std.specs.Prelude.{◌≢◌, ℕ, zero, suc, ◌+◌, Bool, true, false, ◌==◌, if◌then◌else◌, List, [], ◌∷◌, ◌++◌, length, drop, Option, Some, None}
 use Rattle.ov_model.specs.Act.{Session, Deed, deed}
 use Rattle.ov_model.specs.Forms.{built_forms}
 use Rattle.ov_model.specs.Line.{Line, Comment, Asks, Refused, line_of}
@@ -12,7 +12,6 @@ use Rattle.ov_model.specs.Moves.{Move, moved}
 use Rattle.ov_model.specs.Replies.{reply_text}
 use Rattle.ov_model.specs.Steps.{next_step, steps_left}
 use Rattle.ov_model.specs.World.{World}
-use Rattle.ov_model.specs.declared.refusal.Refusal.{Refusal}
 use Rattle.ov_model.specs.declared.refusal.Refusal.TheVariants as no
 use Rattle.ov_model.specs.declared.reply.Reply.{Reply}
 use Rattle.ov_model.specs.declared.reply.Reply.TheVariants as says

@@ -3,7 +3,7 @@
 --     all_forms      of every command of the product
 --     built_forms      those that the program has so far
 -- A command is added by adding its row.
-use Rattle.std.specs.Prelude.{ℕ, Bool, true, false, ◌==◌, if◌then◌else◌, List, [], ◌∷◌, ◌++◌, ◌^◌, length, map, Option, Some, None, Result, Ok, Err, slice_get, codes}
+use Rattle.std.specs.Prelude.{ℕ, Bool, true, false, ◌==◌, if◌then◌else◌, List, [], ◌∷◌, ◌^◌, length, Option, Some, None, Result, Ok, Err, slice_get, codes}
 use Rattle.std.specs.Option.{option_map}
 use Rattle.std.specs.Str.{bytes_eq}
 use Rattle.ov_value.specs.declared.column.Column.{Column}

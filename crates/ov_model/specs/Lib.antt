@@ -2,6 +2,7 @@ pub mod Act
 pub mod Book
 pub mod Course
 pub mod Csv
+pub mod Examples
 pub mod Forms
 pub mod Line
 pub mod Lists

@@ -2,8 +2,8 @@
 --     moved m w      the World after the move
 --     placed_at d v      where a commit's version goes: by the numbers of the dataset before it
 --     Fits m w      what is asked of a move
-use Rattle.std.specs.Prelude.{◌≡◌, ◌≢◌, ◌≤◌, ◌<◌, ℕ, ◌+◌, ◌-◌, ◌^◌, Bool, true, not, ◌==◌, nat_lt, if◌then◌else◌, List, [], ◌∷◌, ◌++◌, length, map, filter, slice_index_or, Option, Some, None, Result, Ok, Err, IsTrue, codes}
-use Rattle.std.specs.List.{list_any, All, IsDistinct}
+use Rattle.std.specs.Prelude.{ℕ, ◌+◌, Bool, not, ◌==◌, nat_lt, if◌then◌else◌, List, [], ◌∷◌, ◌++◌, length, map, filter, Option, Some, None, Result, Ok, Err, codes}
+use Rattle.std.specs.List.{list_any}
 use Rattle.ov_place.specs.Placement.{placed}
 use Rattle.ov_place.specs.declared.place_facts.Place.{Place}
 use Rattle.ov_place.specs.declared.place_facts.Place.TheVariants.{Own, Join}
@@ -14,7 +14,7 @@ use Rattle.ov_value.specs.Making.{widened}
 use Rattle.ov_value.specs.Shapes.{Shape}
 use Rattle.ov_model.specs.Book.{Row, Version, Cvd, extended}
 use Rattle.ov_model.specs.Records.{Rec, is_same_rec, recs, records_of, of_version, weight, order_of}
-use Rattle.ov_model.specs.World.{Part, Target, Plan, Dataset, World, held, stored, part_of, is_unmoved}
+use Rattle.ov_model.specs.World.{Part, Plan, Dataset, World, held, stored, part_of, is_unmoved}
 
 pub data Move : Type 0 where
   -- a dataset with these rows as its version 1

@@ -1,12 +1,14 @@
 -- Which rows of a dataset's versions are one record, and the numbers of records.
 --     recs versions done      the records of each version, in order, after those of the versions before
 --     order_of versions      all records by origin, then by key; a record's rid is its place in it, from 1
-use Rattle.std.specs.Prelude.{ℕ, ◌+◌, ◌-◌, Bool, ◌&&◌, ◌==◌, if◌then◌else◌, List, [], ◌∷◌, ◌++◌, length, map, filter, count_by, slice_index_or, Option, Some, None}
+use Rattle.std.specs.Prelude.{ℕ, zero, suc, ◌+◌, ◌-◌, Bool, ◌&&◌, ◌==◌, if◌then◌else◌, List, [], ◌∷◌, ◌++◌, length, map, filter, count_by, slice_index_or, Option, Some, None}
 use Rattle.std.specs.List.{list_any}
 use Rattle.std.specs.Ordering.{eq_by_cmp}
 use Rattle.std.specs.Cmp.Lexicographic.{pointwise}
-use Rattle.ov_value.specs.Rows.{value_cmp}
+use Rattle.ov_value.specs.Rows.{value_cmp, key_cmp}
+use Rattle.ov_value.specs.Shapes.{Shape}
 use Rattle.ov_model.specs.Book.{Row, Version}
+use Rattle.ov_model.specs.Lists.{Rises}
 
 -- a row, with the version that first had it among those that it came down from
 pub record Rec : Type 0 where
@@ -77,3 +79,13 @@ weight a b = count_by (λ r. list_any (is_same_rec r) b) a
 -- the rows of a version by its number; none where there is no such version
 abbrev pub rows_at : List Version → ℕ → List Row
 rows_at versions vid = slice_index_or (map (λ v. v.rows) versions) (vid - 1) []
+
+-- so many numbers from one on
+abbrev pub counted : ℕ → ℕ → List ℕ
+counted n zero = []
+counted n (suc count) = n ∷ counted (n + 1) count
+
+-- each version's rows stand in key order, no key twice
+abbrev pub AllRise : Shape → List Version → Type 0
+AllRise schema [] = Unit {0}
+AllRise schema (v ∷ vs) = Rises (key_cmp schema) v.rows × AllRise schema vs

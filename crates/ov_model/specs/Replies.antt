@@ -1,7 +1,7 @@
 -- The texts of the replies.
 --     refusal_text r      of a refusal, without its number
 --     reply_text r      of a reply: lines, each ended by a line feed; the words rows, versions, records and so on are plural always
-use Rattle.std.specs.Prelude.{ℕ, zero, suc, ◌+◌, Bool, true, false, if◌then◌else◌, List, [], ◌∷◌, ◌++◌, length, map, Option, Some, None, codes}
+use Rattle.std.specs.Prelude.{ℕ, ◌+◌, Bool, true, false, if◌then◌else◌, List, [], ◌∷◌, ◌++◌, length, Option, Some, None, codes}
 use Rattle.std.specs.List.{flat_map, concat}
 use Rattle.std.specs.Fmt.{decimal}
 use Rattle.ov_value.specs.declared.column.Kind.{Kind}

@@ -1,13 +1,12 @@
 -- A World: the datasets with their partitions, thresholds and plans, and the numbers of the store.
 --     book w      its datasets alone
 --     stored set, cost set      the records kept over a dataset's partitions; what a checkout reads, summed over its versions
-use Rattle.std.specs.Prelude.{◌<◌, ℕ, ◌+◌, ◌*◌, ◌-◌, Bool, false, not, ◌==◌, if◌then◌else◌, List, [], ◌∷◌, ◌++◌, length, map, filter, slice_index_or, Option, Some, None}
+use Rattle.std.specs.Prelude.{◌<◌, ℕ, ◌+◌, ◌*◌, ◌-◌, Bool, false, ◌==◌, if◌then◌else◌, List, [], ◌∷◌, length, map, Option, Some, None}
 use Rattle.std.specs.List.{list_any, sum}
-use Rattle.std.specs.Option.{option_map}
 use Rattle.std.specs.Str.{bytes_eq}
 use Rattle.ov_model.specs.Book.{Book, Cvd}
 use Rattle.ov_model.specs.Lists.{joined}
-use Rattle.ov_model.specs.Records.{Rec, is_same_rec}
+use Rattle.ov_model.specs.Records.{Rec}
 
 -- A partition: its number, the versions that it serves, the versions whose records it keeps, both ascending, and its pieces,
 -- which share no record.

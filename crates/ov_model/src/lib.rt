@@ -8,17 +8,26 @@
 mod answer;
 mod command;
 mod course;
+mod examples;
+mod line;
 mod merge;
 mod records;
 mod refusal;
+mod replies;
 mod reply;
 mod seq;
 
 pub use answer::{Answer, Cell};
 pub use command::Command;
-pub use course::{a_course_ends_at_its_moves, a_course_goes_on, due_never_falls, no_reply_of_a_run_is_empty, whole_lines_stand_alone, worlds_are_one_move_apart};
+pub use course::{
+    a_course_ends_at_its_moves, a_course_goes_on, due_never_falls, no_reply_of_a_run_is_empty,
+    whole_lines_stand_alone, worlds_are_one_move_apart,
+};
+pub use examples::worked_examples;
+pub use line::a_line_is_one_thing;
 pub use merge::merge_takes_the_first_of_each_key;
-pub use records::{own_rows_are_no_new_records, versions_keep_earlier_rids};
+pub use records::{own_rows_are_no_new_records, rids_have_no_gap, versions_keep_earlier_rids};
 pub use refusal::Refusal;
+pub use replies::a_reply_is_not_empty;
 pub use reply::{BudgetLine, CvdLine, LogLine, PartLine, PlanLine, Reply, TableLine};
 pub use seq::Seq;

@@ -1,8 +1,9 @@
 // Laws of records.
-ghost use Rattle.std.specs.Prelude.{◌≡◌, ◌+◌, ℕ, List, [], ◌∷◌, ◌++◌, length};
+ghost use Rattle.std.specs.Prelude.{◌≡◌, ◌+◌, ℕ, List, [], ◌∷◌, ◌++◌, length, map};
+ghost use Rattle.ov_value.specs.Shapes.{Shape};
 ghost use Rattle.ov_model.specs.Book.{Row, Version};
 ghost use Rattle.ov_model.specs.Lists.{IsIn, AllAreIn};
-ghost use Rattle.ov_model.specs.Records.{Rec, recs, records_of, fresh_in, order_of, rid_in, rows_at};
+ghost use Rattle.ov_model.specs.Records.{Rec, recs, records_of, fresh_in, order_of, rid_in, rows_at, counted, AllRise};
 
 /// A version more gives the records that were there the rids that they had, and each record of each version has a rid.
 pub fn versions_keep_earlier_rids()
@@ -16,4 +17,10 @@ pub fn own_rows_are_no_new_records()
     ensures { (versions : List Version) (message : List ℕ) (vid : ℕ)
         → fresh_in (records_of (record { parents = vid ∷ []; message = message; rows = rows_at versions vid }) (recs versions []))
         (length versions + 1) ≡ [] }
+{}
+
+/// Rids are 1, 2, 3 and so on without a gap, in the order of origins and then of keys.
+pub fn rids_have_no_gap()
+    ensures { (schema : Shape) (versions : List Version) → AllRise schema versions
+        → map (rid_in (order_of versions)) (order_of versions) ≡ counted 1 (length (order_of versions)) }
 {}
