@@ -5,6 +5,7 @@ pub mod Csv
 pub mod Examples
 pub mod Forms
 pub mod Line
+pub mod Grammar
 pub mod Lists
 pub mod Merge
 pub mod Moves

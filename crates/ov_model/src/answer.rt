@@ -1,7 +1,7 @@
 //! What a query answers.
 
-use crate::seq::Seq;
 use ov_value::{Kind, Value};
+use sqlite_items::Items as Seq;
 
 /// A cell of an answer: a value, a sum or number, or nothing, which the sum, the least and the greatest of no values are.
 #[derive(Debug, Drop)]

@@ -1,7 +1,7 @@
 //! What a line of a script may ask for.
 
-use crate::seq::Seq;
 use ov_value::{Column, Schema, Txt};
+use sqlite_items::Items as Seq;
 
 /// A command with its values, as its line gives them. A version's number is one of up to 18 digits, which need not be there.
 #[derive(Drop)]

@@ -11,11 +11,11 @@ mod course;
 mod examples;
 mod line;
 mod merge;
+mod query;
 mod records;
 mod refusal;
 mod replies;
 mod reply;
-mod seq;
 
 pub use answer::{Answer, Cell};
 pub use command::Command;
@@ -26,8 +26,12 @@ pub use course::{
 pub use examples::worked_examples;
 pub use line::a_line_is_one_thing;
 pub use merge::merge_takes_the_first_of_each_key;
+pub use query::{
+    Col, Cond, Fixed, Items, JoinQuery, Key, LineageKind, Operand, Query, Side, Sign, Src, Symbol,
+    Term,
+};
 pub use records::{own_rows_are_no_new_records, rids_have_no_gap, versions_keep_earlier_rids};
 pub use refusal::Refusal;
 pub use replies::a_reply_is_not_empty;
 pub use reply::{BudgetLine, CvdLine, LogLine, PartLine, PlanLine, Reply, TableLine};
-pub use seq::Seq;
+pub use sqlite_items::{Boxed, Items as Seq};

@@ -1,8 +1,8 @@
 //! What is printed of a command.
 
 use crate::refusal::Refusal;
-use crate::seq::Seq;
 use ov_value::Txt;
+use sqlite_items::Items as Seq;
 
 /// A partition: its number, its records and its versions.
 #[derive(Drop)]
