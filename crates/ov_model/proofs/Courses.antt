@@ -5,7 +5,7 @@ use Rattle.std.specs.List.{onto_first}
 use Rattle.std.specs.Prelude.{◌≢◌, if◌then◌else◌}
 use Rattle.ov_model.specs.Act.{Session, Deed, deed}
 use Rattle.ov_model.specs.Course.{Item, Makes, Says, Room, Enough, NoRun, Full, Space, first, rest, Served, after, replied, attempt, attempts, try_step, step_by, steps, and_steps, line_served, served, course, due, moves_of, play, world_after, world_at}
-use Rattle.ov_model.specs.Forms.{built_forms}
+use Rattle.ov_model.specs.Forms.{Form}
 use Rattle.ov_model.specs.Line.{Line, Comment, Asks, Refused, line_of}
 use Rattle.ov_model.specs.Moves.{Move, moved}
 use Rattle.ov_model.specs.Steps.{next_step}
@@ -18,15 +18,15 @@ use Rattle.ov_model.specs.declared.reply.Reply.TheVariants as says
 after_after : (xs ys : List Item) (s : Served) → after xs (after ys s) ≡ after (xs ++ ys) s
 after_after xs ys s = λ i. record s { items = sym (append_assoc xs ys s.items) i }
 
-pub goes_on : (n : ℕ) (w : World) (s : Session) (a b : List (List ℕ)) (space : Space)
-    → course n w s (a ++ b) space ≡ after (course n w s a space).items
-    (course n (course n w s a space).world (course n w s a space).session b (course n w s a space).left)
-goes_on n w s [] b space = refl
-goes_on n w s (line ∷ a) b space =
-    let one = served n w s line space
-    in let more = course n one.world one.session a one.left
-    in ap (after one.items) (goes_on n one.world one.session a b one.left)
-    ∙ after_after one.items more.items (course n more.world more.session b more.left)
+pub goes_on : (f : List Form) (n : ℕ) (w : World) (s : Session) (a b : List (List ℕ)) (space : Space)
+    → course f n w s (a ++ b) space ≡ after (course f n w s a space).items
+    (course f n (course f n w s a space).world (course f n w s a space).session b (course f n w s a space).left)
+goes_on f n w s [] b space = refl
+goes_on f n w s (line ∷ a) b space =
+    let one = served f n w s line space
+    in let more = course f n one.world one.session a one.left
+    in ap (after one.items) (goes_on f n one.world one.session a b one.left)
+    ∙ after_after one.items more.items (course f n more.world more.session b more.left)
 
 pub play_append : (a b : List Item) → play (a ++ b) ≡ play a ++ play b
 play_append [] b = refl
@@ -83,12 +83,12 @@ line_ends n w s space Comment = refl
 line_ends n w s space (Asks command) = then_ends n w (attempts (deed w s command) s 0 (deed w s command).moves w space) (attempts_end (deed w s command) s 0 (deed w s command).moves w space)
 line_ends n w s space (Refused refusal) = then_ends n w (replied (says.Refused refusal) w s space) refl
 
-pub course_ends : (n : ℕ) (w : World) (s : Session) (lines : List (List ℕ)) (space : Space) → Ends w (course n w s lines space)
-course_ends n w s [] space = refl
-course_ends n w s (line ∷ lines) space =
-    let one = served n w s line space
-    in both_end w one (course n one.world one.session lines one.left) (line_ends n w s space (line_of built_forms line))
-    (course_ends n one.world one.session lines one.left)
+pub course_ends : (f : List Form) (n : ℕ) (w : World) (s : Session) (lines : List (List ℕ)) (space : Space) → Ends w (course f n w s lines space)
+course_ends f n w s [] space = refl
+course_ends f n w s (line ∷ lines) space =
+    let one = served f n w s line space
+    in both_end w one (course f n one.world one.session lines one.left) (line_ends n w s space (line_of f line))
+    (course_ends f n one.world one.session lines one.left)
 
 same_some : {X : Type 0} (x y : X) → Some x ≡ Some y → x ≡ y
 same_some x y e = cc

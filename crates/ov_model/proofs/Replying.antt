@@ -7,16 +7,18 @@ use Rattle.csv.specs.Writing.{default_writer, row_text, row_body, is_blank}
 use Rattle.ov_value.specs.declared.column.Column.{Column}
 use Rattle.ov_value.specs.declared.schema_err.SchemaErr.{SchemaErr}
 use Rattle.ov_value.specs.Shapes.{Shape, names}
-use Rattle.ov_model.specs.Act.{Session, Deed, does, unless, with_rows, with_file, rows_refusal, init_refusal, gives, merge_of, vids_refusal, checkout_deed, records_refusal, fresh_of, commit_rows, schema_with, commit_under, commit_refusal, commit_deed, columns_of, log_deed, log_lines, drop_deed, deed}
+use Rattle.ov_model.specs.Act.{Session, Deed, does, unless, with_rows, with_file, rows_refusal, init_refusal, gives, merge_of, vids_refusal, checkout_deed, records_refusal, fresh_of, commit_rows, schema_with, commit_under, commit_refusal, commit_deed, columns_of, log_deed, log_lines, drop_deed, optimize_refusal, optimize_deed, layout_deed, generated_reply, generate_by, deed}
 use Rattle.ov_model.specs.Book.{Row, Version, Cvd}
 use Rattle.ov_model.specs.Course.{Item, Makes, Says, Room, Enough, NoRun, Full, Space, first, rest, Served, SaysSome, after, replied, attempt, attempts, try_step, step_by, steps, steps_then, and_steps, line_served, served, course}
 use Rattle.ov_model.specs.Csv.{text_of, rows_of}
-use Rattle.ov_model.specs.Forms.{built_forms}
+use Rattle.ov_model.specs.Forms.{Form}
 use Rattle.ov_model.specs.Line.{Line, Comment, Asks, Refused, line_of}
-use Rattle.ov_model.specs.Moves.{Move, Init, Commit, Drop, moved, change, numbered, committed, with_version, version_of, wide}
+use Rattle.ov_model.specs.Plans.{planned, copied_more, flipped, flipped_by}
+use Rattle.ov_model.specs.Moves.{Move, Init, Commit, BeginPlan, Copy, Flip, Drop, Checkpoint, moved, change, numbered, committed, with_version, version_of, wide}
 use Rattle.ov_model.specs.Replies.{line, reply_text, has_text, log_line, budget_lines}
-use Rattle.ov_model.specs.Steps.{next_step}
-use Rattle.ov_model.specs.World.{Dataset, World, AllBegun, set_named, first_set, named}
+use Rattle.ov_model.specs.Generator.{generated}
+use Rattle.ov_model.specs.Steps.{next_step, all_moved}
+use Rattle.ov_model.specs.World.{Plan, Dataset, World, AllBegun, set_named, first_set, named}
 use Rattle.ov_model.specs.declared.command.Command.{Command}
 use Rattle.ov_model.specs.declared.command.Command.TheVariants as asks
 use Rattle.ov_model.specs.declared.refusal.Refusal.{Refusal}
@@ -131,6 +133,18 @@ drop_texted : (s : Session) (name : List ℕ) (d : Option Dataset) → Texted (d
 drop_texted s name None = refl
 drop_texted s name (Some d) = refl
 
+optimize_texted : (s : Session) (name : List ℕ) (p q : ℕ) (d : Option Dataset) → Texted (optimize_deed s name p q d)
+optimize_texted s name p q None = refl
+optimize_texted s name p q (Some d) = unless_texted s (optimize_refusal d p q) _ refl
+
+layout_texted : (s : Session) (name : List ℕ) (d : Option Dataset) → Texted (layout_deed s name d)
+layout_texted s name None = refl
+layout_texted s name (Some d) = refl
+
+generated_texted : (name : List ℕ) (d : Option Dataset) → has_text (generated_reply name d) ≡ true
+generated_texted name None = refl
+generated_texted name (Some d) = refl
+
 deed_texted : (w : World) (s : Session) (command : Command) → AllBegun w.sets → Texted (deed w s command)
 deed_texted w s (asks.Init cvd schema file) begun =
     unless_texted s (init_refusal w cvd) _
@@ -140,16 +154,18 @@ deed_texted w s (asks.Checkout cvd vids file (Some table)) begun = refl
 deed_texted w s (asks.Commit cvd vids file message added) begun = commit_texted w s cvd vids message (columns_of added) file (set_named w cvd)
 deed_texted w s (asks.CommitStaged user table message) begun = refl
 deed_texted w s (asks.Run text) begun = refl
-deed_texted w s (asks.Optimize cvd p q) begun = refl
+deed_texted w s (asks.Optimize cvd p q) begun = optimize_texted s cvd p q (set_named w cvd)
 deed_texted w s (asks.OptimizeWithin cvd budget) begun = refl
 deed_texted w s (asks.Advise cvd budget a b) begun = refl
 deed_texted w s (asks.Migrate count) begun = refl
-deed_texted w s (asks.Layout cvd) begun = refl
+deed_texted w s (asks.Layout cvd) begun = layout_texted s cvd (set_named w cvd)
 deed_texted w s (asks.Log cvd) begun = log_texted s cvd (set_named w cvd) (λ x e. begun_found (named cvd) w.sets x begun e)
 deed_texted w s asks.Ls begun = refl
 deed_texted w s (asks.DropCvd cvd) begun = drop_texted s cvd (set_named w cvd)
 deed_texted w s asks.Checkpoint begun = refl
-deed_texted w s (asks.Generate cvd seed rows versions) begun = refl
+deed_texted w s (asks.Generate cvd seed rows versions) begun =
+    unless_texted s (init_refusal w cvd) (generate_by w s cvd (generated w.next cvd seed rows versions))
+    (generated_texted cvd (set_named (all_moved (generated w.next cvd seed rows versions) w) cvd))
 deed_texted w s (asks.CreateUser name) begun = refl
 deed_texted w s (asks.Config name) begun = refl
 deed_texted w s asks.Whoami begun = refl
@@ -177,6 +193,14 @@ begun_change : (cvd : ℕ) (f : Dataset → Dataset) (sets : List Dataset) → (
 begun_change cvd f [] more are = tt
 begun_change cvd f (d ∷ sets) more are = (changed_has (numbered cvd d) f d (more d) are.0, begun_change cvd f sets more are.1)
 
+begun_kept : (cvd : ℕ) (f : Dataset → Dataset) (sets : List Dataset) → ((d : Dataset) → 0 < length d.cvd.versions → 0 < length (f d).cvd.versions) → AllBegun sets → AllBegun (change cvd f sets)
+begun_kept cvd f [] more are = tt
+begun_kept cvd f (d ∷ sets) more are = (changed_has (numbered cvd d) f d (more d are.0) are.0, begun_kept cvd f sets more are.1)
+
+flip_has : (d : Dataset) (plan : Option Plan) → 0 < length d.cvd.versions → 0 < length (flipped_by d plan).cvd.versions
+flip_has d None has = has
+flip_has d (Some plan) has = has
+
 version_more : (v : Version) (d : Dataset) → 0 < length (with_version v d).cvd.versions
 version_more v d = omega (arith, length-append d.cvd.versions (v ∷ []))
 
@@ -184,6 +208,10 @@ pub begun_moved : (w : World) (m : Move) → AllBegun w.sets → AllBegun (moved
 begun_moved w (Init name schema rows) are = begun_append w.sets _ are (omega arith, tt)
 begun_moved w (Commit cvd parents message added rows) are =
     begun_change cvd (committed parents message added rows) w.sets (λ d. version_more (version_of parents message rows) (wide added d)) are
+begun_moved w (BeginPlan cvd p q) are = begun_kept cvd (planned p q) w.sets (λ d has. has) are
+begun_moved w (Copy cvd) are = begun_kept cvd copied_more w.sets (λ d has. has) are
+begun_moved w (Flip cvd) are = begun_kept cvd flipped w.sets (λ d has. flip_has d d.plan has) are
+begun_moved w Checkpoint are = are
 begun_moved w (Drop cvd) are = begun_filter (λ d. not (numbered cvd d)) w.sets are
 
 -- each reply has a text, and each dataset has a version then
@@ -235,13 +263,13 @@ line_fine n w s space (Asks command) begun =
     then_fine n (attempts (deed w s command) s 0 (deed w s command).moves w space) (attempts_fine (deed w s command) s 0 (deed w s command).moves w space (deed_texted w s command begun) begun)
 line_fine n w s space (Refused refusal) begun = then_fine n (replied (says.Refused refusal) w s space) (refused_fine refusal w s space begun)
 
-course_fine : (n : ℕ) (w : World) (s : Session) (lines : List (List ℕ)) (space : Space) → AllBegun w.sets → Fine (course n w s lines space)
-course_fine n w s [] space begun = (tt, begun)
-course_fine n w s (line ∷ lines) space begun =
-    let one = served n w s line space
-    in let fine = line_fine n w s space (line_of built_forms line) begun
-    in let more = course_fine n one.world one.session lines one.left fine.1
-    in (says_append one.items (course n one.world one.session lines one.left).items fine.0 more.0, more.1)
+course_fine : (f : List Form) (n : ℕ) (w : World) (s : Session) (lines : List (List ℕ)) (space : Space) → AllBegun w.sets → Fine (course f n w s lines space)
+course_fine f n w s [] space begun = (tt, begun)
+course_fine f n w s (line ∷ lines) space begun =
+    let one = served f n w s line space
+    in let fine = line_fine n w s space (line_of f line) begun
+    in let more = course_fine f n one.world one.session lines one.left fine.1
+    in (says_append one.items (course f n one.world one.session lines one.left).items fine.0 more.0, more.1)
 
-pub says_some : (n : ℕ) (w : World) (s : Session) (lines : List (List ℕ)) (space : Space) → AllBegun w.sets → SaysSome (course n w s lines space).items
-says_some n w s lines space begun = (course_fine n w s lines space begun).0
+pub says_some : (f : List Form) (n : ℕ) (w : World) (s : Session) (lines : List (List ℕ)) (space : Space) → AllBegun w.sets → SaysSome (course f n w s lines space).items
+says_some f n w s lines space begun = (course_fine f n w s lines space begun).0

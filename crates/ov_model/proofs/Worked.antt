@@ -7,10 +7,11 @@ use Rattle.std.specs.Str.{is_utf8, chars}
 use Rattle.csv.specs.Machine.{next_record}
 use Rattle.csv.specs.Reading.{strip_bom, records_from}
 use Rattle.csv.specs.Writing.{escaped, fields_text, is_blank}
+use Rattle.ov_graph.specs.Splits.{is_under, stops, may_cut, versions_apart, records_apart, chosen, cuts_within, cuts_of}
 use Rattle.ov_value.specs.Making.{name_refusal, column_refusal, key_refusal}
 use Rattle.ov_value.specs.Naming.{is_name, is_vid, is_column_name}
 use Rattle.ov_value.specs.Spelling.{row_spelling}
-use Rattle.ov_model.specs.Examples.{AllPrint, examples, people, printed, printed_behind, served_all}
+use Rattle.ov_model.specs.Examples.{AllPrint, examples, people, plan_examples, printed, printed_behind, served_all}
 use Rattle.ov_model.specs.Replies.{line}
 
 -- a first version, and the same again
@@ -80,6 +81,45 @@ refused_lines = refl
 
 pub all_print : AllPrint examples
 all_print = (first, (empty, (second, (vids, (parents, (refused_files, (fields, (no_text, (marks, (lines_read, (dropped, (listed, (schemas, (nulls, (quotes, (refused_lines, tt))))))))))))))))
+
+one_part : printed (codes "init chain -s k:int,x:int -k k -f c1.csv\ncommit chain -v 1 -f c2.csv -m two\ncommit chain -v 2 -f c3.csv -m three\noptimize chain -d 1/2\nmigrate 5\nlayout chain\n") ≡ codes "chain: version 1 (4 rows)\nchain: version 2 (4 rows, 3 new)\nchain: version 3 (5 rows, 1 new)\ndepth 0, partitions 1, stored 8, records 8, members 13, cost 24, steps 1\nsteps 1 left 0\npartition 2: records 8, versions 1,2,3\nstored 8, cost 24\n"
+unfolding encode digits is_utf8 chars records_from next_record strip_bom is_name is_vid is_column_name name_refusal column_refusal key_refusal row_spelling line is_under stops may_cut versions_apart records_apart chosen cuts_within cuts_of
+one_part = refl
+
+two_parts : printed (codes "init chain -s k:int,x:int -k k -f c1.csv\ncommit chain -v 1 -f c2.csv -m two\ncommit chain -v 2 -f c3.csv -m three\noptimize chain -d 3/4\nmigrate 1\nlayout chain\nmigrate 9\nlayout chain\n") ≡ codes "chain: version 1 (4 rows)\nchain: version 2 (4 rows, 3 new)\nchain: version 3 (5 rows, 1 new)\ndepth 1, partitions 2, stored 9, records 8, members 13, cost 14, steps 4\nsteps 1 left 3\npartition 1: records 8, versions 1,2,3\nplan 3/4: target 1 of 2, copied 4 of 4, steps 3\nstored 12, cost 24\nsteps 3 left 0\npartition 2: records 4, versions 1\npartition 3: records 5, versions 2,3\nstored 9, cost 14\n"
+unfolding encode digits is_utf8 chars records_from next_record strip_bom is_name is_vid is_column_name name_refusal column_refusal key_refusal row_spelling line is_under stops may_cut versions_apart records_apart chosen cuts_within cuts_of
+two_parts = refl
+
+while_migrating : printed (codes "init chain -s k:int,x:int -k k -f c1.csv\ncommit chain -v 1 -f c2.csv -m two\ncommit chain -v 2 -f c3.csv -m three\noptimize chain -d 3/4\nmigrate 2\ncommit chain -v 3 -f c4.csv -m four\nmigrate 9\nlayout chain\n") ≡ codes "chain: version 1 (4 rows)\nchain: version 2 (4 rows, 3 new)\nchain: version 3 (5 rows, 1 new)\ndepth 1, partitions 2, stored 9, records 8, members 13, cost 14, steps 4\nsteps 2 left 2\nchain: version 4 (6 rows, 1 new)\nsteps 2 left 0\npartition 2: records 4, versions 1\npartition 3: records 6, versions 4\npartition 4: records 5, versions 2,3\nstored 15, cost 20\n"
+unfolding encode digits is_utf8 chars records_from next_record strip_bom is_name is_vid is_column_name name_refusal column_refusal key_refusal row_spelling line is_under stops may_cut versions_apart records_apart chosen cuts_within cuts_of
+while_migrating = refl
+
+own_partition : printed (codes "init chain -s k:int,x:int -k k -f c1.csv\ncommit chain -v 1 -f c2.csv -m two\ncommit chain -v 2 -f c3.csv -m three\noptimize chain -d 3/4\nmigrate 9\ncommit chain -v 3 -f c5.csv -m own\nlayout chain\n") ≡ codes "chain: version 1 (4 rows)\nchain: version 2 (4 rows, 3 new)\nchain: version 3 (5 rows, 1 new)\ndepth 1, partitions 2, stored 9, records 8, members 13, cost 14, steps 4\nsteps 4 left 0\nchain: version 4 (2 rows, 1 new)\npartition 2: records 4, versions 1\npartition 3: records 5, versions 2,3\npartition 4: records 2, versions 4\nstored 11, cost 16\n"
+unfolding encode digits is_utf8 chars records_from next_record strip_bom is_name is_vid is_column_name name_refusal column_refusal key_refusal row_spelling line is_under stops may_cut versions_apart records_apart chosen cuts_within cuts_of
+own_partition = refl
+
+kept_segments : printed (codes "init chain -s k:int,x:int -k k -f c1.csv\ncommit chain -v 1 -f c2.csv -m two\ncommit chain -v 2 -f c3.csv -m three\noptimize chain -d 3/4\nmigrate 3\nlayout chain\n") ≡ codes "chain: version 1 (4 rows)\nchain: version 2 (4 rows, 3 new)\nchain: version 3 (5 rows, 1 new)\ndepth 1, partitions 2, stored 9, records 8, members 13, cost 14, steps 4\nsteps 3 left 1\npartition 1: records 8, versions 2,3\npartition 2: records 4, versions 1\nplan 3/4: target 2 of 2, copied 1 of 1, steps 1\nstored 13, cost 20\n"
+unfolding encode digits is_utf8 chars records_from next_record strip_bom is_name is_vid is_column_name name_refusal column_refusal key_refusal row_spelling line is_under stops may_cut versions_apart records_apart chosen cuts_within cuts_of
+kept_segments = refl
+
+refused_plans : printed (codes "init chain -s k:int,x:int -k k -f c1.csv\ncommit chain -v 1 -f c2.csv -m two\ncommit chain -v 2 -f c3.csv -m three\noptimize chain -d 5/4\noptimize chain -d 0/1\noptimize chain -d half\noptimize chain -d 3/4\noptimize chain -d 1/2\n") ≡ codes "chain: version 1 (4 rows)\nchain: version 2 (4 rows, 3 new)\nchain: version 3 (5 rows, 1 new)\nerror 17: threshold out of range\nerror 17: threshold out of range\nerror 54: bad number\ndepth 1, partitions 2, stored 9, records 8, members 13, cost 14, steps 4\nerror 18: chain is migrating\n"
+unfolding encode digits is_utf8 chars records_from next_record strip_bom is_name is_vid is_column_name name_refusal column_refusal key_refusal row_spelling line is_under stops may_cut versions_apart records_apart chosen cuts_within cuts_of
+refused_plans = refl
+
+two_parents : printed (codes "init people -s id:int,name:text,score:int -k id -f a.csv\ncommit people -v 1 -f b.csv -m raise\ncommit people -v 2 -f a.csv -m back\ncommit people -v 1,2 -f both.csv -m both\noptimize people -d 1/1\n") ≡ codes "people: version 1 (2 rows)\npeople: version 2 (3 rows, 2 new)\npeople: version 3 (2 rows, 1 new)\npeople: version 4 (3 rows, 0 new)\ndepth 2, partitions 4, stored 10, records 6, members 10, cost 10, steps 8\n"
+unfolding encode digits is_utf8 chars records_from next_record strip_bom is_name is_vid is_column_name name_refusal column_refusal key_refusal row_spelling line is_under stops may_cut versions_apart records_apart chosen cuts_within cuts_of
+two_parents = refl
+
+layouts : printed (codes "init people -s id:int,name:text,score:int -k id -f a.csv\ncommit people -v 1 -f b.csv -m raise\nlayout people\ncheckpoint\nmigrate 5\n") ≡ codes "people: version 1 (2 rows)\npeople: version 2 (3 rows, 2 new)\npartition 1: records 4, versions 1,2\nstored 4, cost 8\ncheckpoint: 1 datasets\nsteps 0 left 0\n"
+unfolding encode digits is_utf8 chars records_from next_record strip_bom is_name is_vid is_column_name name_refusal column_refusal key_refusal row_spelling line is_under stops may_cut versions_apart records_apart chosen cuts_within cuts_of
+layouts = refl
+
+tiny : printed (codes "generate tiny 0 1 1\ngenerate tiny 0 1 1\ngenerate x 0 0 1\n") ≡ codes "tiny: 1 versions, 1 records, 1 members\nerror 11: tiny exists\nerror 54: bad number\n"
+unfolding encode digits is_utf8 chars records_from next_record strip_bom is_name is_vid is_column_name name_refusal column_refusal key_refusal row_spelling line is_under stops may_cut versions_apart records_apart chosen cuts_within cuts_of
+tiny = refl
+
+pub all_plans : AllPrint plan_examples
+all_plans = (one_part, (two_parts, (while_migrating, (own_partition, (kept_segments, (refused_plans, (two_parents, (layouts, (tiny, tt)))))))))
 
 pub file_is : (served_all (people ++ codes "checkout people -v 1,2 -f out.csv\n")).session.files (codes "out.csv") ≡ Some (codes "id,name,score\n1,ann,10\n2,bob,20\n3,cy,30\n")
 unfolding encode digits is_utf8 chars records_from next_record strip_bom escaped fields_text is_blank is_name is_vid is_column_name name_refusal column_refusal key_refusal row_spelling line

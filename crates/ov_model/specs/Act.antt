@@ -1,9 +1,11 @@
 -- What a command means over a World: its moves, its reply, and the files after it.
 --     deed w files command      the first refusal in its order, or else what is done and said
-use Rattle.std.specs.Prelude.{ℕ, ◌+◌, ◌^◌, Bool, false, not, ◌||◌, ◌==◌, nat_le, nat_lt, if◌then◌else◌, List, [], ◌∷◌, ◌++◌, length, map, Option, Some, None, Result, Ok, Err, is_some}
+use Rattle.std.specs.Prelude.{ℕ, ◌&&◌, ◌+◌, ◌^◌, Bool, true, false, not, ◌||◌, ◌==◌, nat_le, nat_lt, if◌then◌else◌, List, [], ◌∷◌, ◌++◌, length, map, Option, Some, None, Result, Ok, Err, is_some}
 use Rattle.std.specs.Str.{bytes_eq}
-use Rattle.std.specs.List.{list_any}
+use Rattle.std.specs.List.{list_any, sum}
 use Rattle.std.specs.Option.{option_or}
+use Rattle.ov_graph.specs.Splits as splits
+use Rattle.ov_graph.specs.Trees.{all_records, all_members}
 use Rattle.ov_value.specs.declared.column.Column.{Column}
 use Rattle.ov_value.specs.declared.schema_err.SchemaErr.{SchemaErr}
 use Rattle.ov_value.specs.Making.{widened}
@@ -13,15 +15,20 @@ use Rattle.ov_model.specs.Book.{Row, Version, Cvd}
 use Rattle.ov_model.specs.Csv.{rows_of, text_of}
 use Rattle.ov_model.specs.Forms.{schema_refusal}
 use Rattle.ov_model.specs.Merge.{has_key, in_key_order, merged}
-use Rattle.ov_model.specs.Moves.{Move, Init, Commit, Drop, version_of, wide}
+use Rattle.ov_model.specs.Generator.{generated}
+use Rattle.ov_model.specs.Moves.{Move, Init, Commit, BeginPlan, Drop, Checkpoint, version_of, wide}
+use Rattle.ov_model.specs.Plans.{tree_of_set, parts_at, depth_at, planned, current, missing_of, plan_steps, sizes_of}
+use Rattle.ov_model.specs.Steps.{next_steps, all_moved, steps_left}
 use Rattle.ov_model.specs.Records.{recs, records_of, fresh_in, order_of, rows_at}
-use Rattle.ov_model.specs.World.{Dataset, World, set_named, is_one}
+use Rattle.ov_model.specs.World.{Part, Plan, Dataset, World, held, stored, cost, copied_records, set_named, is_one}
 use Rattle.ov_model.specs.declared.command.Command.{Command}
 use Rattle.ov_model.specs.declared.command.Command.TheVariants as asks
 use Rattle.ov_model.specs.declared.refusal.Refusal.{Refusal}
 use Rattle.ov_model.specs.declared.refusal.Refusal.TheVariants as no
 use Rattle.ov_model.specs.declared.reply.CvdLine.{CvdLine}
 use Rattle.ov_model.specs.declared.reply.LogLine.{LogLine}
+use Rattle.ov_model.specs.declared.reply.PartLine.{PartLine}
+use Rattle.ov_model.specs.declared.reply.PlanLine.{PlanLine}
 use Rattle.ov_model.specs.declared.reply.Reply.{Reply}
 use Rattle.ov_model.specs.declared.reply.Reply.TheVariants as says
 
@@ -201,12 +208,87 @@ abbrev pub drop_deed : Session → List ℕ → Option Dataset → Deed
 drop_deed s name None = refuses s (no.NoCvd name)
 drop_deed s name (Some d) = does s (Drop d.cvd.number) (says.Dropped name)
 
--- A command that the program hasn't yet is unknown.
+-- Optimize: a plan of the split at p / q. Its reply tells what will stand when it is done.
+abbrev pub is_threshold : ℕ → ℕ → Bool
+is_threshold p q = nat_le 1 p && (nat_le p q && nat_le q 1000000)
+
+abbrev pub optimize_refusal : Dataset → ℕ → ℕ → Option Refusal
+optimize_refusal d p q =
+    option_or (if_so (not (is_threshold p q)) no.BadThreshold)
+    (option_or (if_so (is_some d.plan) (no.Migrating d.cvd.name)) (if_so (nat_lt 4294000000 d.next_part) (no.NoNumbers d.cvd.name)))
+
+abbrev pub optimized : Dataset → ℕ → ℕ → List (List ℕ) → Reply
+optimized d p q parts =
+    says.Optimize (depth_at d p q) (length parts) (splits.stored (sizes_of d parts))
+    (all_records (tree_of_set d) (length d.cvd.versions)) (all_members (tree_of_set d) (length d.cvd.versions))
+    (splits.cost (sizes_of d parts)) (plan_steps (planned p q d))
+
+abbrev pub optimize_deed : Session → List ℕ → ℕ → ℕ → Option Dataset → Deed
+optimize_deed s name p q None = refuses s (no.NoCvd name)
+optimize_deed s name p q (Some d) =
+    unless s (optimize_refusal d p q) (does s (BeginPlan d.cvd.number p q) (optimized d p q (parts_at d p q)))
+
+-- Migrate: steps until so many are taken or no plan runs.
+abbrev pub migrate_by : World → Session → List Move → Deed
+migrate_by w s moves = record {
+  moves = moves;
+  reply = says.Migrate (length moves) (steps_left (all_moved moves w));
+  counts_steps = true;
+  session = s;
+}
+
+-- Layout: the partitions, the running plan, and what is stored and what checkouts read.
+abbrev pub part_shown : Part → PartLine
+part_shown part = record { id = part.id; records = length (held part); versions = part.versions }
+
+abbrev pub plan_shown : Dataset → Option Plan → Option PlanLine
+plan_shown d None = None
+plan_shown d (Some plan) = Some (record {
+  p = plan.p;
+  q = plan.q;
+  target = plan.at + 1;
+  targets = length plan.targets;
+  copied = copied_records d.plan;
+  size = length (missing_of d (current plan) []);
+  steps = plan_steps d;
+})
+
+abbrev pub layout_deed : Session → List ℕ → Option Dataset → Deed
+layout_deed s name None = refuses s (no.NoCvd name)
+layout_deed s name (Some d) = tells s (says.Layout (map part_shown d.parts) (plan_shown d d.plan) (stored d) (cost d))
+
+-- Checkpoint.
+abbrev pub checkpoint_deed : World → Session → Deed
+checkpoint_deed w s = does s Checkpoint (says.Checkpoint (length w.sets))
+
+-- Generate: an Init and Commits. The reply is of the dataset that they make.
+abbrev pub members_of : List Version → ℕ
+members_of versions = sum (map (λ v. length v.rows) versions)
+
+abbrev pub generated_reply : List ℕ → Option Dataset → Reply
+generated_reply name None = says.Refused (no.NoCvd name)
+generated_reply name (Some d) = says.Generate name (length d.cvd.versions) (length (order_of d.cvd.versions)) (members_of d.cvd.versions)
+
+abbrev pub generate_by : World → Session → List ℕ → List Move → Deed
+generate_by w s name moves = record {
+  moves = moves;
+  reply = generated_reply name (set_named (all_moved moves w) name);
+  counts_steps = false;
+  session = s;
+}
+
+-- A command that the definitions don't speak of yet is unknown.
 abbrev pub deed : World → Session → Command → Deed
 deed w s (asks.Init cvd schema file) = init_deed w s cvd schema file
 deed w s (asks.Checkout cvd vids file None) = checkout_deed s vids file cvd (set_named w cvd)
 deed w s (asks.Commit cvd vids file message added) = commit_deed w s cvd vids message (columns_of added) file (set_named w cvd)
+deed w s (asks.Optimize cvd p q) = optimize_deed s cvd p q (set_named w cvd)
+deed w s (asks.Migrate count) = migrate_by w s (next_steps count w)
+deed w s (asks.Layout cvd) = layout_deed s cvd (set_named w cvd)
 deed w s (asks.Log cvd) = log_deed s cvd (set_named w cvd)
 deed w s asks.Ls = tells s (says.Ls (map ls_line w.sets))
 deed w s (asks.DropCvd cvd) = drop_deed s cvd (set_named w cvd)
+deed w s asks.Checkpoint = checkpoint_deed w s
+deed w s (asks.Generate cvd seed rows versions) =
+    unless s (init_refusal w cvd) (generate_by w s cvd (generated w.next cvd seed rows versions))
 deed w s _ = refuses s no.UnknownCommand

@@ -1,12 +1,12 @@
 -- A whole run of a script.
---     course steps w files user lines space      its moves and replies in order
+--     course forms steps w session lines space      its moves and replies in order; `forms` are those of the commands that there are
 --     play items      the replies as bytes
 --     world_at w items k      the World after the first k moves
 --     due j items      the moves before the j-th reply
 --     whole items x      how many replies stand whole at the front of x
 use Rattle.std.specs.Prelude.{◌≢◌, ℕ, zero, suc, ◌+◌, Bool, true, false, ◌==◌, if◌then◌else◌, List, [], ◌∷◌, ◌++◌, length, drop, Option, Some, None}
 use Rattle.ov_model.specs.Act.{Session, Deed, deed}
-use Rattle.ov_model.specs.Forms.{built_forms}
+use Rattle.ov_model.specs.Forms.{Form}
 use Rattle.ov_model.specs.Line.{Line, Comment, Asks, Refused, line_of}
 use Rattle.ov_model.specs.Moves.{Move, moved}
 use Rattle.ov_model.specs.Replies.{reply_text}
@@ -101,15 +101,15 @@ line_served n w s space (Asks command) =
     and_steps n (attempts (deed w s command) s 0 (deed w s command).moves w space)
 line_served n w s space (Refused refusal) = and_steps n (replied (says.Refused refusal) w s space)
 
-abbrev pub served : ℕ → World → Session → List ℕ → Space → Served
-served n w s line space = line_served n w s space (line_of built_forms line)
+abbrev pub served : List Form → ℕ → World → Session → List ℕ → Space → Served
+served forms n w s line space = line_served n w s space (line_of forms line)
 
 -- lines one after another
-abbrev pub course : ℕ → World → Session → List (List ℕ) → Space → Served
-course n w s [] space = nothing w s space
-course n w s (line ∷ lines) space =
-    after (served n w s line space).items
-    (course n (served n w s line space).world (served n w s line space).session lines (served n w s line space).left)
+abbrev pub course : List Form → ℕ → World → Session → List (List ℕ) → Space → Served
+course forms n w s [] space = nothing w s space
+course forms n w s (line ∷ lines) space =
+    after (served forms n w s line space).items
+    (course forms n (served forms n w s line space).world (served forms n w s line space).session lines (served forms n w s line space).left)
 
 -- the World after these
 abbrev pub world_after : World → List Item → World

@@ -18,7 +18,7 @@ marked = 239 ∷ 187 ∷ 191 ∷ (codes "id,ok\r\n+7,t\r\n\r\n08,false")
 
 abbrev pub files : Files
 files =
-    put (put (put (put (put (put (put (put (put (put (put (put (put (put (put no_files
+    put (put (put (put (put (put (put (put (put (put (put (put (put (put (put (put (put (put (put (put no_files
     (codes "a.csv") (codes "id,name,score\n1,ann,10\n2,bob,20\n"))
     (codes "b.csv") (codes "id,name,score\n1,ann,10\n2,bob,25\n3,cy,30\n"))
     (codes "h.csv") (codes "id,name,score\n"))
@@ -30,6 +30,11 @@ files =
     (codes "comma.csv") (codes "id,name,score\n1,\"a,b\",1\n"))
     (codes "null.csv") (codes "id,name,score\n,x,1\n"))
     (codes "both.csv") (codes "id,name,score\n1,ann,10\n2,bob,20\n3,cy,30\n"))
+    (codes "c1.csv") (codes "k,x\n1,1\n2,1\n3,1\n4,1\n"))
+    (codes "c2.csv") (codes "k,x\n1,1\n5,1\n6,1\n7,1\n"))
+    (codes "c3.csv") (codes "k,x\n1,1\n5,1\n6,1\n7,1\n8,1\n"))
+    (codes "c4.csv") (codes "k,x\n1,1\n5,1\n6,1\n7,1\n8,1\n9,1\n"))
+    (codes "c5.csv") (codes "k,x\n1,1\n20,1\n"))
     (codes "wide.csv") (codes "id,name,score,team\n1,ann,10,\\N\n2,bob,25,red\n3,cy,30,\n"))
     (codes "bytes.csv") ((codes "id,name,score\n1,") ++ 255 ∷ (codes ",1\n")))
     (codes "marked.csv") marked)
@@ -40,7 +45,7 @@ session = record { files = files; user = codes "admin" }
 
 -- what a script on an empty store comes to, with room for all of it and no steps
 abbrev pub served_all : List ℕ → Served
-served_all script = course 0 empty_world session (lines_of script) []
+served_all script = course all_forms 0 empty_world session (lines_of script) []
 
 abbrev pub printed : List ℕ → List ℕ
 printed script = play (served_all script).items
@@ -138,5 +143,55 @@ examples =
     (
       codes "commit people -v 1, -m x -f b.csv\ncommit people -v 1 -v 1\ncommit people -m \"open\ncheckout people -v 1234567890123456789\ncommit people -v 1 -f \"\" -m x\n",
       codes "error 54: bad number\nerror 53: unexpected word 5\nerror 58: a quote is not closed\nerror 54: bad number\nerror 53: unexpected word 6\n",
+    ) ∷
+    []
+
+-- the same of plans and what comes of them
+abbrev pub plan_examples : List (List ℕ × List ℕ)
+plan_examples =
+    -- a part that stops keeps all its segments
+    (
+      codes "init chain -s k:int,x:int -k k -f c1.csv\ncommit chain -v 1 -f c2.csv -m two\ncommit chain -v 2 -f c3.csv -m three\noptimize chain -d 1/2\nmigrate 5\nlayout chain\n",
+      codes "chain: version 1 (4 rows)\nchain: version 2 (4 rows, 3 new)\nchain: version 3 (5 rows, 1 new)\ndepth 0, partitions 1, stored 8, records 8, members 13, cost 24, steps 1\nsteps 1 left 0\npartition 2: records 8, versions 1,2,3\nstored 8, cost 24\n",
+    ) ∷
+    -- a cut, its steps and the layout between them
+    (
+      codes "init chain -s k:int,x:int -k k -f c1.csv\ncommit chain -v 1 -f c2.csv -m two\ncommit chain -v 2 -f c3.csv -m three\noptimize chain -d 3/4\nmigrate 1\nlayout chain\nmigrate 9\nlayout chain\n",
+      codes "chain: version 1 (4 rows)\nchain: version 2 (4 rows, 3 new)\nchain: version 3 (5 rows, 1 new)\ndepth 1, partitions 2, stored 9, records 8, members 13, cost 14, steps 4\nsteps 1 left 3\npartition 1: records 8, versions 1,2,3\nplan 3/4: target 1 of 2, copied 4 of 4, steps 3\nstored 12, cost 24\nsteps 3 left 0\npartition 2: records 4, versions 1\npartition 3: records 5, versions 2,3\nstored 9, cost 14\n",
+    ) ∷
+    -- a commit while a plan runs
+    (
+      codes "init chain -s k:int,x:int -k k -f c1.csv\ncommit chain -v 1 -f c2.csv -m two\ncommit chain -v 2 -f c3.csv -m three\noptimize chain -d 3/4\nmigrate 2\ncommit chain -v 3 -f c4.csv -m four\nmigrate 9\nlayout chain\n",
+      codes "chain: version 1 (4 rows)\nchain: version 2 (4 rows, 3 new)\nchain: version 3 (5 rows, 1 new)\ndepth 1, partitions 2, stored 9, records 8, members 13, cost 14, steps 4\nsteps 2 left 2\nchain: version 4 (6 rows, 1 new)\nsteps 2 left 0\npartition 2: records 4, versions 1\npartition 3: records 6, versions 4\npartition 4: records 5, versions 2,3\nstored 15, cost 20\n",
+    ) ∷
+    -- a commit that gets a partition of its own
+    (
+      codes "init chain -s k:int,x:int -k k -f c1.csv\ncommit chain -v 1 -f c2.csv -m two\ncommit chain -v 2 -f c3.csv -m three\noptimize chain -d 3/4\nmigrate 9\ncommit chain -v 3 -f c5.csv -m own\nlayout chain\n",
+      codes "chain: version 1 (4 rows)\nchain: version 2 (4 rows, 3 new)\nchain: version 3 (5 rows, 1 new)\ndepth 1, partitions 2, stored 9, records 8, members 13, cost 14, steps 4\nsteps 4 left 0\nchain: version 4 (2 rows, 1 new)\npartition 2: records 4, versions 1\npartition 3: records 5, versions 2,3\npartition 4: records 2, versions 4\nstored 11, cost 16\n",
+    ) ∷
+    -- segments that a target keeps
+    (
+      codes "init chain -s k:int,x:int -k k -f c1.csv\ncommit chain -v 1 -f c2.csv -m two\ncommit chain -v 2 -f c3.csv -m three\noptimize chain -d 3/4\nmigrate 3\nlayout chain\n",
+      codes "chain: version 1 (4 rows)\nchain: version 2 (4 rows, 3 new)\nchain: version 3 (5 rows, 1 new)\ndepth 1, partitions 2, stored 9, records 8, members 13, cost 14, steps 4\nsteps 3 left 1\npartition 1: records 8, versions 2,3\npartition 2: records 4, versions 1\nplan 3/4: target 2 of 2, copied 1 of 1, steps 1\nstored 13, cost 20\n",
+    ) ∷
+    -- plans that are refused
+    (
+      codes "init chain -s k:int,x:int -k k -f c1.csv\ncommit chain -v 1 -f c2.csv -m two\ncommit chain -v 2 -f c3.csv -m three\noptimize chain -d 5/4\noptimize chain -d 0/1\noptimize chain -d half\noptimize chain -d 3/4\noptimize chain -d 1/2\n",
+      codes "chain: version 1 (4 rows)\nchain: version 2 (4 rows, 3 new)\nchain: version 3 (5 rows, 1 new)\nerror 17: threshold out of range\nerror 17: threshold out of range\nerror 54: bad number\ndepth 1, partitions 2, stored 9, records 8, members 13, cost 14, steps 4\nerror 18: chain is migrating\n",
+    ) ∷
+    -- a split with two parents of one weight
+    (
+      codes "init people -s id:int,name:text,score:int -k id -f a.csv\ncommit people -v 1 -f b.csv -m raise\ncommit people -v 2 -f a.csv -m back\ncommit people -v 1,2 -f both.csv -m both\noptimize people -d 1/1\n",
+      codes "people: version 1 (2 rows)\npeople: version 2 (3 rows, 2 new)\npeople: version 3 (2 rows, 1 new)\npeople: version 4 (3 rows, 0 new)\ndepth 2, partitions 4, stored 10, records 6, members 10, cost 10, steps 8\n",
+    ) ∷
+    -- the layout of a chain, a checkpoint, and no steps
+    (
+      codes "init people -s id:int,name:text,score:int -k id -f a.csv\ncommit people -v 1 -f b.csv -m raise\nlayout people\ncheckpoint\nmigrate 5\n",
+      codes "people: version 1 (2 rows)\npeople: version 2 (3 rows, 2 new)\npartition 1: records 4, versions 1,2\nstored 4, cost 8\ncheckpoint: 1 datasets\nsteps 0 left 0\n",
+    ) ∷
+    -- the least that is generated
+    (
+      codes "generate tiny 0 1 1\ngenerate tiny 0 1 1\ngenerate x 0 0 1\n",
+      codes "tiny: 1 versions, 1 records, 1 members\nerror 11: tiny exists\nerror 54: bad number\n",
     ) ∷
     []

@@ -5,10 +5,12 @@ pub mod Csv
 pub mod Examples
 pub mod Forms
 pub mod Line
+pub mod Generator
 pub mod Grammar
 pub mod Lists
 pub mod Merge
 pub mod Moves
+pub mod Plans
 pub mod Records
 pub mod Replies
 pub mod Steps

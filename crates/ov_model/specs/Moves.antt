@@ -2,8 +2,8 @@
 --     moved m w      the World after the move
 --     placed_at d v      where a commit's version goes: by the numbers of the dataset before it
 --     Fits m w      what is asked of a move
-use Rattle.std.specs.Prelude.{ℕ, ◌+◌, Bool, not, ◌==◌, nat_lt, if◌then◌else◌, List, [], ◌∷◌, ◌++◌, length, map, filter, Option, Some, None, Result, Ok, Err, codes}
-use Rattle.std.specs.List.{list_any}
+use Rattle.std.specs.Prelude.{ℕ, ◌+◌, Bool, not, ◌==◌, if◌then◌else◌, List, [], ◌∷◌, ◌++◌, length, map, filter, Option, Some, None, Result, Ok, Err, codes}
+use Rattle.ov_graph.specs.Versions.{heaviest}
 use Rattle.ov_place.specs.Placement.{placed}
 use Rattle.ov_place.specs.declared.place_facts.Place.{Place}
 use Rattle.ov_place.specs.declared.place_facts.Place.TheVariants.{Own, Join}
@@ -13,7 +13,8 @@ use Rattle.ov_value.specs.declared.schema_err.SchemaErr.{SchemaErr}
 use Rattle.ov_value.specs.Making.{widened}
 use Rattle.ov_value.specs.Shapes.{Shape}
 use Rattle.ov_model.specs.Book.{Row, Version, Cvd, extended}
-use Rattle.ov_model.specs.Records.{Rec, is_same_rec, recs, records_of, of_version, weight, order_of}
+use Rattle.ov_model.specs.Plans.{planned, copied_more, flipped}
+use Rattle.ov_model.specs.Records.{Rec, recs, records_of, weights, lacking, order_of}
 use Rattle.ov_model.specs.World.{Part, Plan, Dataset, World, held, stored, part_of, is_unmoved}
 
 pub data Move : Type 0 where
@@ -21,37 +22,25 @@ pub data Move : Type 0 where
   Init : (name : List ℕ) (schema : Shape) (rows : List Row) → Move
   -- a version more of the dataset of this number, with columns added at the right, and its rows
   Commit : (cvd : ℕ) (parents : List ℕ) (message : List ℕ) (added : List Column) (rows : List Row) → Move
+  -- a plan of the dataset of this number begins, at the threshold p / q
+  BeginPlan : (cvd : ℕ) (p : ℕ) (q : ℕ) → Move
+  -- its plan's target takes the next missing records
+  Copy : (cvd : ℕ) → Move
+  -- its plan's target becomes a partition
+  Flip : (cvd : ℕ) → Move
   -- the dataset of this number goes
   Drop : (cvd : ℕ) → Move
+  -- the store's state becomes the journal's first records
+  Checkpoint : Move
 
 -- a piece of these records; none where there are none
 abbrev pub piece_of : List Rec → List (List Rec)
 piece_of [] = []
 piece_of (r ∷ rs) = (r ∷ rs) ∷ []
 
--- those that aren't among the others
-abbrev pub lacking : List Rec → List Rec → List Rec
-lacking rs others = filter (λ r. not (list_any (is_same_rec r) others)) rs
-
--- the parents with the weights of their edges, in the order in which they were listed
-abbrev pub weights : List ℕ → List Rec → List (List Rec) → List (ℕ × ℕ)
-weights [] rs done = []
-weights (p ∷ ps) rs done = (p, weight rs (of_version done p)) ∷ weights ps rs done
-
--- the parent of the greatest weight, the first listed one of several, with that weight
-abbrev pub heavier : ℕ × ℕ → ℕ × ℕ → ℕ × ℕ
-heavier a b = if nat_lt a.1 b.1 then b else a
-
-abbrev pub heaviest : ℕ × ℕ → List (ℕ × ℕ) → ℕ × ℕ
-heaviest best [] = best
-heaviest best (edge ∷ edges) = heaviest (heavier best edge) edges
-
-abbrev pub tree_edge : List (ℕ × ℕ) → ℕ × ℕ
-tree_edge [] = (0, 0)
-tree_edge (edge ∷ edges) = heaviest edge edges
-
+-- the parent that the reduced tree keeps: that of the greatest weight, ties to the one listed first; and that weight
 abbrev pub tree_edge_of : Dataset → Version → ℕ × ℕ
-tree_edge_of d v = tree_edge (weights v.parents (records_of v (recs d.cvd.versions [])) (recs d.cvd.versions []))
+tree_edge_of d v = heaviest (weights v.parents (records_of v (recs d.cvd.versions [])) (recs d.cvd.versions []))
 
 -- what decides on a version's place: the dataset's threshold, records and stored records as they were before it, the weight
 -- of its edge from its tree parent, and that parent's partition
@@ -155,18 +144,21 @@ numbered number d = d.cvd.number == number
 abbrev pub change : ℕ → (Dataset → Dataset) → List Dataset → List Dataset
 change number f sets = map (λ d. if numbered number d then f d else d) sets
 
--- each of these moves is one record of the journal
+-- a change of one dataset, which is one record of the journal
+abbrev pub changed : ℕ → (Dataset → Dataset) → World → World
+changed cvd f w = record w { sets = change cvd f w.sets; records = w.records + 1 }
+
+-- Each move but a checkpoint is one record of the journal more. A checkpoint begins an epoch, whose records are one for the
+-- numbers and one for each dataset.
 abbrev pub moved : Move → World → World
 moved (Init name schema rows) w = record w {
   sets = w.sets ++ new_set w.next name schema rows ∷ [];
   next = w.next + 1;
   records = w.records + 1;
 }
-moved (Commit cvd parents message added rows) w = record w {
-  sets = change cvd (committed parents message added rows) w.sets;
-  records = w.records + 1;
-}
-moved (Drop cvd) w = record w {
-  sets = filter (λ d. not (numbered cvd d)) w.sets;
-  records = w.records + 1;
-}
+moved (Commit cvd parents message added rows) w = changed cvd (committed parents message added rows) w
+moved (BeginPlan cvd p q) w = changed cvd (planned p q) w
+moved (Copy cvd) w = changed cvd copied_more w
+moved (Flip cvd) w = changed cvd flipped w
+moved (Drop cvd) w = record w { sets = filter (λ d. not (numbered cvd d)) w.sets; records = w.records + 1 }
+moved Checkpoint w = record w { epoch = w.epoch + 1; records = length w.sets + 1; format = 2 }

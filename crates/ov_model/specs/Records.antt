@@ -1,7 +1,7 @@
 -- Which rows of a dataset's versions are one record, and the numbers of records.
 --     recs versions done      the records of each version, in order, after those of the versions before
 --     order_of versions      all records by origin, then by key; a record's rid is its place in it, from 1
-use Rattle.std.specs.Prelude.{ℕ, zero, suc, ◌+◌, ◌-◌, Bool, ◌&&◌, ◌==◌, if◌then◌else◌, List, [], ◌∷◌, ◌++◌, length, map, filter, count_by, slice_index_or, Option, Some, None}
+use Rattle.std.specs.Prelude.{ℕ, zero, suc, ◌+◌, ◌-◌, Bool, not, ◌&&◌, ◌==◌, if◌then◌else◌, List, [], ◌∷◌, ◌++◌, length, map, filter, count_by, slice_index_or, Option, Some, None}
 use Rattle.std.specs.List.{list_any}
 use Rattle.std.specs.Ordering.{eq_by_cmp}
 use Rattle.std.specs.Cmp.Lexicographic.{pointwise}
@@ -79,6 +79,18 @@ weight a b = count_by (λ r. list_any (is_same_rec r) b) a
 -- the rows of a version by its number; none where there is no such version
 abbrev pub rows_at : List Version → ℕ → List Row
 rows_at versions vid = slice_index_or (map (λ v. v.rows) versions) (vid - 1) []
+
+abbrev pub is_among : List Rec → Rec → Bool
+is_among rs r = list_any (is_same_rec r) rs
+
+-- those that aren't among the others
+abbrev pub lacking : List Rec → List Rec → List Rec
+lacking rs others = filter (λ r. not (is_among others r)) rs
+
+-- the parents with the weights of their edges, in the order in which they were listed
+abbrev pub weights : List ℕ → List Rec → List (List Rec) → List (ℕ × ℕ)
+weights [] rs done = []
+weights (p ∷ ps) rs done = (p, weight rs (of_version done p)) ∷ weights ps rs done
 
 -- so many numbers from one on
 abbrev pub counted : ℕ → ℕ → List ℕ

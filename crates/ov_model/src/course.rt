@@ -2,6 +2,7 @@
 ghost use Rattle.std.specs.Prelude.{◌≡◌, ◌≤◌, ◌+◌, ℕ, List, [], ◌∷◌, ◌++◌, length, slice_get, Some};
 ghost use Rattle.ov_model.specs.Act.{Session};
 ghost use Rattle.ov_model.specs.Course.{Item, Space, Served, SaysSome, after, course, due, moves_of, play, world_after, world_at};
+ghost use Rattle.ov_model.specs.Forms.{Form};
 ghost use Rattle.ov_model.specs.Moves.{Move, moved};
 ghost use Rattle.ov_model.specs.Words.{lines_of};
 ghost use Rattle.ov_model.specs.World.{World, AllBegun, empty_world};
@@ -9,10 +10,10 @@ ghost use Rattle.ov_model.specs.World.{World, AllBegun, empty_world};
 /// The course of a script's lines is that of the first of them and then that of the others, from the World and the session
 /// that the first ones leave, with the space that they leave. So is the play.
 pub fn a_course_goes_on()
-    ensures course { (steps : ℕ) (w : World) (s : Session) (a b : List (List ℕ)) (space : Space)
-        → course steps w s (a ++ b) space
-        ≡ after (course steps w s a space).items
-        (course steps (course steps w s a space).world (course steps w s a space).session b (course steps w s a space).left) }
+    ensures course { (forms : List Form) (steps : ℕ) (w : World) (s : Session) (a b : List (List ℕ)) (space : Space)
+        → course forms steps w s (a ++ b) space
+        ≡ after (course forms steps w s a space).items
+        (course forms steps (course forms steps w s a space).world (course forms steps w s a space).session b (course forms steps w s a space).left) }
     ensures play { (a b : List Item) → play (a ++ b) ≡ play a ++ play b }
 {}
 
@@ -23,8 +24,8 @@ pub fn whole_lines_stand_alone()
 
 /// The World after a course is the one after its moves.
 pub fn a_course_ends_at_its_moves()
-    ensures { (steps : ℕ) (w : World) (s : Session) (lines : List (List ℕ)) (space : Space)
-        → (course steps w s lines space).world ≡ world_after w (course steps w s lines space).items }
+    ensures { (forms : List Form) (steps : ℕ) (w : World) (s : Session) (lines : List (List ℕ)) (space : Space)
+        → (course forms steps w s lines space).world ≡ world_after w (course forms steps w s lines space).items }
 {}
 
 /// `World(k + 1)` is one move after `World(k)`, and the last of them is the World after all.
@@ -43,8 +44,8 @@ pub fn due_never_falls()
 /// No reply of a run from an empty store is empty, nor one of a run from a World whose datasets each have a version, as all
 /// have.
 pub fn no_reply_of_a_run_is_empty()
-    ensures says { (steps : ℕ) (w : World) (s : Session) (lines : List (List ℕ)) (space : Space) → AllBegun w.sets
-        → SaysSome (course steps w s lines space).items }
+    ensures says { (forms : List Form) (steps : ℕ) (w : World) (s : Session) (lines : List (List ℕ)) (space : Space) → AllBegun w.sets
+        → SaysSome (course forms steps w s lines space).items }
     ensures start { AllBegun empty_world.sets }
     ensures kept { (w : World) (m : Move) → AllBegun w.sets → AllBegun (moved m w).sets }
 {}

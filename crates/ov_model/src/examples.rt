@@ -1,11 +1,13 @@
 // Worked examples.
 ghost use Rattle.std.specs.Prelude.{◌≡◌, Some, codes, ◌++◌};
-ghost use Rattle.ov_model.specs.Examples.{AllPrint, examples, people, printed_behind, served_all};
+ghost use Rattle.ov_model.specs.Examples.{AllPrint, examples, people, plan_examples, printed_behind, served_all};
 
-/// The worked examples print what was worked out by hand: init, commit, checkout, log, ls and drop with their refusals; a
+/// The worked examples print what was worked out by hand: init, commit, checkout, log, ls and drop with their refusals, and
+/// optimize, migrate, layout, checkpoint and generate; a
 /// checkout into a file leaves its text there; and a commit that adds a column gives it to the versions before.
 pub fn worked_examples()
     ensures print { AllPrint examples }
+    ensures plans { AllPrint plan_examples }
     ensures file { (served_all (people ++ codes "checkout people -v 1,2 -f out.csv\n")).session.files (codes "out.csv")
         ≡ Some (codes "id,name,score\n1,ann,10\n2,bob,20\n3,cy,30\n") }
     ensures wide { printed_behind people (codes "commit people -v 2 -f wide.csv -m wide -a team:text") ≡ codes "people: version 3 (3 rows, 2 new)\n" }
