@@ -1,3 +1,4 @@
+pub mod Answered
 pub mod Courses
 pub mod Growing
 pub mod Lines
@@ -6,4 +7,5 @@ pub mod Origins
 pub mod Own
 pub mod Replying
 pub mod Rids
+pub mod Truths
 pub mod Worked

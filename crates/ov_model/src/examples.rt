@@ -1,5 +1,6 @@
 // Worked examples.
 ghost use Rattle.std.specs.Prelude.{◌≡◌, Some, codes, ◌++◌};
+ghost use Rattle.ov_model.specs.Questions.{AllAnswered};
 ghost use Rattle.ov_model.specs.Examples.{AllPrint, examples, people, plan_examples, printed_behind, served_all};
 
 /// The worked examples print what was worked out by hand: init, commit, checkout, log, ls and drop with their refusals, and
@@ -12,4 +13,10 @@ pub fn worked_examples()
         ≡ Some (codes "id,name,score\n1,ann,10\n2,bob,20\n3,cy,30\n") }
     ensures wide { printed_behind people (codes "commit people -v 2 -f wide.csv -m wide -a team:text") ≡ codes "people: version 3 (3 rows, 2 new)\n" }
     ensures repeated { printed_behind people (codes "commit people -v 2 -f wide.csv -m wide -a id:int") ≡ codes "error 64: column id is repeated\n" }
+{}
+
+/// The worked examples of queries without conditions print what was worked out by hand: grouped ones, those that are refused,
+/// NULL, and lineages.
+pub fn worked_queries()
+    ensures { AllAnswered }
 {}

@@ -7,6 +7,7 @@
 
 mod answer;
 mod command;
+mod conditions;
 mod course;
 mod examples;
 mod line;
@@ -19,11 +20,12 @@ mod reply;
 
 pub use answer::{Answer, Cell};
 pub use command::Command;
+pub use conditions::{comparisons_by_cases, truth_by_cases};
 pub use course::{
     a_course_ends_at_its_moves, a_course_goes_on, due_never_falls, no_reply_of_a_run_is_empty,
     whole_lines_stand_alone, worlds_are_one_move_apart,
 };
-pub use examples::worked_examples;
+pub use examples::{worked_examples, worked_queries};
 pub use line::a_line_is_one_thing;
 pub use merge::merge_takes_the_first_of_each_key;
 pub use query::{
