@@ -1,11 +1,13 @@
 // Laws of a whole run.
-ghost use Rattle.std.specs.Prelude.{◌≡◌, ◌≤◌, ◌+◌, ℕ, List, [], ◌∷◌, ◌++◌, length, slice_get, Some};
-ghost use Rattle.ov_model.specs.Act.{Session};
+ghost use Rattle.std.specs.Prelude.{◌≡◌, ◌≤◌, ◌+◌, ℕ, List, [], ◌∷◌, ◌++◌, length, slice_get, Option, Some, None};
+ghost use Rattle.ov_model.specs.Act.{Session, deed};
 ghost use Rattle.ov_model.specs.Course.{Item, Space, Served, SaysSome, after, course, due, moves_of, play, world_after, world_at};
 ghost use Rattle.ov_model.specs.Forms.{Form};
-ghost use Rattle.ov_model.specs.Moves.{Move, moved};
+ghost use Rattle.ov_model.specs.Moves.{Move, Checkpoint, moved};
+ghost use Rattle.ov_model.specs.declared.command.Command.{Command};
+ghost use Rattle.ov_model.specs.declared.command.Command.TheVariants.{Checkout};
 ghost use Rattle.ov_model.specs.Words.{lines_of};
-ghost use Rattle.ov_model.specs.World.{World, AllBegun, empty_world};
+ghost use Rattle.ov_model.specs.World.{World, AllBegun, book, empty_world};
 
 /// The course of a script's lines is that of the first of them and then that of the others, from the World and the session
 /// that the first ones leave, with the space that they leave. So is the play.
@@ -48,4 +50,17 @@ pub fn no_reply_of_a_run_is_empty()
         → SaysSome (course forms steps w s lines space).items }
     ensures start { AllBegun empty_world.sets }
     ensures kept { (w : World) (m : Move) → AllBegun w.sets → AllBegun (moved m w).sets }
+{}
+
+/// In a store of format 2 a checkpoint changes no reply.
+pub fn a_checkpoint_changes_no_reply()
+    ensures { (w : World) (s : Session) (command : Command) → w.format ≡ 2
+        → (deed (moved Checkpoint w) s command).reply ≡ (deed w s command).reply }
+{}
+
+/// What a checkout says, and puts into a file, depends on the book, the files and the line alone: on no partition, plan or
+/// number of the store.
+pub fn a_checkout_is_of_the_book()
+    ensures { (w v : World) (s : Session) (vids : List ℕ) (file : Option (List ℕ)) (name : List ℕ) → book w ≡ book v
+        → deed w s (Checkout name vids file None) ≡ deed v s (Checkout name vids file None) }
 {}
