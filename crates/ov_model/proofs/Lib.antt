@@ -1,5 +1,6 @@
 pub mod Alike
 pub mod Answered
+pub mod Assigning
 pub mod Courses
 pub mod Growing
 pub mod Lines

@@ -62,7 +62,7 @@ at_known [] k all r are is = absurd is
 at_known (l ∷ ls) zero all r are is = are_in_is l all r are.0 is
 at_known (l ∷ ls) (suc k) all r are is = at_known ls k all r are.1 is
 
-found_by : (ps : List ℕ) (done : List (List Rec)) (row : Row) (o : ℕ) (all : List Rec) → AllAreIn done all → origin_by ps done row ≡ Some o → IsIn all (record { origin = o; row = row })
+pub found_by : (ps : List ℕ) (done : List (List Rec)) (row : Row) (o : ℕ) (all : List Rec) → AllAreIn done all → origin_by ps done row ≡ Some o → IsIn all (record { origin = o; row = row })
 found_by [] done row o all are e = cc
 found_by (p ∷ ps) done row o all are e =
     elim (first_is (origin_in (of_version done p) row) (origin_by ps done row) o e) [

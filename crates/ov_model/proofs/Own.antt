@@ -49,7 +49,7 @@ at_below n [] k b = tt
 at_below n (l ∷ ls) zero b = b.0
 at_below n (l ∷ ls) (suc k) b = at_below n ls k b.1
 
-by_below : (n : ℕ) (ps : List ℕ) (done : List (List Rec)) (row : Row) (o : ℕ) → AllBelow n done → origin_by ps done row ≡ Some o → o ≤ n
+pub by_below : (n : ℕ) (ps : List ℕ) (done : List (List Rec)) (row : Row) (o : ℕ) → AllBelow n done → origin_by ps done row ≡ Some o → o ≤ n
 by_below n [] done row o b e = cc
 by_below n (p ∷ ps) done row o b e =
     elim (first_is (origin_in (of_version done p) row) (origin_by ps done row) o e) [

@@ -49,19 +49,19 @@ and_false-left : (a b : Bool) → a ≡ false → (a && b) ≡ false
 and_false-left true b e = cc
 and_false-left false b e = refl
 
-and_false-right : (a b : Bool) → b ≡ false → (a && b) ≡ false
+pub and_false-right : (a b : Bool) → b ≡ false → (a && b) ≡ false
 and_false-right true b e = e
 and_false-right false b e = refl
 
 -- records of other origins
-other_origin : (r x : Rec) → r.origin ≢ x.origin → is_same_rec r x ≡ false
+pub other_origin : (r x : Rec) → r.origin ≢ x.origin → is_same_rec r x ≡ false
 other_origin r x other = and_false-left (r.origin == x.origin) (is_same_row r.row x.row) (ne_eqb r.origin x.origin other)
 
 abbrev From : ℕ → List Rec → Type 0
 From n [] = Unit {0}
 From n (r ∷ rs) = (n ≤ r.origin) × From n rs
 
-abbrev Of : ℕ → List Rec → Type 0
+abbrev pub Of : ℕ → List Rec → Type 0
 Of n [] = Unit {0}
 Of n (r ∷ rs) = (r.origin ≡ n) × Of n rs
 
@@ -69,7 +69,7 @@ of_if : (t : Bool) (n : ℕ) (r : Rec) (rs : List Rec) → (t ≡ true → r.ori
 of_if true n r rs is of = (is refl, of)
 of_if false n r rs is of = of
 
-fresh_of : (rs : List Rec) (n : ℕ) → Of n (fresh_in rs n)
+pub fresh_of : (rs : List Rec) (n : ℕ) → Of n (fresh_in rs n)
 fresh_of [] n = tt
 fresh_of (r ∷ rs) n = of_if (r.origin == n) n r (fresh_in rs n) (λ e. eqb-true r.origin n e) (fresh_of rs n)
 
@@ -127,7 +127,7 @@ order_once (rs ∷ rss) n once =
     (order_from rss (n + 1))
 
 -- a row below another is another
-not_same : (schema : Shape) (a b : Row) → key_cmp schema a b ≡ Less → is_same_row b a ≡ false
+pub not_same : (schema : Shape) (a b : Row) → key_cmp schema a b ≡ Less → is_same_row b a ≡ false
 not_same schema a b less =
     elim (cases_Bool (is_same_row b a)) [
       | inl same ↦

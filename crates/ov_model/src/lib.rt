@@ -33,7 +33,10 @@ pub use query::{
     Col, Cond, Fixed, Items, JoinQuery, Key, LineageKind, Operand, Query, Side, Sign, Src, Symbol,
     Term,
 };
-pub use records::{own_rows_are_no_new_records, rids_have_no_gap, versions_keep_earlier_rids};
+pub use records::{
+    assignment_gives_the_rids, own_rows_are_no_new_records, rids_have_no_gap,
+    versions_keep_earlier_rids,
+};
 pub use refusal::Refusal;
 pub use replies::a_reply_is_not_empty;
 pub use reply::{BudgetLine, CvdLine, LogLine, PartLine, PlanLine, Reply, TableLine};

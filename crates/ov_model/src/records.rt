@@ -2,7 +2,9 @@
 ghost use Rattle.std.specs.Prelude.{◌≡◌, ◌+◌, ℕ, List, [], ◌∷◌, ◌++◌, length, map};
 ghost use Rattle.ov_value.specs.Shapes.{Shape};
 ghost use Rattle.ov_model.specs.Book.{Row, Version};
-ghost use Rattle.ov_model.specs.Lists.{IsIn, AllAreIn};
+ghost use Rattle.ov_value.specs.Rows.{key_cmp};
+ghost use Rattle.ov_model.specs.Assigned.{assigned, stored_parents};
+ghost use Rattle.ov_model.specs.Lists.{IsIn, AllAreIn, Rises};
 ghost use Rattle.ov_model.specs.Records.{Rec, recs, records_of, fresh_in, order_of, rid_in, rows_at, counted, AllRise};
 
 /// A version more gives the records that were there the rids that they had, and each record of each version has a rid.
@@ -23,4 +25,11 @@ pub fn own_rows_are_no_new_records()
 pub fn rids_have_no_gap()
     ensures { (schema : Shape) (versions : List Version) → AllRise schema versions
         → map (rid_in (order_of versions)) (order_of versions) ≡ counted 1 (length (order_of versions)) }
+{}
+
+/// The rids that a commit gives, from its parents' records as they are stored, are those of the new version's records.
+pub fn assignment_gives_the_rids()
+    ensures { (schema : Shape) (versions : List Version) (v : Version) → Rises (key_cmp schema) v.rows
+        → assigned v.rows (stored_parents v.parents (recs versions []) (order_of versions)) (length (order_of versions) + 1)
+        ≡ map (rid_in (order_of (versions ++ v ∷ []))) (records_of v (recs versions [])) }
 {}
