@@ -9,5 +9,6 @@ pub mod Origins
 pub mod Own
 pub mod Replying
 pub mod Rids
+pub mod Singles
 pub mod Truths
 pub mod Worked

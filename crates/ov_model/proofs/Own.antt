@@ -44,7 +44,7 @@ origin_below n (r ∷ rs) row o b e =
       | inr differs ↦ origin_below n rs row o b.1 (sym (cond-false _ (Some r.origin) (origin_in rs row) differs) ∙ e)
     ]
 
-at_below : (n : ℕ) (rss : List (List Rec)) (k : ℕ) → AllBelow n rss → Below n (get_or rss k [])
+pub at_below : (n : ℕ) (rss : List (List Rec)) (k : ℕ) → AllBelow n rss → Below n (get_or rss k [])
 at_below n [] k b = tt
 at_below n (l ∷ ls) zero b = b.0
 at_below n (l ∷ ls) (suc k) b = at_below n ls k b.1
@@ -66,6 +66,14 @@ own_below ps done row (Some o) b e =
 map_below : (ps : List ℕ) (done : List (List Rec)) (rows : List Row) → AllBelow (length done) done → Below (length done + 1) (map (record_of ps done) rows)
 map_below ps done [] b = tt
 map_below ps done (row ∷ rows) b = (own_below ps done row (origin_by ps done row) b refl, map_below ps done rows b)
+
+-- with the records of one version more
+pub one_more_below : (v : Version) (done : List (List Rec)) → AllBelow (length done) done → AllBelow (length (done ++ records_of v done ∷ [])) (done ++ records_of v done ∷ [])
+one_more_below v done b =
+    let one : length (done ++ records_of v done ∷ []) ≡ length done + 1 = length-append done (records_of v done ∷ [])
+    in subst (λ n. AllBelow n (done ++ records_of v done ∷ [])) (sym one)
+    (all_below_append (length done + 1) done (records_of v done) (all_below_more (length done) (length done + 1) done (omega arith) b)
+    (map_below v.parents done v.rows b))
 
 pub recs_below : (vs : List Version) (done : List (List Rec)) → AllBelow (length done) done → AllBelow (length done + length vs) (recs vs done)
 recs_below [] done b = all_below_more (length done) (length done + 0) done (omega arith) b

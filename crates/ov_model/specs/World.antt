@@ -1,10 +1,10 @@
 -- A World: the datasets with their partitions, thresholds and plans, and the numbers of the store.
 --     book w      its datasets alone
 --     stored set, cost set      the records kept over a dataset's partitions; what a checkout reads, summed over its versions
-use Rattle.std.specs.Prelude.{◌<◌, ℕ, ◌+◌, ◌*◌, ◌-◌, Bool, false, ◌==◌, if◌then◌else◌, List, [], ◌∷◌, length, map, Option, Some, None}
+use Rattle.std.specs.Prelude.{◌<◌, ◌≤◌, ℕ, ◌+◌, ◌*◌, ◌-◌, Bool, false, ◌==◌, if◌then◌else◌, List, [], ◌∷◌, length, map, Option, Some, None}
 use Rattle.std.specs.List.{list_any, sum}
 use Rattle.std.specs.Str.{bytes_eq}
-use Rattle.ov_model.specs.Book.{Book, Cvd}
+use Rattle.ov_model.specs.Book.{Book, Version, Cvd}
 use Rattle.ov_model.specs.Lists.{joined}
 use Rattle.ov_model.specs.Records.{Rec}
 
@@ -104,3 +104,8 @@ is_unmoved (Some plan) vid = list_any (λ t. is_one t.versions vid) (targets_fro
 abbrev pub AllBegun : List Dataset → Type 0
 AllBegun [] = Unit {0}
 AllBegun (d ∷ sets) = (0 < length d.cvd.versions) × AllBegun sets
+
+-- each version has one parent or none
+abbrev pub HasOneParentAtMost : List Version → Type 0
+HasOneParentAtMost [] = Unit {0}
+HasOneParentAtMost (v ∷ versions) = (length v.parents ≤ 1) × HasOneParentAtMost versions

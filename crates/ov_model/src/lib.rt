@@ -35,7 +35,7 @@ pub use query::{
 };
 pub use records::{
     assignment_gives_the_rids, own_rows_are_no_new_records, rids_have_no_gap,
-    versions_keep_earlier_rids,
+    single_parents_count_records, versions_keep_earlier_rids,
 };
 pub use refusal::Refusal;
 pub use replies::a_reply_is_not_empty;

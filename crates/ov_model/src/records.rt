@@ -2,9 +2,12 @@
 ghost use Rattle.std.specs.Prelude.{◌≡◌, ◌+◌, ℕ, List, [], ◌∷◌, ◌++◌, length, map};
 ghost use Rattle.ov_value.specs.Shapes.{Shape};
 ghost use Rattle.ov_model.specs.Book.{Row, Version};
+ghost use Rattle.ov_graph.specs.Trees.{all_records};
 ghost use Rattle.ov_value.specs.Rows.{key_cmp};
 ghost use Rattle.ov_model.specs.Assigned.{assigned, stored_parents};
 ghost use Rattle.ov_model.specs.Lists.{IsIn, AllAreIn, Rises};
+ghost use Rattle.ov_model.specs.Plans.{tree_of_set};
+ghost use Rattle.ov_model.specs.World.{Dataset, HasOneParentAtMost};
 ghost use Rattle.ov_model.specs.Records.{Rec, recs, records_of, fresh_in, order_of, rid_in, rows_at, counted, AllRise};
 
 /// A version more gives the records that were there the rids that they had, and each record of each version has a rid.
@@ -32,4 +35,11 @@ pub fn assignment_gives_the_rids()
     ensures { (schema : Shape) (versions : List Version) (v : Version) → Rises (key_cmp schema) v.rows
         → assigned v.rows (stored_parents v.parents (recs versions []) (order_of versions)) (length (order_of versions) + 1)
         ≡ map (rid_in (order_of (versions ++ v ∷ []))) (records_of v (recs versions [])) }
+{}
+
+/// Where every version has at most one parent, T, the records that each version adds to its tree parent's, summed over all
+/// versions, is the number of distinct records.
+pub fn single_parents_count_records()
+    ensures { (d : Dataset) → HasOneParentAtMost d.cvd.versions
+        → all_records (tree_of_set d) (length d.cvd.versions) ≡ length (order_of d.cvd.versions) }
 {}
