@@ -1,12 +1,14 @@
 pub mod Alike
 pub mod Answered
 pub mod Assigning
+pub mod Counting
 pub mod Courses
 pub mod Growing
 pub mod Lines
 pub mod Merging
 pub mod Origins
 pub mod Own
+pub mod Placing
 pub mod Replying
 pub mod Rids
 pub mod Singles

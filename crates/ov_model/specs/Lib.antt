@@ -14,6 +14,7 @@ pub mod Lineages
 pub mod Lists
 pub mod Merge
 pub mod Moves
+pub mod Placed
 pub mod Plans
 pub mod Questions
 pub mod Records

@@ -6,6 +6,7 @@ ghost use Rattle.ov_model.specs.Forms.{Form};
 ghost use Rattle.ov_model.specs.Moves.{Move, Checkpoint, moved};
 ghost use Rattle.ov_model.specs.declared.command.Command.{Command};
 ghost use Rattle.ov_model.specs.declared.command.Command.TheVariants.{Checkout};
+ghost use Rattle.ov_model.specs.Placed.{ArePlaced, NamesParents};
 ghost use Rattle.ov_model.specs.Words.{lines_of};
 ghost use Rattle.ov_model.specs.World.{World, AllBegun, book, empty_world};
 
@@ -63,4 +64,11 @@ pub fn a_checkpoint_changes_no_reply()
 pub fn a_checkout_is_of_the_book()
     ensures { (w v : World) (s : Session) (vids : List ℕ) (file : Option (List ℕ)) (name : List ℕ) → book w ≡ book v
         → deed w s (Checkout name vids file None) ≡ deed v s (Checkout name vids file None) }
+{}
+
+/// Each version is in exactly one partition, and stays so with every move whose commit names parents that are there. With it
+/// stays what that rests on: numbers of partitions are given once, and a plan's targets have versions that are there.
+pub fn each_version_is_in_one_partition()
+    ensures start { ArePlaced empty_world.sets }
+    ensures kept { (m : Move) (w : World) → NamesParents m w → ArePlaced w.sets → ArePlaced (moved m w).sets }
 {}
