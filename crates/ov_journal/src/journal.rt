@@ -3,10 +3,11 @@ ghost use Rattle.std.specs.Prelude.{◌≡◌, ◌<◌, ◌≤◌, ◌↔◌, �
 ghost use Rattle.ov_host.specs.Host.{Rose, bytes_of};
 ghost use Rattle.ov_host.specs.Stops.{Only};
 ghost use Rattle.ov_journal.specs.Held.{Numbers, Passes, AtRest, IsAt, IsOldOrNew, SameButJournal, kept_by};
+ghost use Rattle.ov_journal.specs.Journal.{and_one};
 
 use crate::errors::AppendErr;
 use crate::framed::Framed;
-use crate::header::OPEN;
+use crate::header::{Live, OPEN};
 use crate::writing::write_synced;
 use ov_host::{Area, Host};
 use std::marker::Model;
@@ -14,38 +15,45 @@ use std::marker::Model;
 // The greatest length of the journal, in bytes.
 pub(crate) const JOURNAL_BYTES: u64 = 1 << 28;
 
-/// The journal of a store: the place of its first closed gate, and its live slot's fields.
+/// The journal of a store: the place of its first closed gate, and its live slot.
 #[derive(Debug, Drop)]
 pub struct Journal {
     end: u64,
-    epoch: u32,
-    start: u32,
-    format: u32,
+    live: Live,
 }
 
 impl Model for Journal {
-    ghost use Rattle.std.specs.Prelude.{◌<◌, ◌^◌};
+    ghost use Rattle.std.specs.Prelude.{◌<◌, ◌≤◌, ◌^◌};
     ghost use Rattle.ov_journal.specs.Held.{Numbers};
 
     ghost Value = { Numbers };
 
-    ghost view = { λ j. record { end = j.end; epoch = j.epoch; start = j.start; format = j.format } };
+    ghost view = { λ j. record {
+      end = j.end;
+      epoch = j.live.epoch;
+      start = j.live.start;
+      format = j.live.format;
+      side = j.live.side;
+      spare_open = j.live.spare_open;
+    } };
 
-    ghost invariant = { λ j. j.end < 2 ^ 28 };
+    ghost invariant = { λ j. (38 ≤ j.end) × (j.end < 2 ^ 28) };
 }
 
 impl Journal {
-    // A journal with these numbers.
-    pub(crate) fn at(end: u64, epoch: u32, start: u32, format: u32) -> Journal
-        requires { end < 2 ^ 28 }
-        ensures { result ≡ record { end = end; epoch = epoch; start = start; format = format } }
+    // The journal with this first closed gate and this live slot.
+    pub(crate) fn at(end: u64, live: Live) -> Journal
+        requires { (38 ≤ end) × (end < 2 ^ 28) }
+        ensures { result ≡ record {
+          end = end;
+          epoch = live.epoch;
+          start = live.start;
+          format = live.format;
+          side = live.side;
+          spare_open = live.spare_open;
+        } }
     {
-        Journal {
-            end,
-            epoch,
-            start,
-            format,
-        }
+        Journal { end, live }
     }
 
     /// The place of the first closed gate.
@@ -59,21 +67,21 @@ impl Journal {
     pub fn epoch(&self) -> u32
         ensures { result ≡ self.now.epoch }
     {
-        self.epoch
+        self.live.epoch
     }
 
     /// The place where the live half begins.
     pub fn start(&self) -> u32
         ensures { result ≡ self.now.start }
     {
-        self.start
+        self.live.start
     }
 
     /// The format number of the live slot.
     pub fn format(&self) -> u32
         ensures { result ≡ self.now.format }
     {
-        self.format
+        self.live.format
     }
 
     /// Whether the record and a closed gate behind it end at 2^28 or before.
@@ -94,7 +102,7 @@ impl Journal {
         ensures cause { IsErrOf result AppendErr.Host → Rose (H.state host.old).faults (H.state host.new).faults }
         ensures stops { (payloads : List (List ℕ)) → IsAt payloads self.old (H.state host.old)
             → Only (H.state host.old).tape (H.state host.new).tape
-            (IsOldOrNew (kept_by self.old payloads) framed.now (H.state host.old).tape.disk) }
+            (IsOldOrNew (kept_by self.old payloads) (and_one (kept_by self.old payloads) framed.now) (H.state host.old).tape.disk) }
         ensures done { (payloads : List (List ℕ)) → IsAt payloads self.old (H.state host.old)
             → OnOk result (IsAt (payloads ++ framed.now ∷ []) self.new (H.state host.new)) }
         ensures same { AtRest (H.state host.old) → OnOk result (SameButJournal (H.state host.old).tape.disk (H.state host.new).tape.disk) }
