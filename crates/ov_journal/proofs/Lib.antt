@@ -1,4 +1,5 @@
 pub mod Appending
+pub mod Frames
 pub mod Loading
 pub mod NewHeader
 pub mod Opened

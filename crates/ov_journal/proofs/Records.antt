@@ -50,7 +50,7 @@ over_byte front rest x y =
     (ap (drop (length front + 1)) (sym (snoc front rest x)) ∙ drop_at (front ++ x ∷ []) rest (length front + 1) (snoc-length front x))
     ∙ snoc front rest y
 
-body-length : (payload : List ℕ) → length (record_of payload) ≡ length payload + 5
+pub body-length : (payload : List ℕ) → length (record_of payload) ≡ length payload + 5
 body-length payload = omega (arith, length-append (to_be_bytes w32 (length payload)) payload)
 
 -- the front ends at the first closed gate

@@ -3,3 +3,4 @@ pub mod Held
 pub mod Journal
 pub mod Opened
 pub mod Reading
+pub mod Snapshots

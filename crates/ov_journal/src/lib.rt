@@ -14,13 +14,15 @@ mod making;
 mod opening;
 mod payloads;
 mod reading;
+mod snapshots;
 mod writing;
 
 pub use errors::{AppendErr, JournalErr};
-pub use framed::{Framed, frame};
+pub use framed::{Framed, frame, snapshot};
 pub use journal::Journal;
 pub use laws::{a_journal_ends_at_its_first_closed_gate, bytes_are_one_thing};
 pub use payloads::{Payload, Payloads};
+pub use snapshots::Snapshot;
 
 #[cfg(test)]
 mod tests {
