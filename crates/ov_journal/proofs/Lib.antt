@@ -6,5 +6,6 @@ pub mod Opened
 pub mod Pieces
 pub mod ReadingRecords
 pub mod Records
+pub mod Staged
 pub mod Synced
 pub mod Unique

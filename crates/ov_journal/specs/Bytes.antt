@@ -1,5 +1,5 @@
 -- The bytes of a journal: a header with two slots, and records.
-use Rattle.std.specs.Prelude.{◌≡◌, ℕ, ◌+◌, Bool, nat_lt, ◌==◌, if◌then◌else◌, List, ◌∷◌, [], ◌++◌, length, take, drop, slice_index, Option, Some, None}
+use Rattle.std.specs.Prelude.{◌≡◌, ◌≤◌, ◌<◌, ℕ, ◌+◌, Bool, nat_lt, ◌==◌, if◌then◌else◌, List, ◌∷◌, [], ◌++◌, length, take, drop, slice_index, Option, Some, None}
 use Rattle.std.specs.Int.{w32, to_be_bytes, from_be_bytes}
 use Rattle.ov_journal.specs.declared.header.Side.{Side}
 use Rattle.ov_journal.specs.declared.header.Side.TheVariants.{First, Second}
@@ -30,6 +30,14 @@ slot_at place bytes =
       start = number_at (place + 5) bytes;
       format = number_at (place + 9) bytes;
     }
+
+-- these fields behind a slot's gate
+abbrev pub fields_of : Slot → List ℕ
+fields_of slot = to_be_bytes w32 slot.epoch ++ to_be_bytes w32 slot.start ++ to_be_bytes w32 slot.format
+
+-- the places from a first one up to a last one, which is left out, have the same bytes
+abbrev pub AreSame : ℕ → ℕ → List ℕ → List ℕ → Type 0
+AreSame from to b c = (p : ℕ) → from ≤ p → p < to → slice_index c p ≡ slice_index b p
 
 -- the place of a slot's gate
 abbrev pub place_of : Side → ℕ

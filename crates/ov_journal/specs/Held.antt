@@ -1,6 +1,6 @@
 -- A journal on a host, and what its calls leave.
-use Rattle.std.specs.Prelude.{◌≡◌, ◌≢◌, ◌≤◌, ◌⊎◌, ℕ, Bool, true, List, ◌∷◌, length, take}
-use Rattle.ov_host.specs.Disk.{Disk, Image, Leaves, settled}
+use Rattle.std.specs.Prelude.{◌≡◌, ◌≢◌, ◌≤◌, ◌<◌, ◌⊎◌, ℕ, ◌+◌, Bool, true, List, [], ◌∷◌, length, take, slice_index}
+use Rattle.ov_host.specs.Disk.{Disk, Image, Leaves, IsWritten, settled}
 use Rattle.ov_host.specs.Host.{State}
 use Rattle.ov_host.specs.Tape.{Torn}
 use Rattle.ov_journal.specs.declared.header.Side.{Side}
@@ -51,6 +51,23 @@ pub record InJournal (at n : ℕ) (d : Disk) (c : Image) : Type 0 where
 -- the old journal, or the new one; all else as it could be left before
 pub record IsOldOrNew (old new : Kept) (d : Disk) (c : Image) : Type 0 where
   pub journal : IsJournal old c.journal ⊎ IsJournal new c.journal
+  pub pages : Leaves d.pages c.pages
+  pub printed : c.printed ≡ d.printed
+
+-- this journal; all else as it could be left before
+pub record IsStill (kept : Kept) (d : Disk) (c : Image) : Type 0 where
+  pub journal : IsJournal kept c.journal
+  pub pages : Leaves d.pages c.pages
+  pub printed : c.printed ≡ d.printed
+
+-- so many bytes from a place on, and so many from another one on
+abbrev pub two_ranges : ℕ → ℕ → ℕ → ℕ → List (ℕ × ℕ)
+two_ranges at n place m = (at, at + n) ∷ (place, place + m) ∷ []
+
+-- any bytes of the journal in these ranges and past its end; all else as it was or could be left before
+pub record IsOff (ranges : List (ℕ × ℕ)) (d : Disk) (c : Image) : Type 0 where
+  pub long : length d.journal.bytes ≤ length c.journal
+  pub same : (p : ℕ) → p < length d.journal.bytes → (IsWritten ranges p → ⊥) → slice_index c.journal p ≡ slice_index d.journal.bytes p
   pub pages : Leaves d.pages c.pages
   pub printed : c.printed ≡ d.printed
 

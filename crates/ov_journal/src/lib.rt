@@ -15,6 +15,7 @@ mod opening;
 mod payloads;
 mod reading;
 mod snapshots;
+mod staging;
 mod writing;
 
 pub use errors::{AppendErr, JournalErr};
