@@ -4,3 +4,4 @@ pub mod Journal
 pub mod Opened
 pub mod Reading
 pub mod Snapshots
+pub mod Checkpoints

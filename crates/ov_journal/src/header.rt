@@ -1,7 +1,7 @@
 // The header: which slot is live, and its fields.
 ghost use Rattle.std.specs.Prelude.{◌≡◌, ◌≤◌, ◌+◌, length, take, drop, Some, None, MatchOption, MatchResult};
 ghost use Rattle.std.specs.Int.{w32, to_be_bytes};
-ghost use Rattle.ov_journal.specs.Bytes.{IsHeader, IsLive, live_place, number_at, other_of, place_of};
+ghost use Rattle.ov_journal.specs.Bytes.{IsHeader, IsLive, fields_of, live_place, number_at, other_of, place_of};
 ghost use Rattle.ov_journal.specs.Journal.{IsKnown};
 ghost use Rattle.ov_journal.specs.Reading.{RefusesHeader};
 
@@ -46,6 +46,9 @@ impl Side {
     }
 }
 
+// The number of today's format.
+pub const FORMAT: u32 = 2;
+
 /// The live slot: which one it is, its fields, and whether the other slot's gate is open.
 #[derive(Clone, Copy, Debug)]
 pub struct Live {
@@ -54,6 +57,21 @@ pub struct Live {
     pub start: u32,
     pub format: u32,
     pub spare_open: bool,
+}
+
+impl Live {
+    // The fields as they stand behind the slot's gate.
+    pub fn fields(&self) -> [u8; 12]
+        ensures { result ≡ fields_of (record { epoch = self.now.epoch; start = self.now.start; format = self.now.format }) }
+    {
+        let epoch = self.epoch.to_be_bytes();
+        let start = self.start.to_be_bytes();
+        let format = self.format.to_be_bytes();
+        [
+            epoch[0], epoch[1], epoch[2], epoch[3], start[0], start[1], start[2], start[3],
+            format[0], format[1], format[2], format[3],
+        ]
+    }
 }
 
 // The number in the four bytes from a place on.

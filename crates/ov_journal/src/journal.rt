@@ -1,15 +1,19 @@
 // The journal: where its next record goes, and what its live slot says.
-ghost use Rattle.std.specs.Prelude.{◌≡◌, ◌<◌, ◌≤◌, ◌↔◌, ◌+◌, ◌^◌, ◌++◌, ◌∷◌, [], ℕ, List, IsTrue, true, length, IsErrOf, OnOk};
+ghost use Rattle.std.specs.Prelude.{◌≡◌, ◌<◌, ◌≤◌, ◌↔◌, ◌+◌, ◌^◌, ◌++◌, ◌∷◌, [], ℕ, List, IsTrue, true, false, length, IsNone, IfSome, IsErr, IsErrOf, OnOk};
 ghost use Rattle.ov_host.specs.Host.{Rose, bytes_of};
 ghost use Rattle.ov_host.specs.Stops.{Only};
-ghost use Rattle.ov_journal.specs.Held.{Numbers, Passes, AtRest, IsAt, IsOldOrNew, SameButJournal, kept_by};
+ghost use Rattle.ov_journal.specs.Checkpoints.{HasNoRoom, IsRoom, start_for, snapshot_kept, turned_to};
+ghost use Rattle.ov_journal.specs.Held.{Numbers, Passes, AtRest, IsAt, IsOldOrNew, IsStill, SameButJournal, kept_by};
 ghost use Rattle.ov_journal.specs.Journal.{and_one};
+ghost use Rattle.ov_journal.specs.Snapshots.{size_of};
 
 use crate::errors::AppendErr;
 use crate::framed::Framed;
-use crate::header::{Live, OPEN};
+use crate::header::{FORMAT, HEADER_BYTES, Live, OPEN};
+use crate::snapshots::Snapshot;
+use crate::staging::write_both_synced;
 use crate::writing::write_synced;
-use ov_host::{Area, Host};
+use ov_host::{Area, Failed, Host};
 use std::marker::Model;
 
 // The greatest length of the journal, in bytes.
@@ -37,13 +41,13 @@ impl Model for Journal {
       spare_open = j.live.spare_open;
     } };
 
-    ghost invariant = { λ j. (38 ≤ j.end) × (j.end < 2 ^ 28) };
+    ghost invariant = { λ j. (38 ≤ j.live.start) × (j.live.start ≤ j.end) × (j.end < 2 ^ 28) };
 }
 
 impl Journal {
     // The journal with this first closed gate and this live slot.
     pub(crate) fn at(end: u64, live: Live) -> Journal
-        requires { (38 ≤ end) × (end < 2 ^ 28) }
+        requires { (38 ≤ live.start) × (live.start ≤ end) × (end < 2 ^ 28) }
         ensures { result ≡ record {
           end = end;
           epoch = live.epoch;
@@ -118,6 +122,90 @@ impl Journal {
         write_synced(host, self.end + 1, bytes)?;
         write_synced(host, self.end, &[OPEN])?;
         self.end += bytes.len() as u64;
+        Ok(())
+    }
+
+    // The place for a snapshot's records: before the live half where they end there, else behind its closed gate. `None`
+    // where they end past 2^28 there, or no epoch is left.
+    fn place_for(&self, snapshot: &Snapshot) -> Option<u32>
+        ensures full { IsNone result ↔ HasNoRoom self.now snapshot.now }
+        ensures place { IfSome result (λ at. at ≡ start_for self.now snapshot.now) }
+        ensures room { IfSome result (λ at. IsRoom self.now at (size_of snapshot.now)) }
+        ensures epoch { IfSome result (λ at. self.now.epoch + 1 < 2 ^ 32) }
+    {
+        let size = snapshot.as_bytes().len() as u64;
+        if self.live.epoch == u32::MAX {
+            return None;
+        }
+        if HEADER_BYTES as u64 + size <= u64::from(self.live.start) {
+            return Some(HEADER_BYTES as u32);
+        }
+        if self.end + 1 + size <= JOURNAL_BYTES {
+            return Some((self.end + 1) as u32);
+        }
+        None
+    }
+
+    // Closes the gate of the slot that isn't live, where it is open. A closed one isn't written: a stop within that write
+    // could open it, over fields that an earlier stop tore.
+    fn close_spare<H: Host>(&self, host: &mut H) -> Result<(), Failed>
+        requires { (H.state host.old).tells ≡ true → self.now.end < length (bytes_of Area.Journal (H.state host.old)) }
+        ensures passes { Passes (H.state host.old) (H.state host.new) }
+        ensures cause { IsErr result → Rose (H.state host.old).faults (H.state host.new).faults }
+        ensures room { (H.state host.old).tells ≡ true → OnOk result (self.now.end < length (bytes_of Area.Journal (H.state host.new))) }
+        ensures stops { (payloads : List (List ℕ)) → IsAt payloads self.now (H.state host.old)
+            → Only (H.state host.old).tape (H.state host.new).tape
+            (IsStill (kept_by self.now payloads) (H.state host.old).tape.disk) }
+        ensures done { (payloads : List (List ℕ)) → IsAt payloads self.now (H.state host.old)
+            → OnOk result (IsAt payloads (record self.now { spare_open = false }) (H.state host.new)) }
+        ensures same { AtRest (H.state host.old) → OnOk result (SameButJournal (H.state host.old).tape.disk (H.state host.new).tape.disk) }
+        ensures rest { AtRest (H.state host.old) → OnOk result (AtRest (H.state host.new)) }
+    {
+        if self.live.spare_open {
+            write_synced(host, self.live.side.other().place() as u64, &[0])?;
+        }
+        Ok(())
+    }
+
+    /// Puts a snapshot in the place of the records: in the other half, under the next epoch and with format number 2.
+    ///
+    /// Its records go to place 38 where they and the closed gate behind them end before the live half, else behind the live
+    /// half's closed gate. `JournalFull` where they pass 2^28 there, or the epoch is 2^32 - 1; then nothing is changed. At
+    /// `Host` a stop leaves the old records or the snapshot's, and the journal isn't used again.
+    pub fn checkpoint<H: Host>(&mut self, host: &mut H, snapshot: &Snapshot) -> Result<(), AppendErr>
+        requires { (H.state host.old).tells ≡ true → self.old.end < length (bytes_of Area.Journal (H.state host.old)) }
+        ensures passes { Passes (H.state host.old) (H.state host.new) }
+        ensures full { IsErrOf result AppendErr.JournalFull ↔ HasNoRoom self.old snapshot.now }
+        ensures cause { IsErrOf result AppendErr.Host → Rose (H.state host.old).faults (H.state host.new).faults }
+        ensures stops { (payloads : List (List ℕ)) → IsAt payloads self.old (H.state host.old)
+            → Only (H.state host.old).tape (H.state host.new).tape
+            (IsOldOrNew (kept_by self.old payloads) (snapshot_kept self.old snapshot.now) (H.state host.old).tape.disk) }
+        ensures done { (payloads : List (List ℕ)) → IsAt payloads self.old (H.state host.old)
+            → OnOk result (IsAt snapshot.now self.new (H.state host.new)) }
+        ensures numbers { OnOk result (self.new ≡ turned_to self.old snapshot.now) }
+        ensures same { AtRest (H.state host.old) → OnOk result (SameButJournal (H.state host.old).tape.disk (H.state host.new).tape.disk) }
+        ensures room { (H.state host.old).tells ≡ true → OnOk result (self.new.end < length (bytes_of Area.Journal (H.state host.new))) }
+        ensures full_same { IsErrOf result AppendErr.JournalFull → self.new ≡ self.old }
+        ensures full_untouched { IsErrOf result AppendErr.JournalFull → H.state host.new ≡ H.state host.old }
+    {
+        let Some(start) = self.place_for(snapshot) else {
+            return Err(AppendErr::JournalFull);
+        };
+        let next = Live {
+            side: self.live.side.other(),
+            epoch: self.live.epoch + 1,
+            start,
+            format: FORMAT,
+            spare_open: true,
+        };
+        let gate = next.side.place() as u64;
+        let frames = snapshot.as_bytes();
+        self.close_spare(host)?;
+        // The gate stays closed until the records and the slot's fields are settled: only then may they count.
+        write_both_synced(host, u64::from(start), frames, gate + 1, &next.fields())?;
+        write_synced(host, gate, &[OPEN])?;
+        self.end = u64::from(start) + frames.len() as u64 - 1;
+        self.live = next;
         Ok(())
     }
 }
