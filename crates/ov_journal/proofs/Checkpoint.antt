@@ -16,7 +16,7 @@ use Rattle.ov_journal.specs.Snapshots.{frames_of, size_of}
 use Rattle.ov_journal.specs.Held.{Numbers, kept_by, AtRest, IsAt, InJournal, IsOff, IsOldOrNew, IsStill, SameButJournal, two_ranges}
 use Rattle.ov_journal.specs.Checkpoints.{IsRoom, snapshot_kept, start_for, turned_to}
 use Rattle.ov_journal.proofs.Halves.{past_gate}
-use Rattle.ov_journal.proofs.Turning.{closing, closed_journal, closed_slots, staging, turning, turned_journal, turned_slots, two_long}
+use Rattle.ov_journal.proofs.Turning.{closing, closed_journal, closed_slots, staging, turning, turned_journal, turned_slots}
 
 abbrev rest_of : (ps : List (List ℕ)) (numbers : Numbers) (s : State) → IsAt ps numbers s → AtRest s
 rest_of ps numbers s at = record { told = at.told; rest = at.rest }
@@ -156,11 +156,11 @@ module _ (ps qs : List (List ℕ)) (numbers : Numbers) (s0 s1 : State) where
         record {
           journal =
               inl (
-                staging kept numbers.side false b at.spells at.slots start x y room.low apart there twelve refl c.journal is.long
-                (λ p below off slot.
-                is.same p below
-                (off_both start (length x) (gate + 1) (length y) p off
-                (elim slot [ inl lower ↦ inl (omega (arith, lower, here)) | inr after ↦ inr (omega (arith, after, here, twelve)) ])))
+              staging kept numbers.side false b at.spells at.slots start x y room.low apart there twelve refl c.journal is.long
+              (λ p below off slot.
+              is.same p below
+              (off_both start (length x) (gate + 1) (length y) p off
+              (elim slot [ inl lower ↦ inl (omega (arith, lower, here)) | inr after ↦ inr (omega (arith, after, here, twelve)) ])))
               );
           pages = subst (λ a. Leaves a c.pages) same.pages_same is.pages;
           printed = is.printed ∙ same.printed_same;

@@ -1,8 +1,7 @@
 -- The frames of a snapshot give its payloads back.
-use Rattle.std.proofs.Common.{◌≡◌, ◌<◌, ◌≤◌, ℕ, zero, suc, ◌+◌, ◌^◌, List, [], ◌∷◌, ◌++◌, length, take, drop, get_or, refl, sym, ◌∙◌, ap, subst, arith}
+use Rattle.std.proofs.Common.{◌≡◌, ◌<◌, ◌≤◌, ℕ, zero, suc, ◌+◌, ◌^◌, List, [], ◌∷◌, ◌++◌, length, take, drop, get_or, refl, sym, ◌∙◌, ap, arith}
 use Rattle.std.specs.List.{flat_map}
-use Rattle.std.specs.Int.{w32, to_be_bytes}
-use Rattle.std.proofs.lemmas.List.{append_assoc, drop-drop, take_at, drop_at, take_all, length-append}
+use Rattle.std.proofs.lemmas.List.{drop-drop, take_at, drop_at, take_all, length-append}
 use Rattle.std.proofs.lemmas.List.Folds.{length-flat_map-take}
 use Rattle.ov_journal.specs.Bytes.{body, record_of, number_at}
 use Rattle.ov_journal.specs.Snapshots.{frames_of, size_of, framed_in, payloads_in}
@@ -58,8 +57,7 @@ module _ (ps : List (List ℕ)) (i : ℕ) (bytes frames : List ℕ) (all : lengt
   framed_payloads = ap payloads_in framed ∙ frames_back ps small
 
   pub framed_whole : (frames ≡ frames_of (payloads_in frames)) × (length frames ≤ 2 ^ 28)
-  framed_whole =
-      (
-        framed ∙ ap frames_of (sym framed_payloads),
-        omega (arith, ap length framed, length-append (flat_map record_of ps) (0 ∷ []), small),
-      )
+  framed_whole = (
+    framed ∙ ap frames_of (sym framed_payloads),
+    omega (arith, ap length framed, length-append (flat_map record_of ps) (0 ∷ []), small),
+  )

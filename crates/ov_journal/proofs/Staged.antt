@@ -1,10 +1,10 @@
 -- Two writes to the journal and one sync, where nothing is pending before.
-use Rattle.std.proofs.Common.{◌≡◌, ◌<◌, ◌≤◌, ◌⊎◌, inl, inr, ℕ, ◌+◌, Bool, true, false, List, [], ◌∷◌, length, get_or, refl, sym, ◌∙◌, ap, subst, arith}
+use Rattle.std.proofs.Common.{◌≡◌, ◌≤◌, inl, inr, ℕ, ◌+◌, Bool, true, List, [], ◌∷◌, length, get_or, refl, sym, ◌∙◌, ap, subst, arith}
 use Rattle.ov_host.specs.declared.area.Area.TheVariants.{Journal}
 use Rattle.ov_host.specs.Disk.{Disk, Image, Stored, Leaves, IsWritten, MayLeave, with_area, settled}
 use Rattle.ov_host.specs.Host.{State, Calls}
 use Rattle.ov_host.specs.Stops.{Only}
-use Rattle.ov_host.specs.Tape.{Writes, Syncs, Torn, During, marked, overwritten, done}
+use Rattle.ov_host.specs.Tape.{Writes, Syncs, Torn, marked, overwritten, done}
 use Rattle.ov_host.proofs.Stops.{only_then, call_only, done_disk}
 use Rattle.ov_host.proofs.Writes.{settled_leaves, torn_same, torn_overwritten, same_off, is_off}
 use Rattle.ov_journal.specs.Held.{IsOff, AtRest, two_ranges}

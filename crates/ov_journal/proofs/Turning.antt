@@ -8,12 +8,12 @@ use Rattle.ov_host.specs.Tape.{Torn, overwritten}
 use Rattle.ov_host.proofs.Writes.{same_off, torn_overwritten}
 use Rattle.ov_journal.specs.declared.header.Side.{Side}
 use Rattle.ov_journal.specs.declared.header.Side.TheVariants.{First, Second}
-use Rattle.ov_journal.specs.Bytes.{AreSame, Slot, IsHeader, IsLive, fields_of, is_open, other_of, place_of, record_of, slot_at}
+use Rattle.ov_journal.specs.Bytes.{AreSame, Slot, IsHeader, IsLive, fields_of, is_open, other_of, place_of, record_of}
 use Rattle.ov_journal.specs.Journal.{Kept, IsJournal, end_of, slot_of}
 use Rattle.ov_journal.specs.Snapshots.{frames_of, size_of}
 use Rattle.ov_journal.proofs.Halves.{header_is, half_begins, half_stays, past_gate}
 use Rattle.ov_journal.proofs.Records.{is_or_not, longer}
-use Rattle.ov_journal.proofs.Slots.{closed_gate, gate_of, head_of, header_stays, header_turns, live_open, piece_same, slot_written}
+use Rattle.ov_journal.proofs.Slots.{gate_of, head_of, header_stays, header_turns, live_open, piece_same, slot_written}
 
 -- ---- what was written
 

@@ -1,5 +1,5 @@
 // The journal: where its next record goes, and what its live slot says.
-ghost use Rattle.std.specs.Prelude.{◌≡◌, ◌<◌, ◌≤◌, ◌↔◌, ◌+◌, ◌^◌, ◌++◌, ◌∷◌, [], ℕ, List, IsTrue, true, false, length, IsNone, IfSome, IsErr, IsErrOf, OnOk};
+ghost use Rattle.std.specs.Prelude.{◌≡◌, ◌<◌, ◌≤◌, ◌↔◌, ◌+◌, ◌^◌, ◌++◌, ◌∷◌, [], ℕ, List, IsTrue, true, false, length, IfOk, IfErr, IsErr, IsErrOf, OnOk};
 ghost use Rattle.ov_host.specs.Host.{Rose, bytes_of};
 ghost use Rattle.ov_host.specs.Stops.{Only};
 ghost use Rattle.ov_journal.specs.Checkpoints.{HasNoRoom, IsRoom, start_for, snapshot_kept, turned_to};
@@ -125,25 +125,25 @@ impl Journal {
         Ok(())
     }
 
-    // The place for a snapshot's records: before the live half where they end there, else behind its closed gate. `None`
+    // The place for a snapshot's records: before the live half where they end there, else behind its closed gate. Full
     // where they end past 2^28 there, or no epoch is left.
-    fn place_for(&self, snapshot: &Snapshot) -> Option<u32>
-        ensures full { IsNone result ↔ HasNoRoom self.now snapshot.now }
-        ensures place { IfSome result (λ at. at ≡ start_for self.now snapshot.now) }
-        ensures room { IfSome result (λ at. IsRoom self.now at (size_of snapshot.now)) }
-        ensures epoch { IfSome result (λ at. self.now.epoch + 1 < 2 ^ 32) }
+    fn place_for(&self, snapshot: &Snapshot) -> Result<u32, AppendErr>
+        ensures full { IsErrOf result AppendErr.JournalFull ↔ HasNoRoom self.now snapshot.now }
+        ensures kind { IfErr result (λ e. e ≡ AppendErr.JournalFull) }
+        ensures place { IfOk result (λ at. at ≡ start_for self.now snapshot.now) }
+        ensures room { IfOk result (λ at. IsRoom self.now at (size_of snapshot.now)) }
+        ensures epoch { IfOk result (λ at. self.now.epoch + 1 < 2 ^ 32) }
     {
         let size = snapshot.as_bytes().len() as u64;
         if self.live.epoch == u32::MAX {
-            return None;
+            Err(AppendErr::JournalFull)
+        } else if HEADER_BYTES as u64 + size <= u64::from(self.live.start) {
+            Ok(HEADER_BYTES as u32)
+        } else if self.end + 1 + size <= JOURNAL_BYTES {
+            Ok((self.end + 1) as u32)
+        } else {
+            Err(AppendErr::JournalFull)
         }
-        if HEADER_BYTES as u64 + size <= u64::from(self.live.start) {
-            return Some(HEADER_BYTES as u32);
-        }
-        if self.end + 1 + size <= JOURNAL_BYTES {
-            return Some((self.end + 1) as u32);
-        }
-        None
     }
 
     // Closes the gate of the slot that isn't live, where it is open. A closed one isn't written: a stop within that write
@@ -172,7 +172,11 @@ impl Journal {
     /// Its records go to place 38 where they and the closed gate behind them end before the live half, else behind the live
     /// half's closed gate. `JournalFull` where they pass 2^28 there, or the epoch is 2^32 - 1; then nothing is changed. At
     /// `Host` a stop leaves the old records or the snapshot's, and the journal isn't used again.
-    pub fn checkpoint<H: Host>(&mut self, host: &mut H, snapshot: &Snapshot) -> Result<(), AppendErr>
+    pub fn checkpoint<H: Host>(
+        &mut self,
+        host: &mut H,
+        snapshot: &Snapshot,
+    ) -> Result<(), AppendErr>
         requires { (H.state host.old).tells ≡ true → self.old.end < length (bytes_of Area.Journal (H.state host.old)) }
         ensures passes { Passes (H.state host.old) (H.state host.new) }
         ensures full { IsErrOf result AppendErr.JournalFull ↔ HasNoRoom self.old snapshot.now }
@@ -188,9 +192,7 @@ impl Journal {
         ensures full_same { IsErrOf result AppendErr.JournalFull → self.new ≡ self.old }
         ensures full_untouched { IsErrOf result AppendErr.JournalFull → H.state host.new ≡ H.state host.old }
     {
-        let Some(start) = self.place_for(snapshot) else {
-            return Err(AppendErr::JournalFull);
-        };
+        let start = self.place_for(snapshot)?;
         let next = Live {
             side: self.live.side.other(),
             epoch: self.live.epoch + 1,

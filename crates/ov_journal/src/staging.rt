@@ -26,7 +26,7 @@ pub fn write_both_synced<H: Host>(
         (IsOff (two_ranges at (length bytes.now) place (length fields.now)) (H.state host.old).tape.disk) }
     ensures done { (H.state host.old).tells ≡ true → OnOk result ((H.state host.new).tape.disk
         ≡ with_area Area.Journal (settled (overwritten (overwritten (bytes_of Area.Journal (H.state host.old)) at bytes.now) place fields.now))
-            (H.state host.old).tape.disk) }
+        (H.state host.old).tape.disk) }
 {
     host.write(Area::Journal, at, bytes)?;
     host.write(Area::Journal, place, fields)?;

@@ -1,4 +1,4 @@
-use Rattle.std.proofs.Common.{◌≡◌, true, false, sym, ◌∙◌, ap}
+use Rattle.std.proofs.Common.{sym, ◌∙◌, ap}
 use Rattle.ov_journal.specs.Bytes.{other_of, place_of}
 use Rattle.ov_journal.specs.Held.{Numbers}
 use Rattle.ov_journal.proofs.Checkpoint.{still, closing_stops, closed}
