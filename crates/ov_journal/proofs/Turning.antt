@@ -79,7 +79,7 @@ module _ (kept : Kept) (side : Side) (spare_open : Bool) (b : List ℕ) (is : Is
       header_stays b c long_b (omega (arith, long_b, keeps.long)) side (slot_of kept) header keeps.front keeps.slot other
 
   journal_kept : (c : List ℕ) → Keeps kept side b c → (get_or c gate 0 ≢ 165) ⊎ AreSame gate (gate + 13) b c → IsJournal kept c
-  journal_kept c keeps other = half_stays kept side b c is (header_kept c keeps other) keeps.long keeps.half
+  journal_kept c keeps other = half_stays kept side b c is (header_kept c keeps other) (omega (arith, past_gate kept b is, keeps.long)) keeps.half
 
   -- what stays where only one place before the other slot's fields and these fields change, and places off the live half
   keeps_off : (at n : ℕ) → 38 ≤ at → (at + n ≤ kept.start) ⊎ (end_of kept < at) → (c : List ℕ) → length b ≤ length c

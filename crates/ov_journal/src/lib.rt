@@ -21,7 +21,9 @@ mod writing;
 pub use errors::{AppendErr, JournalErr};
 pub use framed::{Framed, frame, snapshot};
 pub use journal::Journal;
-pub use laws::{a_journal_ends_at_its_first_closed_gate, bytes_are_one_thing};
+pub use laws::{
+    a_journal_ends_at_its_first_closed_gate, bytes_are_one_thing, only_the_live_half_matters,
+};
 pub use payloads::{Payload, Payloads};
 pub use snapshots::Snapshot;
 
