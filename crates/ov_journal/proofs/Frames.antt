@@ -1,5 +1,5 @@
 -- The frames of a snapshot give its payloads back.
-use Rattle.std.proofs.Common.{◌≡◌, ◌<◌, ◌≤◌, ℕ, zero, suc, ◌+◌, ◌^◌, List, [], ◌∷◌, ◌++◌, length, take, drop, get_or, refl, sym, ◌∙◌, ap, arith}
+use Rattle.std.proofs.Common.{◌≡◌, ◌<◌, ◌≤◌, ℕ, zero, suc, ◌+◌, ◌-◌, ◌^◌, List, [], ◌∷◌, ◌++◌, length, take, drop, get_or, refl, sym, ◌∙◌, ap, arith}
 use Rattle.std.specs.List.{flat_map}
 use Rattle.std.proofs.lemmas.List.{drop-drop, take_at, drop_at, take_all, length-append}
 use Rattle.std.proofs.lemmas.List.Folds.{length-flat_map-take}
@@ -42,6 +42,11 @@ at_least (p ∷ ps) = omega (arith, at_least ps, flat-length p ps)
 frames_back : (ps : List (List ℕ)) → size_of ps ≤ 2 ^ 28 → payloads_in (frames_of ps) ≡ ps
 frames_back ps small =
     framed_back (length (frames_of ps)) ps (omega (arith, at_least ps, length-append (flat_map record_of ps) (0 ∷ []))) small
+
+-- a payload for which no room is left passes it
+pub too_long : (ps : List (List ℕ)) (i left : ℕ) (p : List ℕ) → i < length ps → p ≡ get_or ps i p → left + length (flat_map record_of (take i ps)) ≡ 2 ^ 28 - 1 → left < length p + 5 → size_of ps ≤ 2 ^ 28 → ⊥
+too_long ps i left p below is sofar short small =
+    omega (arith, length-flat_map-take record_of ps i p below, ap length is, body-length (get_or ps i p), sofar, short, small)
 
 -- no payload is longer than all frames
 pub payload_small : (ps : List (List ℕ)) (i : ℕ) (p : List ℕ) → i < length ps → p ≡ get_or ps i p → size_of ps ≤ 2 ^ 28 → length p < 2 ^ 32

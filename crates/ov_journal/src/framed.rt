@@ -1,10 +1,12 @@
 // Records, ready to be written.
-ghost use Rattle.std.specs.Prelude.{◌≡◌, ◌≤◌, ◌<◌, ◌^◌, ◌++◌, length, IfOk, OnOk};
+ghost use Rattle.std.specs.Prelude.{◌≡◌, ◌≤◌, ◌<◌, ◌↔◌, ◌^◌, ◌++◌, length, IsTrue, IfOk, OnOk};
 ghost use Rattle.ov_journal.specs.Bytes.{record_of};
 ghost use Rattle.ov_journal.specs.Snapshots.{size_of};
 
 use crate::header::OPEN;
+use crate::journal::JOURNAL_BYTES;
 use crate::payloads::Payload;
+use crate::reading::FRONT_BYTES;
 use crate::snapshots::Snapshot;
 use std::alloc::{AllocError, Global};
 use std::marker::Model;
@@ -65,8 +67,23 @@ fn push_record(bytes: &mut Vec<u8>, payload: &[u8]) -> Result<(), AllocError>
     Ok(())
 }
 
-/// The snapshot of these payloads. Each takes five bytes beside its own, and the closed gate one: these are at most 2^28
-/// bytes.
+/// Whether a snapshot of these payloads takes at most 2^28 bytes: five for each beside its own, and one for the closed
+/// gate.
+pub fn can_snapshot(payloads: &[Payload]) -> bool
+    ensures { IsTrue result ↔ (size_of payloads.now ≤ 2 ^ 28) }
+{
+    let mut left = JOURNAL_BYTES - 1;
+    for payload in payloads {
+        let size = payload.as_slice().len() as u64 + FRONT_BYTES;
+        if left < size {
+            return false;
+        }
+        left -= size;
+    }
+    true
+}
+
+/// The snapshot of these payloads, which `can_snapshot`.
 pub fn snapshot(alloc: Global, payloads: &[Payload]) -> Result<Snapshot, AllocError>
     requires { size_of payloads.now ≤ 2 ^ 28 }
     ensures { IfOk result (λ snapshot. snapshot ≡ payloads.now) }

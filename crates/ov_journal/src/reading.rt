@@ -14,7 +14,7 @@ use std::alloc::{AllocError, Global};
 const PIECE_BYTES: usize = 65_536;
 
 // The bytes before a record's payload: its gate, and the payload's length.
-const FRONT_BYTES: u64 = 5;
+pub const FRONT_BYTES: u64 = 5;
 
 // So many bytes, to read into.
 fn room(alloc: Global, size: usize) -> Result<Vec<u8>, AllocError>
