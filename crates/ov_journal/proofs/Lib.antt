@@ -1,9 +1,15 @@
 pub mod Appending
+pub mod Checkpoint
+pub mod Frames
+pub mod Halves
 pub mod Loading
 pub mod NewHeader
 pub mod Opened
 pub mod Pieces
 pub mod ReadingRecords
 pub mod Records
+pub mod Slots
+pub mod Staged
 pub mod Synced
+pub mod Turning
 pub mod Unique

@@ -1,5 +1,5 @@
 -- The three writes of a new header.
-use Rattle.std.proofs.Common.{◌≡◌, ◌≢◌, ◌≤◌, ◌<◌, ◌⊎◌, inl, inr, ℕ, ◌+◌, true, List, [], ◌∷◌, ◌++◌, length, take, drop, get_or, refl, sym, ◌∙◌, ap, subst, arith}
+use Rattle.std.proofs.Common.{◌≡◌, ◌≢◌, ◌≤◌, ◌<◌, ◌⊎◌, inl, inr, ℕ, ◌+◌, true, false, List, [], ◌∷◌, ◌++◌, length, take, drop, get_or, refl, sym, ◌∙◌, ap, subst, arith}
 use Rattle.std.proofs.lemmas.Bool.{cases_lt}
 use Rattle.std.proofs.Math.ListN.{drop_of_length-le}
 use Rattle.ov_host.specs.declared.area.Area.TheVariants.{Journal}
@@ -10,6 +10,8 @@ use Rattle.ov_host.specs.Tape.{Torn, overwritten}
 use Rattle.ov_host.proofs.Stops.{only_start, only_then, only_wider}
 use Rattle.ov_host.proofs.Writes.{settled_leaves}
 use Rattle.ov_journal.specs.declared.making.TheConstants.{BEHIND_GATE}
+use Rattle.ov_journal.specs.declared.header.Side.TheVariants.{First}
+use Rattle.ov_journal.specs.Bytes.{IsLive}
 use Rattle.ov_journal.specs.Journal.{IsFront, IsJournal, IsUnmade, new_kept}
 use Rattle.ov_journal.specs.Opened.{new_numbers}
 use Rattle.ov_journal.specs.Held.{AtRest, IsAt, InJournal, IsUnmadeOrNew, IsClosed, SameButJournal}
@@ -135,9 +137,11 @@ module _ (s0 s1 s2 : State) (sofar : Only s0.tape s1.tape (IsUnmadeOrNew s0.tape
         let Rest : Disk → Type 0 = λ d. d.journal ≡ settled d.journal.bytes
         in let bytes : s3.tape.disk.journal.bytes ≡ 165 ∷ BEHIND_GATE =
         ap (λ d. d.journal.bytes) disk_then ∙ ap (λ b. overwritten b 0 (165 ∷ [])) all_behind ∙ over_byte [] BEHIND_GATE is.gate 165
+        in let Slots : List ℕ → Type 0 = λ b. IsLive First false (take 38 b)
         in record {
           told = told_then ∙ told ∙ is.told;
           rest = subst Rest (sym disk_then) refl;
           spells = new_journal s3.tape.disk.journal.bytes bytes;
           place = refl;
+          slots = subst Slots (sym bytes) (record { live = refl; spare = refl });
         }

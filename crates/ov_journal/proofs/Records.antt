@@ -1,7 +1,7 @@
 -- The bytes of a journal before, between and after the two writes of a record.
 use Rattle.std.proofs.Common.{◌≡◌, ◌≢◌, ◌≤◌, ◌<◌, ◌⊎◌, inl, inr, ℕ, suc, ◌+◌, ◌^◌, List, [], ◌∷◌, ◌++◌, length, take, drop, get_or, refl, sym, ◌∙◌, ap, subst, arith, add-one}
 use Rattle.std.specs.Int.{w32, to_be_bytes}
-use Rattle.std.proofs.lemmas.List.{append_assoc, take_at, drop_at, take-append-drop, take-append-le, drop-append-le, length-drop, length-append, flat_map_more}
+use Rattle.std.proofs.lemmas.List.{append_assoc, take_at, drop_at, take-append-drop, take-append-le, take-take, drop-append-le, length-take, length-drop, length-append, flat_map_more}
 use Rattle.std.proofs.Math.Seq.{drop-cons}
 use Rattle.ov_host.specs.Tape.{Torn, overwritten}
 use Rattle.ov_journal.specs.Bytes.{IsHeader, body, record_of}
@@ -50,12 +50,26 @@ over_byte front rest x y =
     (ap (drop (length front + 1)) (sym (snoc front rest x)) ∙ drop_at (front ++ x ∷ []) rest (length front + 1) (snoc-length front x))
     ∙ snoc front rest y
 
-body-length : (payload : List ℕ) → length (record_of payload) ≡ length payload + 5
+pub body-length : (payload : List ℕ) → length (record_of payload) ≡ length payload + 5
 body-length payload = omega (arith, length-append (to_be_bytes w32 (length payload)) payload)
 
 -- the front ends at the first closed gate
 pub front_ends : (kept : Kept) (front : List ℕ) → IsFront kept front → length front ≡ end_of kept
 front_ends kept front is = omega (arith, length-drop kept.start front, ap length is.records, is.start)
+
+-- a journal has a header, and the first record's gate behind it
+pub longer : (kept : Kept) (b : List ℕ) → IsJournal kept b → 39 ≤ length b
+longer kept b is =
+    omega (arith, ap length is.whole, length-append is.front (is.gate ∷ is.rest), is.begins.low, is.begins.start)
+
+-- a write behind the header leaves it
+pub head_stays : (b x : List ℕ) (at : ℕ) → 38 ≤ at → 38 ≤ length b → take 38 (overwritten b at x) ≡ take 38 b
+head_stays b x at low long =
+    let front : 38 ≤ length (take at b) = omega (arith, length-take at b)
+    in let both : 38 ≤ length (take at b ++ x) = omega (arith, front, length-append (take at b) x)
+    in take-append-le 38 (take at b ++ x) (drop (at + length x) b) both
+    ∙ take-append-le 38 (take at b) x front
+    ∙ take-take 38 at b low
 
 -- one record more
 pub front_more : (kept : Kept) (front payload : List ℕ) → IsFront kept front → length front + 6 + length payload ≤ 2 ^ 28 → IsFront (and_one kept payload) (front ++ record_of payload)

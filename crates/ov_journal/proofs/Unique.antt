@@ -55,15 +55,15 @@ record GoesOn (ps qs : List (List ℕ)) (x : ℕ) (xs : List ℕ) : Type 0 where
   behind : List ℕ
   rest : xs ≡ body next ++ behind
 
-flat-cons : (p : List ℕ) (ps : List (List ℕ)) (rest : List ℕ) → flat_map record_of (p ∷ ps) ++ rest ≡ 165 ∷ (body p ++ (flat_map record_of ps ++ rest))
+pub flat-cons : (p : List ℕ) (ps : List (List ℕ)) (rest : List ℕ) → flat_map record_of (p ∷ ps) ++ rest ≡ 165 ∷ (body p ++ (flat_map record_of ps ++ rest))
 flat-cons p ps rest = append_assoc (record_of p) (flat_map record_of ps) rest
 
-flat-length : (p : List ℕ) (ps : List (List ℕ)) → length (flat_map record_of (p ∷ ps)) ≡ 5 + length p + length (flat_map record_of ps)
+pub flat-length : (p : List ℕ) (ps : List (List ℕ)) → length (flat_map record_of (p ∷ ps)) ≡ 5 + length p + length (flat_map record_of ps)
 flat-length p ps =
     length-append (record_of p) (flat_map record_of ps)
     ∙ ap (λ n. n + length (flat_map record_of ps)) (omega (arith, length-append (to_be_bytes w32 (length p)) p))
 
-number_of : (p rest : List ℕ) → length p < 2 ^ 32 → number_at 0 (body p ++ rest) ≡ length p
+pub number_of : (p rest : List ℕ) → length p < 2 ^ 32 → number_at 0 (body p ++ rest) ≡ length p
 number_of p rest small =
     ap (from_be_bytes w32) (ap (take 4) (append_assoc (to_be_bytes w32 (length p)) p rest) ∙ take_at (to_be_bytes w32 (length p)) (p ++ rest) 4 refl)
     ∙ from_be_bytes-to_be_bytes_4 (length p) small
@@ -71,7 +71,7 @@ number_of p rest small =
 same_length : (p q a b : List ℕ) → length p < 2 ^ 32 → length q < 2 ^ 32 → body p ++ a ≡ body q ++ b → length p ≡ length q
 same_length p q a b small_p small_q e = sym (number_of p a small_p) ∙ ap (number_at 0) e ∙ number_of q b small_q
 
-behind_length : (p a : List ℕ) → drop 4 (body p ++ a) ≡ p ++ a
+pub behind_length : (p a : List ℕ) → drop 4 (body p ++ a) ≡ p ++ a
 behind_length p a = ap (drop 4) (append_assoc (to_be_bytes w32 (length p)) p a) ∙ drop_at (to_be_bytes w32 (length p)) (p ++ a) 4 refl
 
 same_parts : (p q a b : List ℕ) → length p < 2 ^ 32 → length q < 2 ^ 32 → body p ++ a ≡ body q ++ b → (p ≡ q) × (a ≡ b)

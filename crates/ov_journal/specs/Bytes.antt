@@ -1,6 +1,8 @@
 -- The bytes of a journal: a header with two slots, and records.
-use Rattle.std.specs.Prelude.{◌≡◌, ℕ, ◌+◌, Bool, nat_lt, ◌==◌, if◌then◌else◌, List, ◌∷◌, [], ◌++◌, length, take, drop, slice_index, Option, Some, None}
+use Rattle.std.specs.Prelude.{◌≡◌, ◌≤◌, ◌<◌, ℕ, ◌+◌, Bool, nat_lt, ◌==◌, if◌then◌else◌, List, ◌∷◌, [], ◌++◌, length, take, drop, slice_index, Option, Some, None}
 use Rattle.std.specs.Int.{w32, to_be_bytes, from_be_bytes}
+use Rattle.ov_journal.specs.declared.header.Side.{Side}
+use Rattle.ov_journal.specs.declared.header.Side.TheVariants.{First, Second}
 
 -- a gate is open exactly where it is A5
 abbrev pub is_open : ℕ → Bool
@@ -29,6 +31,24 @@ slot_at place bytes =
       format = number_at (place + 9) bytes;
     }
 
+-- these fields behind a slot's gate
+abbrev pub fields_of : Slot → List ℕ
+fields_of slot = to_be_bytes w32 slot.epoch ++ to_be_bytes w32 slot.start ++ to_be_bytes w32 slot.format
+
+-- the places from a first one up to a last one, which is left out, have the same bytes
+abbrev pub AreSame : ℕ → ℕ → List ℕ → List ℕ → Type 0
+AreSame from to b c = (p : ℕ) → from ≤ p → p < to → slice_index c p ≡ slice_index b p
+
+-- the place of a slot's gate
+abbrev pub place_of : Side → ℕ
+place_of First = 12
+place_of Second = 25
+
+-- the other slot
+abbrev pub other_of : Side → Side
+other_of First = Second
+other_of Second = First
+
 -- the place of the slot with the greater epoch
 abbrev pub greater_of : ℕ → ℕ → Option ℕ
 greater_of first second = if first == second then None else if nat_lt second first then Some 12 else Some 25
@@ -46,6 +66,11 @@ pub record IsHeader (place : ℕ) (slot : Slot) (head : List ℕ) : Type 0 where
   pub text : take 11 (drop 1 head) ≡ the_text
   pub live : live_place head ≡ Some place
   pub fields : slot_at place head ≡ slot
+
+-- this slot is the live one, and this is whether the other's gate is open
+pub record IsLive (side : Side) (spare_open : Bool) (head : List ℕ) : Type 0 where
+  pub live : live_place head ≡ Some (place_of side)
+  pub spare : is_open (slice_index head (place_of (other_of side))) ≡ spare_open
 
 -- a record behind its gate: the payload's length and the payload
 abbrev pub body : List ℕ → List ℕ

@@ -1,16 +1,21 @@
 -- A journal on a host, and what its calls leave.
-use Rattle.std.specs.Prelude.{◌≡◌, ◌≢◌, ◌≤◌, ◌⊎◌, ℕ, true, List, ◌∷◌, length}
-use Rattle.ov_host.specs.Disk.{Disk, Image, Leaves, settled}
+use Rattle.std.specs.Prelude.{◌≡◌, ◌≢◌, ◌≤◌, ◌<◌, ◌⊎◌, ℕ, ◌+◌, Bool, true, List, [], ◌∷◌, length, take, slice_index}
+use Rattle.ov_host.specs.Disk.{Disk, Image, Leaves, IsWritten, settled}
 use Rattle.ov_host.specs.Host.{State}
 use Rattle.ov_host.specs.Tape.{Torn}
-use Rattle.ov_journal.specs.Journal.{Kept, IsJournal, IsUnmade, and_one, end_of, new_kept}
+use Rattle.ov_journal.specs.declared.header.Side.{Side}
+use Rattle.ov_journal.specs.Bytes.{IsLive}
+use Rattle.ov_journal.specs.Journal.{Kept, IsJournal, IsUnmade, end_of, new_kept}
 
--- What a `Journal` keeps in memory: the place of the first closed gate, and the live slot's fields.
+-- What a `Journal` keeps in memory: the place of the first closed gate, the live slot's fields, which slot that is, and
+-- whether the other's gate is open.
 pub record Numbers : Type 0 where
   pub end : ℕ
   pub epoch : ℕ
   pub start : ℕ
   pub format : ℕ
+  pub side : Side
+  pub spare_open : Bool
 
 -- what it says, with these payloads
 abbrev pub kept_by : Numbers → List (List ℕ) → Kept
@@ -35,6 +40,7 @@ pub record IsAt (payloads : List (List ℕ)) (numbers : Numbers) (s : State) : T
   pub rest : s.tape.disk.journal ≡ settled s.tape.disk.journal.bytes
   pub spells : IsJournal (kept_by numbers payloads) s.tape.disk.journal.bytes
   pub place : numbers.end ≡ end_of (kept_by numbers payloads)
+  pub slots : IsLive numbers.side numbers.spare_open (take 38 s.tape.disk.journal.bytes)
 
 -- a stop in a write to the journal
 pub record InJournal (at n : ℕ) (d : Disk) (c : Image) : Type 0 where
@@ -42,9 +48,26 @@ pub record InJournal (at n : ℕ) (d : Disk) (c : Image) : Type 0 where
   pub pages : Leaves d.pages c.pages
   pub printed : c.printed ≡ d.printed
 
--- the records from before, or those and one more; all else as it could be left before
-pub record IsOldOrNew (kept : Kept) (payload : List ℕ) (d : Disk) (c : Image) : Type 0 where
-  pub journal : IsJournal kept c.journal ⊎ IsJournal (and_one kept payload) c.journal
+-- the old journal, or the new one; all else as it could be left before
+pub record IsOldOrNew (old new : Kept) (d : Disk) (c : Image) : Type 0 where
+  pub journal : IsJournal old c.journal ⊎ IsJournal new c.journal
+  pub pages : Leaves d.pages c.pages
+  pub printed : c.printed ≡ d.printed
+
+-- this journal; all else as it could be left before
+pub record IsStill (kept : Kept) (d : Disk) (c : Image) : Type 0 where
+  pub journal : IsJournal kept c.journal
+  pub pages : Leaves d.pages c.pages
+  pub printed : c.printed ≡ d.printed
+
+-- so many bytes from a place on, and so many from another one on
+abbrev pub two_ranges : ℕ → ℕ → ℕ → ℕ → List (ℕ × ℕ)
+two_ranges at n place m = (at, at + n) ∷ (place, place + m) ∷ []
+
+-- any bytes of the journal in these ranges and past its end; all else as it was or could be left before
+pub record IsOff (ranges : List (ℕ × ℕ)) (d : Disk) (c : Image) : Type 0 where
+  pub long : length d.journal.bytes ≤ length c.journal
+  pub same : (p : ℕ) → p < length d.journal.bytes → (IsWritten ranges p → ⊥) → slice_index c.journal p ≡ slice_index d.journal.bytes p
   pub pages : Leaves d.pages c.pages
   pub printed : c.printed ≡ d.printed
 

@@ -3,3 +3,5 @@ pub mod Held
 pub mod Journal
 pub mod Opened
 pub mod Reading
+pub mod Snapshots
+pub mod Checkpoints

@@ -1,15 +1,17 @@
 -- What opening a journal answers, and what a stop in it leaves.
-use Rattle.std.specs.Prelude.{◌≡◌, ◌≢◌, ◌⊎◌, ℕ, List, [], Result, Ok, Err}
+use Rattle.std.specs.Prelude.{◌≡◌, ◌≢◌, ◌⊎◌, ℕ, false, List, [], take, Result, Ok, Err}
 use Rattle.ov_host.specs.Disk.{Disk, Image, MayLeave, as_read, settled}
 use Rattle.ov_host.specs.Host.{State}
 use Rattle.ov_journal.specs.declared.errors.JournalErr.{JournalErr}
 use Rattle.ov_journal.specs.declared.errors.JournalErr.TheVariants as errors
+use Rattle.ov_journal.specs.declared.header.Side.TheVariants.{First}
+use Rattle.ov_journal.specs.Bytes.{IsLive}
 use Rattle.ov_journal.specs.Journal.{AreaIs, Unmade, Foreign, OfFormat, DamagedAt, Holds, IsUnmade, IsJournal, new_kept, end_of}
 use Rattle.ov_journal.specs.Held.{Numbers, kept_by, IsAt}
 
 -- the numbers of a new journal
 abbrev pub new_numbers : Numbers
-new_numbers = record { end = 38; epoch = 1; start = 38; format = 2 }
+new_numbers = record { end = 38; epoch = 1; start = 38; format = 2; side = First; spare_open = false }
 
 -- A journal stood there, and its records are answered; nothing was written.
 pub record HasStood (d e : Disk) (numbers : Numbers) (payloads : List (List ℕ)) : Type 0 where
@@ -25,7 +27,7 @@ pub record IsMade (d : Disk) (numbers : Numbers) (payloads : List (List ℕ)) : 
 
 -- what reading a journal answers that isn't unmade
 abbrev pub Loads : Result (Numbers × List (List ℕ)) JournalErr → List ℕ → Type 0
-Loads (Ok read) bytes = AreaIs (Holds (kept_by read.0 read.1)) bytes × (read.0.end ≡ end_of (kept_by read.0 read.1))
+Loads (Ok read) bytes = AreaIs (Holds (kept_by read.0 read.1)) bytes × (read.0.end ≡ end_of (kept_by read.0 read.1)) × IsLive read.0.side read.0.spare_open (take 38 bytes)
 Loads (Err errors.Host) bytes = Unit {0}
 Loads (Err errors.Memory) bytes = Unit {0}
 Loads (Err errors.NotAStore) bytes = AreaIs Foreign bytes

@@ -14,13 +14,18 @@ mod making;
 mod opening;
 mod payloads;
 mod reading;
+mod snapshots;
+mod staging;
 mod writing;
 
 pub use errors::{AppendErr, JournalErr};
-pub use framed::{Framed, frame};
+pub use framed::{Framed, can_snapshot, frame, snapshot};
 pub use journal::Journal;
-pub use laws::{a_journal_ends_at_its_first_closed_gate, bytes_are_one_thing};
+pub use laws::{
+    a_journal_ends_at_its_first_closed_gate, bytes_are_one_thing, only_the_live_half_matters,
+};
 pub use payloads::{Payload, Payloads};
+pub use snapshots::Snapshot;
 
 #[cfg(test)]
 mod tests {
@@ -43,6 +48,25 @@ mod tests {
         journal.append(&mut host, &record)?;
         // A record of three bytes takes eight: its gate, its length and its payload.
         assert_eq!(rt; journal.end(), 46);
+        Ok(())
+    }
+
+    #[test]
+    fn a_checkpoint_turns_to_the_next_epoch(rt: HostRuntime) -> Result<(), Fail> {
+        let alloc = rt.alloc();
+        let mut host = NullHost::new(false);
+        let (mut journal, _) = Journal::open(alloc, &mut host)?;
+        let payloads = vec![in alloc; Payload::new(vec![in alloc; 7, 8]?)]?;
+        assert!(rt; can_snapshot(&payloads));
+        let snapshot = snapshot(alloc, &payloads)?;
+        journal.checkpoint(&mut host, &snapshot)?;
+        assert_eq!(rt; journal.epoch(), 2);
+        assert_eq!(rt; journal.format(), 2);
+        // Behind the closed gate at 38; seven bytes further is the next one.
+        assert_eq!(rt; journal.start(), 39);
+        assert_eq!(rt; journal.end(), 46);
+        let failed = journal.checkpoint(&mut NullHost::new(true), &snapshot);
+        assert_eq!(rt; failed, Err(AppendErr::Host));
         Ok(())
     }
 

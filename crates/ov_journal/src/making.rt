@@ -6,7 +6,7 @@ ghost use Rattle.ov_journal.specs.Journal.{IsUnmade};
 ghost use Rattle.ov_journal.specs.Held.{Passes, AtRest, IsAt, IsUnmadeOrNew, IsClosed, SameButJournal};
 ghost use Rattle.ov_journal.specs.Opened.{new_numbers};
 
-use crate::header::OPEN;
+use crate::header::{Live, OPEN, Side};
 use crate::journal::Journal;
 use crate::writing::write_synced;
 use ov_host::{Area, Failed, Host};
@@ -53,5 +53,12 @@ pub fn make<H: Host>(host: &mut H, size: u64) -> Result<Journal, Failed>
     close(host, size)?;
     write_synced(host, 1, &BEHIND_GATE)?;
     write_synced(host, 0, &[OPEN])?;
-    Ok(Journal::at(38, 1, 38, 2))
+    let live = Live {
+        side: Side::First,
+        epoch: 1,
+        start: 38,
+        format: 2,
+        spare_open: false,
+    };
+    Ok(Journal::at(38, live))
 }

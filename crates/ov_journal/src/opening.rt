@@ -75,12 +75,11 @@ fn load<H: Host>(
     let start = u64::from(live.start);
     if live.start < HEADER_BYTES as u32 || end <= start {
         return Err(JournalErr::Damaged {
-            at: u64::from(live.place),
+            at: live.side.place() as u64,
         });
     }
     let (gate, payloads) = read_records(alloc, host, start, end)?;
-    let journal = Journal::at(gate, live.epoch, live.start, live.format);
-    Ok((journal, payloads))
+    Ok((Journal::at(gate, live), payloads))
 }
 
 // Makes a journal where it is unmade, of this size in bytes, and the page area is empty.

@@ -14,7 +14,7 @@ use std::alloc::{AllocError, Global};
 const PIECE_BYTES: usize = 65_536;
 
 // The bytes before a record's payload: its gate, and the payload's length.
-const FRONT_BYTES: u64 = 5;
+pub const FRONT_BYTES: u64 = 5;
 
 // So many bytes, to read into.
 fn room(alloc: Global, size: usize) -> Result<Vec<u8>, AllocError>
@@ -99,6 +99,7 @@ pub fn read_records<H: Host>(
     requires small { end ≤ 2 ^ 28 }
     ensures looked { Looked (H.state host.old) (H.state host.new) }
     ensures cause { IsErrOf result JournalErr.Host → Rose (H.state host.old).faults (H.state host.new).faults }
+    ensures from { IfOk result (λ read. start ≤ read.0) }
     ensures within { IfOk result (λ read. read.0 < end) }
     ensures bytes { (H.state host.old).tells ≡ true → end ≤ length (bytes_of Area.Journal (H.state host.old))
         → RecordsAre start end (bytes_of Area.Journal (H.state host.old)) result }

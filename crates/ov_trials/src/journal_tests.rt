@@ -6,7 +6,7 @@ use std::alloc::Global;
 use std::test::Fail;
 
 // The length that is asked for, and the byte that each doubtful one is.
-const STOPS: [(u64, u8); 6] = [
+pub const STOPS: [(u64, u8); 6] = [
     (0, 0x00),
     (0, 0xA5),
     (0, 0x5A),
@@ -15,11 +15,12 @@ const STOPS: [(u64, u8); 6] = [
     (u64::MAX, 0x5A),
 ];
 
-const FIRST: &[u8] = b"one";
+// Behind it the next gate is byte 103 of the journal.
+const FIRST: &[u8] = &[1; 60];
 
 const SECOND: &[u8] = b"two, and longer";
 
-fn empty_host(alloc: Global) -> MemHost {
+pub fn empty_host(alloc: Global) -> MemHost {
     MemHost::new(alloc, Vec::new(alloc), Vec::new(alloc), Vec::new(alloc))
 }
 

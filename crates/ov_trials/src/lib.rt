@@ -45,6 +45,10 @@ pub fn run_fresh(
 }
 
 #[cfg(test)]
+mod checkpoint_tests;
+#[cfg(test)]
+mod image_tests;
+#[cfg(test)]
 mod journal_tests;
 #[cfg(test)]
 mod tests;
