@@ -1,0 +1,4 @@
+pub mod TreeLemmas
+pub mod ReducedLemmas
+pub mod LineageLemmas
+pub mod VidLemmas

@@ -1,0 +1,4 @@
+pub mod Versions
+pub mod Trees
+pub mod Splits
+pub mod Entries
