@@ -3,6 +3,7 @@
 -- topmost one, and each other version's edge to its tree parent is an edge inside the part.
 use Rattle.std.specs.Prelude.{◌≡◌, ℕ, zero, suc, ◌+◌, ◌-◌, ◌*◌, ◌^◌, ◌<◌, ◌≤◌, Bool, not, ◌⊎◌, ◌||◌, ◌&&◌, ◌==◌, nat_lt, nat_le, if◌then◌else◌, max, Option, Some, None, List, [], ◌∷◌, ◌++◌, length, filter, map}
 use Rattle.std.specs.List.{flat_map}
+use Rattle.std.specs.Int.{abs_diff}
 use Rattle.ov_graph.specs.Trees.{VersionTree, fresh, total, vids}
 
 -- R: the records of a part, by what each version adds to its tree parent's; of the topmost one, all
@@ -63,15 +64,12 @@ stops tree p q part = nat_le (p * records tree part * length part) (q * members 
 unfoldable pub may_cut : VersionTree → ℕ → ℕ → List ℕ → ℕ → Bool
 may_cut tree p q part vid = nat_le (q * tree.weight vid) (p * records tree part)
 
-abbrev pub apart : ℕ → ℕ → ℕ
-apart a b = (a - b) + (b - a)
-
 -- how far the two parts of a cut are apart, in versions and in records
 unfoldable pub versions_apart : VersionTree → List ℕ → ℕ → ℕ
-versions_apart tree part vid = apart (length (upper tree vid part)) (length (lower tree vid part))
+versions_apart tree part vid = abs_diff (length (upper tree vid part)) (length (lower tree vid part))
 
 unfoldable pub records_apart : VersionTree → List ℕ → ℕ → ℕ
-records_apart tree part vid = apart (records tree (upper tree vid part)) (records tree (lower tree vid part))
+records_apart tree part vid = abs_diff (records tree (upper tree vid part)) (records tree (lower tree vid part))
 
 -- whether a cut is taken before another one, of a greater vid
 abbrev pub comes_first : ℕ → ℕ → ℕ → ℕ → Bool
@@ -87,6 +85,13 @@ better tree part vid (Some other) = if comes_first (versions_apart tree part vid
 abbrev pub chosen_among : VersionTree → ℕ → ℕ → List ℕ → List ℕ → Option ℕ
 chosen_among tree p q part [] = None
 chosen_among tree p q part (vid ∷ vids) = if may_cut tree p q part vid then better tree part vid (chosen_among tree p q part vids) else chosen_among tree p q part vids
+
+-- what is chosen, by the rule's own words: no other edge that may be cut leaves parts that differ less in versions; of
+-- those that differ as little, none leaves parts that differ less in records; of those, none has a lower vid
+pub record IsLeast (tree : VersionTree) (part : List ℕ) (vid other : ℕ) : Type 0 where
+  pub versions : versions_apart tree part vid ≤ versions_apart tree part other
+  pub records : versions_apart tree part vid ≡ versions_apart tree part other → records_apart tree part vid ≤ records_apart tree part other
+  pub vids : versions_apart tree part vid ≡ versions_apart tree part other → records_apart tree part vid ≡ records_apart tree part other → vid ≤ other
 
 unfoldable pub chosen : VersionTree → ℕ → ℕ → List ℕ → Option ℕ
 chosen tree p q part = chosen_among tree p q part (edges part)

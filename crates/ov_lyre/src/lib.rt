@@ -1,0 +1,6 @@
+//! LyreSplit: dividing a tree of versions into parts.
+#![tactic(auto)]
+
+mod choice;
+mod sides;
+mod sums;
