@@ -7,3 +7,4 @@ pub mod CutsFacts
 pub mod OrderFacts
 pub mod RunDownFacts
 pub mod NodeFacts
+pub mod ChoiceFacts

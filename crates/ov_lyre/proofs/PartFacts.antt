@@ -1,7 +1,8 @@
 -- Lists of vids that ascend, and sums over them.
 use Rattle.std.proofs.Common.{◌≡◌, ℕ, zero, suc, ◌+◌, ◌-◌, ◌*◌, ◌<◌, ◌≤◌, Bool, true, false, not, cond, ◌⊎◌, List, [], ◌∷◌, ◌++◌, length, filter, take, drop, get_or, refl, sym, ◌∙◌, ap, subst, inl, inr, arith}
 use Rattle.std.proofs.lemmas.Bool.{cases_Bool, cond-true, cond-false}
-use Rattle.std.proofs.lemmas.List.{take_more}
+use Rattle.std.proofs.lemmas.List.{take_more, append-nil}
+use Rattle.std.proofs.lemmas.List.Elements.{filter_more}
 use Rattle.ov_graph.specs.Trees.{VersionTree, total}
 use Rattle.ov_graph.specs.Splits.{Ascends, Has, HasParents, IsPart, edges}
 
@@ -176,3 +177,14 @@ pub parents-has : (tree : VersionTree) (part xs : List ℕ) (vid : ℕ) → HasP
 parents-has tree part [] vid parents has = absurd has
 parents-has tree part (x ∷ xs) vid parents (inl is) = rw (sym is) parents.0
 parents-has tree part (x ∷ xs) vid parents (inr has) = parents-has tree part xs vid parents.1 has
+
+-- one more vid goes to a side, or not
+pub filter-push : (p : ℕ → Bool) (part found : List ℕ) (k : ℕ) → k < length part → found ≡ filter p (take k part) → p (get_or part k 0) ≡ true → found ++ get_or part k 0 ∷ [] ≡ filter p (take (k + 1) part)
+filter-push p part found k lt so_far kept =
+    let y = get_or part k 0 in
+    ap (λ (xs : List ℕ). xs ++ y ∷ []) so_far ∙ sym (filter_more p part k 0 lt ∙ ap (λ (xs : List ℕ). filter p (take k part) ++ xs) (cond-true (p y) (y ∷ []) [] kept))
+
+pub filter-skip : (p : ℕ → Bool) (part found : List ℕ) (k : ℕ) → k < length part → found ≡ filter p (take k part) → p (get_or part k 0) ≡ false → found ≡ filter p (take (k + 1) part)
+filter-skip p part found k lt so_far left =
+    let y = get_or part k 0 in
+    so_far ∙ sym (filter_more p part k 0 lt ∙ ap (λ (xs : List ℕ). filter p (take k part) ++ xs) (cond-false (p y) (y ∷ []) [] left) ∙ append-nil (filter p (take k part)))

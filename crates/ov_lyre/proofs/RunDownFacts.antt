@@ -159,3 +159,12 @@ marks-more tree child part marks k b lt stands is within vid has =
     only : (y : ℕ) → Has (y ∷ []) vid → (vid ≡ y → ⊥) → ⊥
     only y (inl same) other = other (sym same)
     only y (inr none) other = none
+
+-- the topmost version lies under no other one
+pub marks-start : (tree : VersionTree) (sound : IsSoundTree tree) (count child : ℕ) (part : List ℕ) (marks : List Bool) → IsPart tree count part → Has (edges part) child → get_or part 0 0 < length marks → Marks tree child (take 1 part) (set marks (get_or part 0 0) false)
+marks-start tree sound count child [] marks is has within version none = absurd has
+marks-start tree sound count child (top ∷ rest) marks is has within version (inr none) = absurd none
+marks-start tree sound count child (top ∷ rest) marks is has within version (inl same) =
+    let above = (lies top count rest child is.ascends.2 has).above in
+    let P : ℕ → Type 0 = λ v. get_or (set marks top false) v false ≡ is_under tree child v in
+    subst P same (get_or-set_same marks top false false within ∙ sym (under-smaller tree sound child top above))
