@@ -1,14 +1,17 @@
 -- The best candidate so far.
-use Rattle.std.proofs.Common.{◌≡◌, ℕ, zero, suc, ◌+◌, ◌-◌, ◌*◌, ◌<◌, ◌≤◌, Bool, true, false, Option, Some, None, List, [], ◌∷◌, length, drop, get_or, refl, sym, ◌∙◌, ap, subst, inl, inr, arith}
+use Rattle.std.proofs.Common.{leb, ◌≡◌, ℕ, zero, suc, ◌+◌, ◌-◌, ◌*◌, ◌<◌, ◌≤◌, Bool, true, false, Option, Some, None, List, [], ◌∷◌, length, drop, get_or, refl, sym, ◌∙◌, ap, subst, inl, inr, arith}
 use Rattle.std.specs.Int.{abs_diff}
 use Rattle.std.proofs.lemmas.Bool.{cases_Bool}
 use Rattle.std.proofs.lemmas.List.{drop_more}
 use Rattle.ov_graph.specs.Trees.{VersionTree, total, fresh}
-use Rattle.ov_graph.specs.Splits.{Has, IsPart, edges, lower, upper, records, may_cut, versions_apart, records_apart, comes_first, better, chosen_among, chosen}
+use Rattle.ov_graph.specs.Splits.{Has, IsPart, edges, lower, upper, is_under, records, members, stops, may_cut, versions_apart, records_apart, comes_first, better, chosen_among, chosen}
 use Rattle.ov_lyre.specs.declared.choice.Candidate.{Candidate}
 use Rattle.ov_lyre.specs.Candidates.{IsCandidate, better_of, IsBest}
 use Rattle.ov_lyre.proofs.UnderFacts.{IsSoundTree}
-use Rattle.ov_lyre.proofs.CutFacts.{Sides, sides}
+use Rattle.std.specs.List.{slice_index}
+use Rattle.ov_lyre.specs.Sums.{Stands}
+use Rattle.ov_lyre.proofs.PartFacts.{total-same, filter-has}
+use Rattle.ov_lyre.proofs.CutFacts.{Sides, sides, records-fresh}
 
 module _ (tree : VersionTree) (part : List ℕ) where
   -- a candidate is compared with what was found
@@ -66,3 +69,19 @@ is-candidate tree sound count part candidate under_count under_fresh is has coun
       versions = versions ∙ rw (longer, counted) refl;
       records = records_is ∙ rw (above, below) refl;
     }
+
+pub may-cut-is : (tree : VersionTree) (part : List ℕ) (p q vid w r : ℕ) (b : Bool) → w ≡ tree.weight vid → r ≡ records tree part → b ≡ leb (q * w) (p * r) → may_cut tree p q part vid ≡ b
+unfolding may_cut
+may-cut-is tree part p q vid w r b weight whole is = sym (is ∙ rw (weight, whole) refl)
+
+pub stops-is : (tree : VersionTree) (part : List ℕ) (p q r e : ℕ) (b : Bool) → r ≡ records tree part → e ≡ members tree part → b ≡ leb (p * r * length part) (q * e) → stops tree p q part ≡ b
+unfolding stops
+stops-is tree part p q r e b whole all is = sym (is ∙ rw (whole, all) refl)
+
+pub fresh-le : (tree : VersionTree) (sound : IsSoundTree tree) (part : List ℕ) → total (fresh tree) part ≤ records tree part
+fresh-le tree sound [] = omega arith
+fresh-le tree sound (top ∷ rest) = let h = records-fresh tree sound top rest in omega arith
+
+-- the sum of what stands at the versions under one
+pub stands-total : (tree : VersionTree) (f : ℕ → ℕ) (part sums : List ℕ) (vid : ℕ) → Stands f part sums → total (slice_index sums) (lower tree vid part) ≡ total f (lower tree vid part)
+stands-total tree f part sums vid stands = total-same (slice_index sums) f (lower tree vid part) (λ x has. stands x (filter-has (λ version. is_under tree vid version) part x has).has)

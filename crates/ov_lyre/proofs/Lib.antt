@@ -8,3 +8,4 @@ pub mod OrderFacts
 pub mod RunDownFacts
 pub mod NodeFacts
 pub mod ChoiceFacts
+pub mod StateFacts

@@ -2,5 +2,9 @@
 #![tactic(auto)]
 
 mod choice;
+mod run;
 mod sides;
+mod outcome;
 mod sums;
+
+pub use outcome::Split;
