@@ -196,3 +196,9 @@ module _ (tree : VersionTree) (sound : IsSoundTree tree) (p q : ℕ) (p_up_to_q 
         | inl stop ↦ rw stop (none stop)
         | inr goes_on ↦ rw goes_on (next-of part is goes_on (chosen tree p q part) refl)
       ]
+
+  from-some : (part : List ℕ) (vid : ℕ) → NextCut part (Some vid) → CutAt tree p q part vid
+  from-some part vid (some goes_on at) = at
+
+  pub cut-at : (part : List ℕ) (vid : ℕ) → IsPart tree count part → next_cut_of tree p q part ≡ Some vid → CutAt tree p q part vid
+  cut-at part vid is e = let P : Option ℕ → Type 0 = NextCut part in from-some part vid (subst P e (next-cut part is))

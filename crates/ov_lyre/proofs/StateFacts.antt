@@ -1,10 +1,12 @@
 -- A split under way: its start, a part that stops, a cut, and its end.
-use Rattle.std.proofs.Common.{◌≡◌, ℕ, zero, suc, ◌+◌, ◌-◌, ◌<◌, ◌≤◌, max, Option, Some, None, List, [], ◌∷◌, ◌++◌, length, map, refl, sym, ◌∙◌, ap, subst, inl, inr, append_assoc, arith}
-use Rattle.std.proofs.lemmas.List.{append-nil}
+use Rattle.std.proofs.Common.{◌≡◌, ℕ, zero, suc, ◌+◌, ◌-◌, ◌<◌, ◌≤◌, max, Result, Ok, Err, Option, Some, None, List, [], ◌∷◌, ◌++◌, length, map, refl, sym, ◌∙◌, ap, subst, inl, inr, append_assoc, arith}
+use Rattle.std.specs.Result.{OnOk}
+use Rattle.std.proofs.lemmas.List.{append-nil, map_push}
 use Rattle.ov_graph.specs.Trees.{VersionTree}
 use Rattle.ov_graph.specs.Splits.{Has, IsPart, edges, lower, upper, next_cut_of, Cuts, cuts_of, leaves, cut_vids, depth}
 use Rattle.ov_graph.specs.Splits.Cuts.{whole, cut}
-use Rattle.ov_lyre.specs.Runs.{leaves_left, cuts_left, depth_left, ArePieces, Leads, pieces_left}
+use Rattle.ov_lyre.specs.declared.run.Piece.{Piece}
+use Rattle.ov_lyre.specs.Runs.{piece_of, pieces_of, leaves_left, cuts_left, depth_left, ArePieces, Leads, pieces_left}
 use Rattle.ov_lyre.proofs.UnderFacts.{IsSoundTree}
 use Rattle.ov_lyre.proofs.CutFacts.{Sides, sides}
 use Rattle.ov_lyre.proofs.CutsFacts.{Shorter, shorter, cuts_of-whole, cuts_of-cut}
@@ -107,3 +109,12 @@ module _ (tree : VersionTree) (sound : IsSoundTree tree) (p q : ℕ) (p_up_to_q 
       let one = pieces-last pieces (lower tree vid part, level + 1) in
       let other = pieces-last (pieces ++ (lower tree vid part, level + 1) ∷ []) (upper tree vid part, level + 1) in
       omega arith
+
+-- what holds after four clauses of a success
+pub on-ok : {T E A B C D Q : Type 0} (r : Result T E) → OnOk r A → OnOk r B → OnOk r C → OnOk r D → (A → B → C → D → Q) → OnOk r Q
+on-ok (Ok x) a b c d f = f a b c d
+on-ok (Err e) a b c d f = tt
+
+-- the last piece of those that wait
+pub pieces_of-last : (pieces : List Piece) (piece : Piece) → pieces_of (pieces ++ piece ∷ []) ≡ pieces_of pieces ++ piece_of piece ∷ []
+pieces_of-last pieces piece = map_push piece_of pieces piece
