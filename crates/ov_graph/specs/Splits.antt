@@ -1,7 +1,7 @@
 -- Split: how LyreSplit divides a tree of versions into parts, under a threshold p/q; and the bounds that its parts
 -- meet. A part is a connected piece of the tree, as the ascending list of its vids. So its first version is its
 -- topmost one, and each other version's edge to its tree parent is an edge inside the part.
-use Rattle.std.specs.Prelude.{◌≡◌, ℕ, zero, suc, ◌+◌, ◌-◌, ◌*◌, ◌^◌, ◌<◌, ◌≤◌, Bool, not, ◌⊎◌, ◌||◌, ◌&&◌, ◌==◌, nat_lt, nat_le, if◌then◌else◌, max, Option, Some, None, List, [], ◌∷◌, ◌++◌, length, filter, map}
+use Rattle.std.specs.Prelude.{◌≡◌, ℕ, zero, suc, ◌+◌, ◌-◌, ◌*◌, ◌^◌, ◌<◌, ◌≤◌, Bool, true, false, not, ◌⊎◌, ◌||◌, ◌&&◌, ◌==◌, nat_lt, nat_le, if◌then◌else◌, max, Option, Some, None, List, [], ◌∷◌, ◌++◌, length, filter, map}
 use Rattle.std.specs.List.{flat_map}
 use Rattle.std.specs.Int.{abs_diff}
 use Rattle.ov_graph.specs.Trees.{VersionTree, fresh, total, vids}
@@ -168,3 +168,16 @@ pub record AreBounded (p q depth all_records all_members : ℕ) (partitions : Li
 -- the parts of a split, with R for their records
 abbrev pub sizes : VersionTree → List (List ℕ) → List (ℕ × ℕ)
 sizes tree parts = map (λ part. (length part, records tree part)) parts
+
+-- an edge of a part at which it is cut
+pub record IsChosen (tree : VersionTree) (p q : ℕ) (part : List ℕ) (vid : ℕ) : Type 0 where
+  pub is : chosen tree p q part ≡ Some vid
+  pub inside : Has (edges part) vid
+  pub light : may_cut tree p q part vid ≡ true
+
+-- Laws of the parts of a tree. A part that doesn't stop has an edge that may be cut. Of the edges that may be, the least
+-- by the rule is cut. A cut stores again what the two versions share: R1 + R2 = R + w.
+pub record HasSplitLaws (tree : VersionTree) (count p q : ℕ) : Type 0 where
+  pub an_edge_may_be_cut : (part : List ℕ) → IsPart tree count part → stops tree p q part ≡ false → (vid : ℕ) × IsChosen tree p q part vid
+  pub the_least_is_cut : (part : List ℕ) (vid other : ℕ) → IsPart tree count part → chosen tree p q part ≡ Some vid → Has (edges part) other → may_cut tree p q part other ≡ true → IsLeast tree part vid other
+  pub records_at_a_cut : (part : List ℕ) (vid : ℕ) → IsPart tree count part → Has (edges part) vid → records tree (upper tree vid part) + records tree (lower tree vid part) ≡ records tree part + tree.weight vid

@@ -186,7 +186,7 @@ module _ (tree : VersionTree) (sound : IsSoundTree tree) (p q : ℕ) (p_up_to_q 
     none : stops tree p q part ≡ true → NextCut part None
     some : {vid : ℕ} → stops tree p q part ≡ false → CutAt tree p q part vid → NextCut part (Some vid)
 
-  next-of : (part : List ℕ) → IsPart tree count part → stops tree p q part ≡ false → (o : Option ℕ) → chosen tree p q part ≡ o → NextCut part o
+  pub next-of : (part : List ℕ) → IsPart tree count part → stops tree p q part ≡ false → (o : Option ℕ) → chosen tree p q part ≡ o → NextCut part o
   next-of part is goes_on None e = let h = stops-none part is e in absurd cc
   next-of part is goes_on (Some vid) e = some goes_on (chosen-cut part vid is e)
 

@@ -9,3 +9,4 @@ pub mod RunDownFacts
 pub mod NodeFacts
 pub mod ChoiceFacts
 pub mod StateFacts
+pub mod LawFacts

@@ -1,0 +1,7 @@
+use Rattle.std.proofs.Common.{◌≡◌, ◌+◌, ℕ, List, [], ◌∷◌, ◌++◌, suc, sym, ◌∙◌, ap, refl, arith}
+use Rattle.ov_graph.specs.Trees.{vids}
+use Rattle.ov_lyre.proofs.OrderFacts.{vids-more}
+use Rattle.ov_lyre.proofs.front.all_vids.Goals as goal
+
+pub loop-vid-preserved : goal.loop-vid-preserved
+loop-vid-preserved c = c.in_ok-push.ensures.items ∙ ap (λ (xs : List ℕ). xs ++ (c.loop-vid.vid + 1) ∷ []) c.loop-vid.invariant ∙ sym (vids-more c.loop-vid.vid)
