@@ -4,7 +4,8 @@
 use Rattle.std.specs.Prelude.{◌≡◌, ℕ, zero, suc, ◌+◌, ◌-◌, ◌*◌, ◌^◌, ◌<◌, ◌≤◌, Bool, true, false, not, ◌⊎◌, ◌||◌, ◌&&◌, ◌==◌, nat_lt, nat_le, if◌then◌else◌, max, Option, Some, None, List, [], ◌∷◌, ◌++◌, length, filter, map}
 use Rattle.std.specs.List.{flat_map}
 use Rattle.std.specs.Int.{abs_diff}
-use Rattle.ov_graph.specs.Trees.{VersionTree, fresh, total, vids}
+use Rattle.ov_graph.specs.declared.nodes.Node.{Node}
+use Rattle.ov_graph.specs.Trees.{VersionTree, fresh, total, tree_of, vids_of}
 
 -- R: the records of a part, by what each version adds to its tree parent's; of the topmost one, all
 abbrev pub records : VersionTree → List ℕ → ℕ
@@ -139,16 +140,20 @@ first_of (vid ∷ vids) = vid
 abbrev pub in_order : {X : Type 0} → (X → ℕ) → List ℕ → List X → List X
 in_order key keys items = flat_map (λ k. filter (λ item. key item == k) items) keys
 
--- Split of the tree of the versions from 1 to count: its parts, by their least vids
-abbrev pub parts_of : VersionTree → ℕ → ℕ → ℕ → List (List ℕ)
-parts_of tree count p q = in_order first_of (vids count) (leaves (cuts_of tree p q (vids count)))
+-- Split of a whole tree
+abbrev pub split_of : List Node → ℕ → ℕ → Cuts
+split_of nodes p q = cuts_of (tree_of nodes) p q (vids_of nodes)
+
+-- its parts, by their least vids
+abbrev pub parts_of : List Node → ℕ → ℕ → List (List ℕ)
+parts_of nodes p q = in_order first_of (vids_of nodes) (leaves (split_of nodes p q))
 
 -- the vids whose edges are cut, ascending
-abbrev pub cuts_in_order : VersionTree → ℕ → ℕ → ℕ → List ℕ
-cuts_in_order tree count p q = in_order (λ vid. vid) (vids count) (cut_vids (cuts_of tree p q (vids count)))
+abbrev pub cut_edges_of : List Node → ℕ → ℕ → List ℕ
+cut_edges_of nodes p q = in_order (λ vid. vid) (vids_of nodes) (cut_vids (split_of nodes p q))
 
-abbrev pub depth_of : VersionTree → ℕ → ℕ → ℕ → ℕ
-depth_of tree count p q = depth (cuts_of tree p q (vids count))
+abbrev pub depth_of : List Node → ℕ → ℕ → ℕ
+depth_of nodes p q = depth (split_of nodes p q)
 
 -- Bounds. Partitions, each as its versions and its records: those that are stored are the sum of their records, and
 -- their cost is the sum of versions times records.

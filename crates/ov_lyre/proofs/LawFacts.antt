@@ -62,7 +62,7 @@ vids-IsPart nodes sound filled = record {
   }
 
 -- R of the whole is T, since the first version has no weight
-whole-records : (nodes : List Node) → IsSound nodes → (count : ℕ) → 0 < count → records (tree_of nodes) (vids count) ≡ all_records (tree_of nodes) count
+whole-records : (nodes : List Node) → IsSound nodes → (count : ℕ) → 0 < count → records (tree_of nodes) (vids count) ≡ total (fresh (tree_of nodes)) (vids count)
 whole-records nodes sound zero lt = absurd (omega arith)
 whole-records nodes sound (suc count) lt = let w = sound.root_weight in omega arith
 
@@ -112,11 +112,11 @@ module _ (nodes : List Node) (sound : IsSound nodes) (filled : 0 < length nodes)
       let P : List ℕ → Type 0 = AreVids (length nodes) in
       vid-keys (length nodes) cuts (subst P (sym is) (split-sound tree (sound-tree nodes sound) p q p_up_to_q (length nodes) all (vids-IsPart nodes sound filled)).vids)
 
-  pub found-bounds : (xs ys : List (Vec ℕ Global)) (deep : ℕ) → lists_of xs ≡ leaves (cuts_of tree p q all) → deep ≡ depth (cuts_of tree p q all) → IsPermutation xs ys → AreBounded p q deep (all_records tree (length nodes)) (all_members tree (length nodes)) (sizes tree (lists_of ys))
+  pub found-bounds : (xs ys : List (Vec ℕ Global)) (deep : ℕ) → lists_of xs ≡ leaves (cuts_of tree p q all) → deep ≡ depth (cuts_of tree p q all) → IsPermutation xs ys → AreBounded p q deep (all_records nodes) (all_members nodes) (sizes tree (lists_of ys))
   found-bounds xs ys deep is deep_is moved =
       let bounds = split-bounded tree (sound-tree nodes sound) p q p_up_to_q (length nodes) all (vids-IsPart nodes sound filled) in
-      let P : List (List ℕ) → Type 0 = λ parts. AreBounded p q deep (all_records tree (length nodes)) (all_members tree (length nodes)) (sizes tree parts) in
-      moved-bounds tree p q deep (all_records tree (length nodes)) (all_members tree (length nodes)) (lists_of xs) (lists_of ys) (IsPermutation-map (λ (part : Vec ℕ Global). part.items) xs ys moved)
+      let P : List (List ℕ) → Type 0 = λ parts. AreBounded p q deep (all_records nodes) (all_members nodes) (sizes tree parts) in
+      moved-bounds tree p q deep (all_records nodes) (all_members nodes) (lists_of xs) (lists_of ys) (IsPermutation-map (λ (part : Vec ℕ Global). part.items) xs ys moved)
         (subst P (sym is) (rw (deep_is, sym (whole-records nodes sound (length nodes) filled)) bounds))
 
 -- two clauses of a success
