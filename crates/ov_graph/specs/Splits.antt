@@ -1,7 +1,7 @@
 -- Split: how LyreSplit divides a tree of versions into parts, under a threshold p/q; and the bounds that its parts
 -- meet. A part is a connected piece of the tree, as the ascending list of its vids. So its first version is its
 -- topmost one, and each other version's edge to its tree parent is an edge inside the part.
-use Rattle.std.specs.Prelude.{◌≡◌, ℕ, zero, suc, ◌+◌, ◌-◌, ◌*◌, ◌^◌, ◌<◌, ◌≤◌, Bool, true, false, not, ◌⊎◌, ◌||◌, ◌&&◌, ◌==◌, nat_lt, nat_le, if◌then◌else◌, max, Option, Some, None, List, [], ◌∷◌, ◌++◌, length, filter, map}
+use Rattle.std.specs.Prelude.{◌≡◌, ℕ, zero, suc, ◌+◌, ◌*◌, ◌^◌, ◌<◌, ◌≤◌, Bool, true, false, not, ◌⊎◌, ◌||◌, ◌&&◌, ◌==◌, nat_lt, nat_le, if◌then◌else◌, max, Option, Some, None, List, [], ◌∷◌, ◌++◌, length, filter, map}
 use Rattle.std.specs.List.{flat_map}
 use Rattle.std.specs.Int.{abs_diff}
 use Rattle.ov_graph.specs.declared.nodes.Node.{Node}

@@ -1,6 +1,6 @@
 -- Numbers of the bounds.
-use Rattle.std.proofs.Common.{◌≡◌, ℕ, zero, suc, max, ◌+◌, ◌-◌, ◌*◌, ◌^◌, ◌<◌, ◌≤◌, refl, sym, ◌∙◌, ap, inl, inr, arith}
-use Rattle.std.proofs.Math.Nat.{mul_comm, mul_assoc, mul_left_comm, mul-add, add-mul, mul-le-mul_left, mul-le-mul_right, mul-le-mul, pow-suc, pow-le-pow_left}
+use Rattle.std.proofs.Common.{◌≡◌, ℕ, zero, suc, ◌+◌, ◌-◌, ◌*◌, ◌^◌, ◌≤◌, sym, ◌∙◌, ap, arith}
+use Rattle.std.proofs.Math.Nat.{mul_comm, mul_assoc, mul_left_comm, mul-add, add-mul, mul-le-mul_left, mul-le-mul, pow-suc}
 
 -- a bound at one depth holds at each greater one
 pub raised : (a b depth more s r : ℕ) → a ≤ b → a ^ depth * s ≤ b ^ depth * r → a ^ (depth + more) * s ≤ b ^ (depth + more) * r

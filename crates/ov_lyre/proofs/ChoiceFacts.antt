@@ -1,5 +1,5 @@
 -- The best candidate so far.
-use Rattle.std.proofs.Common.{leb, ◌≡◌, ℕ, zero, suc, ◌+◌, ◌-◌, ◌*◌, ◌<◌, ◌≤◌, Bool, true, false, Option, Some, None, List, [], ◌∷◌, length, drop, get_or, refl, sym, ◌∙◌, ap, subst, inl, inr, arith}
+use Rattle.std.proofs.Common.{leb, ◌≡◌, ℕ, ◌+◌, ◌-◌, ◌*◌, ◌<◌, ◌≤◌, Bool, true, false, Option, Some, None, List, [], ◌∷◌, length, drop, get_or, refl, sym, ◌∙◌, ap, subst, inl, inr, arith}
 use Rattle.std.specs.Int.{abs_diff}
 use Rattle.std.proofs.lemmas.Bool.{cases_Bool}
 use Rattle.std.proofs.lemmas.List.{drop_more}
@@ -11,7 +11,7 @@ use Rattle.ov_lyre.proofs.UnderFacts.{IsSoundTree}
 use Rattle.std.specs.List.{slice_index}
 use Rattle.ov_lyre.specs.Sums.{Stands}
 use Rattle.ov_lyre.proofs.PartFacts.{total-same, filter-has}
-use Rattle.ov_lyre.proofs.CutFacts.{Sides, sides, records-fresh}
+use Rattle.ov_lyre.proofs.CutFacts.{sides, records-fresh}
 
 module _ (tree : VersionTree) (part : List ℕ) where
   -- a candidate is compared with what was found

@@ -1,10 +1,10 @@
 -- A cut: its two parts, and their sums.
-use Rattle.std.proofs.Common.{◌≡◌, ℕ, zero, suc, ◌+◌, ◌-◌, ◌<◌, ◌≤◌, Bool, true, false, not, ◌⊎◌, List, [], ◌∷◌, ◌++◌, length, filter, refl, sym, ◌∙◌, ap, subst, inl, inr, arith}
+use Rattle.std.proofs.Common.{◌≡◌, ℕ, ◌+◌, ◌≤◌, true, false, not, List, [], ◌∷◌, length, refl, sym, ◌∙◌, ap, subst, inl, inr, arith}
 use Rattle.std.proofs.lemmas.Bool.{cases_Bool}
 use Rattle.std.proofs.lemmas.List.Filters.{length-filter_both}
 use Rattle.ov_graph.specs.Trees.{VersionTree, total, fresh}
 use Rattle.ov_graph.specs.Splits.{Ascends, Has, HasParents, IsPart, edges, is_under, lower, upper, records, members}
-use Rattle.ov_lyre.proofs.PartFacts.{total-both, Ascends-filter, Ascends-weaker, lies, has-filter, filter-has, filter-none}
+use Rattle.ov_lyre.proofs.PartFacts.{total-both, Ascends-filter, lies, has-filter}
 use Rattle.ov_lyre.proofs.UnderFacts.{IsSoundTree, under-self, under-smaller, under-parent}
 
 module _ (tree : VersionTree) (sound : IsSoundTree tree) where
@@ -22,14 +22,14 @@ module _ (tree : VersionTree) (sound : IsSoundTree tree) where
   pub from : (vid low high : ℕ) (whole rest : List ℕ) → Ascends low high rest → HasParents tree whole rest → Has rest vid → From vid high whole rest
   from vid low high whole [] up parents has = absurd has
   from vid low high whole (x ∷ rest) up parents (inl is) = record {
-      behind = rest;
-      ascends = rw (sym is) up.2;
-      connected = parents.1;
-      is =
+    behind = rest;
+    ascends = rw (sym is) up.2;
+    connected = parents.1;
+    is =
         let own : is_under tree x x ≡ true = under-self tree sound x in
         let P : ℕ → Type 0 = λ v. lower tree v (x ∷ rest) ≡ v ∷ lower tree v rest in
         subst P is (rw own refl);
-    }
+  }
   from vid low high whole (x ∷ rest) up parents (inr has) =
       let tail = from vid x high whole rest up.2 parents.1 has in
       let above = (lies x high rest vid up.2 has).above in

@@ -1,13 +1,13 @@
 -- Splits of parts: what holds of every cut holds of every split.
-use Rattle.std.proofs.Common.{◌≡◌, ℕ, zero, suc, max, ◌+◌, ◌-◌, ◌*◌, ◌^◌, ◌<◌, ◌≤◌, Bool, true, false, Option, Some, None, List, [], ◌∷◌, ◌++◌, length, map, refl, sym, ◌∙◌, ap, subst, inl, inr, arith}
+use Rattle.std.proofs.Common.{◌≡◌, ℕ, zero, suc, max, ◌+◌, ◌*◌, ◌^◌, ◌<◌, ◌≤◌, true, Option, Some, None, List, [], ◌∷◌, ◌++◌, length, refl, sym, ◌∙◌, ap, arith}
 use Rattle.std.proofs.lemmas.Bool.{leb-true}
 use Rattle.std.proofs.Math.Nat.{mul-add, mul_assoc, mul_comm, pow-zero}
-use Rattle.ov_graph.specs.Trees.{VersionTree, total, fresh}
+use Rattle.ov_graph.specs.Trees.{VersionTree}
 use Rattle.ov_graph.specs.Splits.{Has, IsPart, edges, records, members, stops, may_cut, lower, upper, next_cut_of, Cuts, cuts_within, cuts_of, leaves, cut_vids, depth, stored, cost, sizes, AreBounded}
 use Rattle.ov_graph.specs.Splits.Cuts.{whole, cut}
 use Rattle.ov_lyre.proofs.PartFacts.{lies}
 use Rattle.ov_lyre.proofs.UnderFacts.{IsSoundTree}
-use Rattle.ov_lyre.proofs.CutFacts.{Sides, sides}
+use Rattle.ov_lyre.proofs.CutFacts.{sides}
 use Rattle.ov_lyre.proofs.EdgeFacts.{CutAt, NextCut, next-cut}
 use Rattle.ov_lyre.proofs.EdgeFacts.NextCut.{none, some}
 use Rattle.ov_lyre.proofs.BoundFacts.{raised_to, joined}
@@ -69,8 +69,8 @@ module _ (tree : VersionTree) (sound : IsSoundTree tree) (p q : ℕ) (p_up_to_q 
 
   fixed : (part : List ℕ) → IsPart tree count part → (levels : ℕ) → length part ≤ levels → cuts_within levels tree p q part ≡ cuts_of tree p q part
   fixed = split-all IsFixed
-    (λ part is stop e levels le. within-whole tree p q levels part e)
-    (λ part vid above below is at e one two levels le. fixed-cut part vid above below is at e one two levels le)
+      (λ part is stop e levels le. within-whole tree p q levels part e)
+      (λ part vid above below is at e one two levels le. fixed-cut part vid above below is at e one two levels le)
 
   pub cuts_of-whole : (part : List ℕ) → next_cut_of tree p q part ≡ None → cuts_of tree p q part ≡ whole part
   unfolding cuts_of

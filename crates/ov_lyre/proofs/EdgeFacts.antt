@@ -1,7 +1,7 @@
 -- The edge that is chosen: it may be cut, it is the least by the three measures, and a part without one stops.
-use Rattle.std.proofs.Common.{◌≡◌, ℕ, zero, suc, ◌+◌, ◌-◌, ◌*◌, ◌<◌, ◌≤◌, Bool, true, false, ◌||◌, ◌&&◌, eqb, ltb, leb, Option, Some, None, List, [], ◌∷◌, length, refl, sym, ◌∙◌, ap, subst, inl, inr, arith}
+use Rattle.std.proofs.Common.{◌≡◌, ℕ, suc, ◌+◌, ◌*◌, ◌<◌, ◌≤◌, true, false, ◌&&◌, eqb, ltb, leb, Option, Some, None, List, [], ◌∷◌, length, refl, sym, ◌∙◌, subst, inl, inr, arith}
 use Rattle.std.proofs.lemmas.Bool.{cases_Bool, or_cases, or_parts, and_parts, and_cases, ltb-true, ltb-false, leb-true, leb-false, eqb-true, eqb-false, le-leb}
-use Rattle.std.proofs.Math.Nat.{mul-add, mul_assoc, mul_comm, mul-le-mul_right, add-mul}
+use Rattle.std.proofs.Math.Nat.{mul-add, mul_comm, mul-le-mul_right}
 use Rattle.ov_graph.specs.Trees.{VersionTree, total, fresh}
 use Rattle.ov_graph.specs.Splits.{Ascends, Has, IsPart, edges, records, members, stops, may_cut, versions_apart, records_apart, comes_first, better, chosen_among, chosen, next_cut_of, IsLeast}
 use Rattle.ov_lyre.proofs.PartFacts.{lies}
@@ -81,11 +81,13 @@ IsBelow versions_u records_u versions_v records_v = (versions_u ≤ versions_v) 
 after-is : (a b c d : ℕ) → comes_first a b c d ≡ false → IsBelow c d a b
 after-is a b c d e =
     let parts = or_parts (ltb a c) (eqb a c && leb b d) e in
-    let le = ltb-false a c parts.0 in
-    (le, λ same. elim (and_cases (eqb a c) (leb b d) parts.1) [
-      | inl other ↦ absurd (eqb-false a c other (sym same))
-      | inr more ↦ leb-false b d more
-    ])
+    let le = ltb-false a c parts.0 in (
+      le,
+      λ same. elim (and_cases (eqb a c) (leb b d) parts.1) [
+        | inl other ↦ absurd (eqb-false a c other (sym same))
+        | inr more ↦ leb-false b d more
+      ],
+    )
 
 module _ (tree : VersionTree) (p q : ℕ) (part : List ℕ) where
   -- among these vids none that may be cut is better
@@ -127,12 +129,15 @@ module _ (tree : VersionTree) (p q : ℕ) (part : List ℕ) where
       skip : may_cut tree p q part x ≡ false → Beats vid xs → Beats vid (x ∷ xs)
       skip heavy_x rest other (inl is) light = absurd (let h = rw is at heavy_x in cc)
       skip heavy_x rest other (inr has) light = rest other has light
+
       take_it : (v : ℕ) → x ≡ v → ((y : ℕ) → Has xs y → may_cut tree p q part y ≡ true → IsLeast tree part x y) → Beats v (x ∷ xs)
       take_it v same rest other (inl is) light = rw (sym same, sym is) (least-self x)
       take_it v same rest other (inr has) light = rw (sym same) (rest other has light)
+
       keep_it : (v other : ℕ) → other ≡ v → IsLeast tree part other x → Beats other xs → Beats v (x ∷ xs)
       keep_it v other same here rest y (inl is) light = rw (sym same, sym is) here
       keep_it v other same here rest y (inr has) light = rw (sym same) (rest y has light)
+
       go : may_cut tree p q part x ≡ true → (o : Option ℕ) → chosen_among tree p q part xs ≡ o → ((v : ℕ) → chosen_among tree p q part xs ≡ Some v → Beats v xs) → better tree part x o ≡ Some vid → Beats vid (x ∷ xs)
       go light None is rest e =
           let same : x ≡ vid = cc in

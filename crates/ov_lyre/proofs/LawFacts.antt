@@ -1,5 +1,5 @@
 -- The laws of splits, and what holds of the split of a whole tree.
-use Rattle.std.proofs.Common.{◌≡◌, ℕ, zero, suc, ◌+◌, ◌-◌, ◌*◌, ◌<◌, ◌≤◌, Bool, true, false, Result, Ok, Err, Option, Some, None, List, [], ◌∷◌, length, map, refl, sym, ◌∙◌, ap, subst, inl, inr, arith}
+use Rattle.std.proofs.Common.{◌≡◌, ℕ, zero, suc, ◌+◌, ◌-◌, ◌*◌, ◌<◌, ◌≤◌, false, Result, Ok, Err, Option, Some, None, List, [], ◌∷◌, length, refl, sym, ◌∙◌, subst, inl, inr, arith}
 use Rattle.std.specs.Prelude.{Vec}
 use Rattle.std.specs.declared.alloc.Global.{Global}
 use Rattle.std.specs.Result.{IfOk}
@@ -11,13 +11,13 @@ use Rattle.std.proofs.lemmas.List.FromFn.{length-range_with_len}
 use Rattle.std.proofs.lemmas.List.Sums.{sum_by-cons}
 use Rattle.std.proofs.lemmas.List.Sorted.{sum_by-IsPermutation, IsPermutation-map}
 use Rattle.ov_graph.specs.declared.nodes.Node.{Node}
-use Rattle.ov_graph.specs.Trees.{VersionTree, IsSound, IsTreeEdge, no_node, tree_of, node_at, vids, total, fresh, all_records, all_members}
-use Rattle.ov_graph.specs.Splits.{Ascends, Has, HasParents, IsPart, edges, records, members, stops, may_cut, chosen, IsChosen, HasSplitLaws, first_of, cuts_of, leaves, cut_vids, depth, stored, cost, sizes, AreBounded}
+use Rattle.ov_graph.specs.Trees.{VersionTree, IsSound, tree_of, vids, total, fresh, all_records, all_members}
+use Rattle.ov_graph.specs.Splits.{Ascends, Has, HasParents, IsPart, edges, records, stops, chosen, IsChosen, HasSplitLaws, first_of, cuts_of, leaves, cut_vids, depth, stored, cost, sizes, AreBounded}
 use Rattle.ov_lyre.specs.Runs.{lists_of}
 use Rattle.ov_lyre.proofs.UnderFacts.{IsSoundTree}
 use Rattle.ov_lyre.proofs.NodeFacts.{sound-tree}
-use Rattle.ov_lyre.proofs.CutFacts.{Sides, sides}
-use Rattle.ov_lyre.proofs.EdgeFacts.{CutAt, NextCut, next-of, chosen-cut}
+use Rattle.ov_lyre.proofs.CutFacts.{sides}
+use Rattle.ov_lyre.proofs.EdgeFacts.{NextCut, next-of, chosen-cut}
 use Rattle.ov_lyre.proofs.EdgeFacts.NextCut.{none, some}
 use Rattle.ov_lyre.proofs.CutsFacts.{AreParts, AreVids, split-bounded, split-sound}
 
@@ -28,10 +28,10 @@ module _ (tree : VersionTree) (sound : IsSoundTree tree) (p q : ℕ) (p_up_to_q 
 
   pub split-laws : HasSplitLaws tree count p q
   split-laws = record {
-      an_edge_may_be_cut = λ part is goes_on. an-edge part (chosen tree p q part) refl goes_on (next-of tree sound p q p_up_to_q count part is goes_on (chosen tree p q part) refl);
-      the_least_is_cut = λ part vid other is e has light. (chosen-cut tree sound p q p_up_to_q count part vid is e).least other has light;
-      records_at_a_cut = λ part vid is has. (sides tree sound count part vid is has).record_sum;
-    }
+    an_edge_may_be_cut = λ part is goes_on. an-edge part (chosen tree p q part) refl goes_on (next-of tree sound p q p_up_to_q count part is goes_on (chosen tree p q part) refl);
+    the_least_is_cut = λ part vid other is e has light. (chosen-cut tree sound p q p_up_to_q count part vid is e).least other has light;
+    records_at_a_cut = λ part vid is has. (sides tree sound count part vid is has).record_sum;
+  }
 
 -- all versions are a part
 vids-ascend : (low from count high : ℕ) → low < from → from + count ≤ suc high → Ascends low high (range_with_len from count)
@@ -40,7 +40,7 @@ vids-ascend low from (suc count) high lt le = (lt, omega arith, vids-ascend from
 
 has-vid : (from count vid : ℕ) → from ≤ vid → vid < from + count → Has (range_with_len from count) vid
 has-vid from zero vid le lt = absurd (omega arith)
-has-vid from (suc count) vid le lt = elim (cases_eq from vid) [ | inl same ↦ inl same | inr other ↦ inr (has-vid (from + 1) count vid (omega arith) (omega arith)) ]
+has-vid from (suc count) vid le lt = elim (cases_eq from vid) [ inl same ↦ inl same | inr other ↦ inr (has-vid (from + 1) count vid (omega arith) (omega arith)) ]
 
 parents-of : (nodes : List Node) → IsSound nodes → (from count : ℕ) → 2 ≤ from → from + count ≤ suc (length nodes) → HasParents (tree_of nodes) (vids (length nodes)) (range_with_len from count)
 parents-of nodes sound from zero two le = tt
@@ -56,10 +56,10 @@ edges-of-vids (suc count) lt = let e : suc count - 1 ≡ count = omega arith in 
 
 pub vids-IsPart : (nodes : List Node) → IsSound nodes → 0 < length nodes → IsPart (tree_of nodes) (length nodes) (vids (length nodes))
 vids-IsPart nodes sound filled = record {
-    some = rw (length-range_with_len 1 (length nodes)) filled;
-    ascends = vids-ascend 0 1 (length nodes) (length nodes) (omega arith) (omega arith);
-    connected = rw (edges-of-vids (length nodes) filled) (parents-of nodes sound 2 (length nodes - 1) (omega arith) (omega arith));
-  }
+  some = rw (length-range_with_len 1 (length nodes)) filled;
+  ascends = vids-ascend 0 1 (length nodes) (length nodes) (omega arith) (omega arith);
+  connected = rw (edges-of-vids (length nodes) filled) (parents-of nodes sound 2 (length nodes - 1) (omega arith) (omega arith));
+}
 
 -- R of the whole is T, since the first version has no weight
 whole-records : (nodes : List Node) → IsSound nodes → (count : ℕ) → 0 < count → records (tree_of nodes) (vids count) ≡ total (fresh (tree_of nodes)) (vids count)
@@ -117,7 +117,7 @@ module _ (nodes : List Node) (sound : IsSound nodes) (filled : 0 < length nodes)
       let bounds = split-bounded tree (sound-tree nodes sound) p q p_up_to_q (length nodes) all (vids-IsPart nodes sound filled) in
       let P : List (List ℕ) → Type 0 = λ parts. AreBounded p q deep (all_records nodes) (all_members nodes) (sizes tree parts) in
       moved-bounds tree p q deep (all_records nodes) (all_members nodes) (lists_of xs) (lists_of ys) (IsPermutation-map (λ (part : Vec ℕ Global). part.items) xs ys moved)
-        (subst P (sym is) (rw (deep_is, sym (whole-records nodes sound (length nodes) filled)) bounds))
+      (subst P (sym is) (rw (deep_is, sym (whole-records nodes sound (length nodes) filled)) bounds))
 
 -- two clauses of a success
 pub both-ok : {T E : Type 0} (r : Result T E) (P Q R : T → Type 0) → ((x : T) → P x → Q x → R x) → IfOk r P → IfOk r Q → IfOk r R

@@ -1,9 +1,9 @@
 -- A sound list of nodes is a sound tree.
-use Rattle.std.proofs.Common.{◌≡◌, ℕ, zero, suc, ◌+◌, ◌-◌, ◌<◌, ◌≤◌, List, [], ◌∷◌, length, get_or, refl, sym, ◌∙◌, ap, subst, inl, inr, arith}
+use Rattle.std.proofs.Common.{ℕ, zero, suc, ◌-◌, ◌≤◌, List, length, get_or, inl, inr, arith}
 use Rattle.std.proofs.lemmas.Bool.{cases_lt}
 use Rattle.std.proofs.lemmas.List.{get_or_past}
 use Rattle.ov_graph.specs.declared.nodes.Node.{Node}
-use Rattle.ov_graph.specs.Trees.{no_node, node_at, tree_of, IsSound}
+use Rattle.ov_graph.specs.Trees.{no_node, tree_of, IsSound}
 use Rattle.ov_lyre.proofs.UnderFacts.{IsSoundTree}
 
 record IsSoundAt (k : ℕ) (node : Node) : Type 0 where
@@ -20,6 +20,6 @@ sound-at nodes sound (suc k) =
 
 pub sound-tree : (nodes : List Node) → IsSound nodes → IsSoundTree (tree_of nodes)
 sound-tree nodes sound = record {
-    lower = λ vid. (sound-at nodes sound (vid - 1)).lower;
-    within = λ vid. (sound-at nodes sound (vid - 1)).within;
-  }
+  lower = λ vid. (sound-at nodes sound (vid - 1)).lower;
+  within = λ vid. (sound-at nodes sound (vid - 1)).within;
+}

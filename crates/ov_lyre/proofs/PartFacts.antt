@@ -1,5 +1,5 @@
 -- Lists of vids that ascend, and sums over them.
-use Rattle.std.proofs.Common.{◌≡◌, ℕ, zero, suc, ◌+◌, ◌-◌, ◌*◌, ◌<◌, ◌≤◌, Bool, true, false, not, cond, ◌⊎◌, List, [], ◌∷◌, ◌++◌, length, filter, take, drop, get_or, refl, sym, ◌∙◌, ap, subst, inl, inr, arith}
+use Rattle.std.proofs.Common.{◌≡◌, ℕ, zero, suc, ◌+◌, ◌<◌, ◌≤◌, Bool, true, false, not, cond, ◌⊎◌, List, [], ◌∷◌, ◌++◌, length, filter, take, get_or, refl, sym, ◌∙◌, ap, subst, inl, inr, arith}
 use Rattle.std.proofs.lemmas.Bool.{cases_Bool, cond-true, cond-false}
 use Rattle.std.proofs.lemmas.List.{take_more, append-nil}
 use Rattle.std.proofs.lemmas.List.Elements.{filter_more}
@@ -78,14 +78,14 @@ has-right (y ∷ xs) ys x has = inr (has-right xs ys x has)
 pub has-cases : (xs ys : List ℕ) (x : ℕ) → Has (xs ++ ys) x → Has xs x ⊎ Has ys x
 has-cases [] ys x has = inr has
 has-cases (y ∷ xs) ys x (inl is) = inl (inl is)
-has-cases (y ∷ xs) ys x (inr has) = elim (has-cases xs ys x has) [ | inl l ↦ inl (inr l) | inr r ↦ inr r ]
+has-cases (y ∷ xs) ys x (inr has) = elim (has-cases xs ys x has) [ inl l ↦ inl (inr l) | inr r ↦ inr r ]
 
 pub has-filter : (p : ℕ → Bool) (xs : List ℕ) (x : ℕ) → Has xs x → p x ≡ true → Has (filter p xs) x
 has-filter p [] x has passes = absurd has
 has-filter p (y ∷ xs) x (inl is) passes = let kept : p y ≡ true = rw is passes in rw kept (inl is)
 has-filter p (y ∷ xs) x (inr has) passes =
     let rest = has-filter p xs x has passes in
-    elim (cases_Bool (p y)) [ | inl kept ↦ rw kept (inr rest) | inr left ↦ rw left rest ]
+    elim (cases_Bool (p y)) [ inl kept ↦ rw kept (inr rest) | inr left ↦ rw left rest ]
 
 -- what a filter has
 pub record Kept (p : ℕ → Bool) (xs : List ℕ) (x : ℕ) : Type 0 where
@@ -114,7 +114,7 @@ pub filter-append : (p : ℕ → Bool) (xs ys : List ℕ) → filter p (xs ++ ys
 filter-append p [] ys = refl
 filter-append p (x ∷ xs) ys =
     let rest = filter-append p xs ys in
-    elim (cases_Bool (p x)) [ | inl kept ↦ rw kept (ap (λ (zs : List ℕ). x ∷ zs) rest) | inr left ↦ rw left rest ]
+    elim (cases_Bool (p x)) [ inl kept ↦ rw kept (ap (λ (zs : List ℕ). x ∷ zs) rest) | inr left ↦ rw left rest ]
 
 pub length-ascends : (low high : ℕ) (xs : List ℕ) → Ascends low high xs → low ≤ high → low + length xs ≤ high
 length-ascends low high [] up le = omega arith

@@ -1,12 +1,12 @@
 -- Sums that each version passes on to its tree parent, from the greatest vid down.
-use Rattle.std.proofs.Common.{◌≡◌, ℕ, zero, suc, ◌+◌, ◌-◌, ◌<◌, ◌≤◌, Bool, true, false, cond, eqb, ◌⊎◌, List, [], ◌∷◌, ◌++◌, length, filter, take, drop, set, get_or, get_or-set_same, get_or-set_other, refl, sym, ◌∙◌, ap, subst, inl, inr, arith}
+use Rattle.std.proofs.Common.{◌≡◌, ℕ, zero, suc, ◌+◌, ◌-◌, ◌<◌, ◌≤◌, Bool, false, cond, eqb, List, [], ◌∷◌, ◌++◌, length, take, drop, set, get_or, get_or-set_same, get_or-set_other, refl, sym, ◌∙◌, ap, subst, inl, inr, arith}
 use Rattle.std.proofs.lemmas.Bool.{cases_Bool, cases_eq, eq-eqb, ne_eqb}
 use Rattle.std.proofs.lemmas.List.{take_more, drop_more, take_all, drop_all, take-append-drop}
 use Rattle.ov_graph.specs.Trees.{VersionTree, total}
-use Rattle.ov_graph.specs.Splits.{Ascends, Has, HasParents, IsPart, edges, is_under, lower}
+use Rattle.ov_graph.specs.Splits.{Has, IsPart, edges, is_under, lower}
 use Rattle.std.specs.List.{slice_index}
-use Rattle.ov_lyre.specs.Sums.{Stands, Marks, total_under}
-use Rattle.ov_lyre.proofs.PartFacts.{total-append, total-raised, total-same, le-total, total-filter-le, filter-append, filter-none, filter-has, has-filter, has-at, has-left, has-right, has-cases, lies, Round, round, part-at, edge-at, parents-has}
+use Rattle.ov_lyre.specs.Sums.{Stands, Marks}
+use Rattle.ov_lyre.proofs.PartFacts.{total-append, total-raised, le-total, total-filter-le, filter-append, filter-none, has-filter, has-left, has-right, has-cases, lies, Round, round, part-at, edge-at, parents-has}
 use Rattle.ov_lyre.proofs.UnderFacts.{IsSoundTree, under-self, under-smaller, under-parent}
 
 -- The versions before the place at still wait: the sums of those under one of them make up its sum. The others are done.
@@ -17,14 +17,14 @@ pub record PassesOn (tree : VersionTree) (f g : ℕ → ℕ) (part : List ℕ) (
 
 pub passes-start : (tree : VersionTree) (f : ℕ → ℕ) (part : List ℕ) → PassesOn tree f f part (length part)
 passes-start tree f part = record {
-    within = omega arith;
-    waiting = λ vid has. rw (take_all (length part) part (omega arith)) refl;
-    done = λ vid has. absurd (let h = rw (drop_all (length part) part (omega arith)) at has in h);
-  }
+  within = omega arith;
+  waiting = λ vid has. rw (take_all (length part) part (omega arith)) refl;
+  done = λ vid has. absurd (let h = rw (drop_all (length part) part (omega arith)) at has in h);
+}
 
 one-under : (tree : VersionTree) (g : ℕ → ℕ) (vid y : ℕ) → total g (lower tree vid (y ∷ [])) ≡ cond (is_under tree vid y) (g y) 0
 one-under tree g vid y =
-    elim (cases_Bool (is_under tree vid y)) [ | inl under ↦ rw under (omega arith) | inr apart ↦ rw apart refl ]
+    elim (cases_Bool (is_under tree vid y)) [ inl under ↦ rw under (omega arith) | inr apart ↦ rw apart refl ]
 
 -- what stands before a later version of a part, and behind it
 module _ (tree : VersionTree) (sound : IsSoundTree tree) (count : ℕ) (part : List ℕ) (is : IsPart tree count part) (at : ℕ) (later : 0 < at) (there : at < length part) where
@@ -77,15 +77,15 @@ module _ (tree : VersionTree) (sound : IsSoundTree tree) (count : ℕ) (f g : �
       let above = (part-at tree count part is at there).above in
       let more : take (at + 1) part ≡ ys ++ y ∷ [] = take_more part at 0 there in
       let split : (vid : ℕ) → total g (lower tree vid (take (at + 1) part)) ≡ total g (lower tree vid ys) + cond (is_under tree vid y) (g y) 0 =
-        (λ vid. ap (λ (xs : List ℕ). total g (lower tree vid xs)) more ∙ ap (total g) (filter-append (λ version. is_under tree vid version) ys (y ∷ [])) ∙ total-append g (lower tree vid ys) (lower tree vid (y ∷ [])) ∙ ap (λ n. total g (lower tree vid ys) + n) (one-under tree g vid y)) in
+      (λ vid. ap (λ (xs : List ℕ). total g (lower tree vid xs)) more ∙ ap (total g) (filter-append (λ version. is_under tree vid version) ys (y ∷ [])) ∙ total-append g (lower tree vid ys) (lower tree vid (y ∷ [])) ∙ ap (λ n. total g (lower tree vid ys) + n) (one-under tree g vid y)) in
       record {
         within = omega arith;
         waiting = λ vid has.
-          let before = near.before vid has in
-          let old = passes.waiting vid (rw more (has-left ys (y ∷ []) vid has)) in
-          let same : is_under tree vid y ≡ is_under tree vid (tree.parent y) = under-parent tree sound vid y (omega arith) (λ e. absurd (omega arith)) in
-          total-raised (λ version. is_under tree vid version) g h (tree.parent y) (g y) passed.0 passed.1 0 count ys near.front parent
-          ∙ (rw (sym same) (sym (split vid))) ∙ old;
+            let before = near.before vid has in
+            let old = passes.waiting vid (rw more (has-left ys (y ∷ []) vid has)) in
+            let same : is_under tree vid y ≡ is_under tree vid (tree.parent y) = under-parent tree sound vid y (omega arith) (λ e. absurd (omega arith)) in
+            total-raised (λ version. is_under tree vid version) g h (tree.parent y) (g y) passed.0 passed.1 0 count ys near.front parent
+            ∙ (rw (sym same) (sym (split vid))) ∙ old;
         done = λ vid has. finished vid (rw (drop_more part at 0 there) at has) split low above;
       }
     where
@@ -95,6 +95,7 @@ module _ (tree : VersionTree) (sound : IsSoundTree tree) (count : ℕ) (f g : �
           let old = passes.waiting y (rw (take_more part at 0 there) (has-right ys (y ∷ []) y (inl refl))) in
           let here : total g (lower tree y ys) + cond (is_under tree y y) (g y) 0 ≡ g y = rw (none, under-self tree sound y) (omega arith) in
           passed.1 y (λ e. absurd (omega arith)) ∙ sym here ∙ sym (split y) ∙ old
+
       finished : (vid : ℕ) → Has (y ∷ zs) vid → ((vid : ℕ) → total g (lower tree vid (take (at + 1) part)) ≡ total g (lower tree vid ys) + cond (is_under tree vid y) (g y) 0) → tree.parent y ≤ y - 1 → 0 < y → h vid ≡ total f (lower tree vid part)
       finished vid (inl same) split low above = rw (sym same) (own split low above)
       finished vid (inr has) split low above = let more = near.after vid has in passed.1 vid (λ e. absurd (omega arith)) ∙ passes.done vid has

@@ -1,15 +1,14 @@
 -- A split under way: its start, a part that stops, a cut, and its end.
-use Rattle.std.proofs.Common.{◌≡◌, ℕ, zero, suc, ◌+◌, ◌-◌, ◌<◌, ◌≤◌, max, Result, Ok, Err, Option, Some, None, List, [], ◌∷◌, ◌++◌, length, map, refl, sym, ◌∙◌, ap, subst, inl, inr, append_assoc, arith}
+use Rattle.std.proofs.Common.{◌≡◌, ℕ, suc, ◌+◌, ◌-◌, ◌<◌, ◌≤◌, max, Result, Ok, Err, Some, None, List, [], ◌∷◌, ◌++◌, length, refl, sym, ◌∙◌, ap, append_assoc, arith}
 use Rattle.std.specs.Result.{OnOk}
 use Rattle.std.proofs.lemmas.List.{append-nil, map_push}
 use Rattle.ov_graph.specs.Trees.{VersionTree}
-use Rattle.ov_graph.specs.Splits.{Has, IsPart, edges, lower, upper, next_cut_of, Cuts, cuts_of, leaves, cut_vids, depth}
-use Rattle.ov_graph.specs.Splits.Cuts.{whole, cut}
+use Rattle.ov_graph.specs.Splits.{Has, IsPart, edges, lower, upper, next_cut_of, cuts_of, leaves, cut_vids, depth}
 use Rattle.ov_lyre.specs.declared.run.Piece.{Piece}
 use Rattle.ov_lyre.specs.Runs.{piece_of, pieces_of, leaves_left, cuts_left, depth_left, ArePieces, Leads, pieces_left}
 use Rattle.ov_lyre.proofs.UnderFacts.{IsSoundTree}
-use Rattle.ov_lyre.proofs.CutFacts.{Sides, sides}
-use Rattle.ov_lyre.proofs.CutsFacts.{Shorter, shorter, cuts_of-whole, cuts_of-cut}
+use Rattle.ov_lyre.proofs.CutFacts.{sides}
+use Rattle.ov_lyre.proofs.CutsFacts.{shorter, cuts_of-whole, cuts_of-cut}
 
 module _ (tree : VersionTree) (p q : ℕ) where
   leaves-last : (pieces : List (List ℕ × ℕ)) (piece : List ℕ × ℕ) → leaves_left tree p q (pieces ++ piece ∷ []) ≡ leaves (cuts_of tree p q piece.0) ++ leaves_left tree p q pieces
@@ -82,11 +81,11 @@ module _ (tree : VersionTree) (sound : IsSoundTree tree) (p q : ℕ) (p_up_to_q 
       let d1 = depth-last tree p q pieces (below, level + 1) in
       let d2 = depth-last tree p q less (above, level + 1) in
       let one : leaves_left tree p q (less ++ (above, level + 1) ∷ []) ≡ leaves_left tree p q (pieces ++ (part, level) ∷ []) =
-        leaves-last tree p q less (above, level + 1) ∙ ap (λ (ys : List (List ℕ)). leaves a ++ ys) (leaves-last tree p q pieces (below, level + 1))
-        ∙ sym (leaves-last tree p q pieces (part, level) ∙ ap (λ (ys : List (List ℕ)). ys ++ leaves_left tree p q pieces) leaf ∙ append_assoc (leaves a) (leaves b) (leaves_left tree p q pieces)) in
+      leaves-last tree p q less (above, level + 1) ∙ ap (λ (ys : List (List ℕ)). leaves a ++ ys) (leaves-last tree p q pieces (below, level + 1))
+      ∙ sym (leaves-last tree p q pieces (part, level) ∙ ap (λ (ys : List (List ℕ)). ys ++ leaves_left tree p q pieces) leaf ∙ append_assoc (leaves a) (leaves b) (leaves_left tree p q pieces)) in
       let two_vids : vid ∷ cuts_left tree p q (less ++ (above, level + 1) ∷ []) ≡ cuts_left tree p q (pieces ++ (part, level) ∷ []) =
-        ap (λ (ys : List ℕ). vid ∷ ys) (cuts-last tree p q less (above, level + 1) ∙ ap (λ (ys : List ℕ). cut_vids a ++ ys) (cuts-last tree p q pieces (below, level + 1)))
-        ∙ sym (cuts-last tree p q pieces (part, level) ∙ ap (λ (ys : List ℕ). ys ++ cuts_left tree p q pieces) vids ∙ ap (λ (ys : List ℕ). vid ∷ ys) (append_assoc (cut_vids a) (cut_vids b) (cuts_left tree p q pieces))) in
+      ap (λ (ys : List ℕ). vid ∷ ys) (cuts-last tree p q less (above, level + 1) ∙ ap (λ (ys : List ℕ). cut_vids a ++ ys) (cuts-last tree p q pieces (below, level + 1)))
+      ∙ sym (cuts-last tree p q pieces (part, level) ∙ ap (λ (ys : List ℕ). ys ++ cuts_left tree p q pieces) vids ∙ ap (λ (ys : List ℕ). vid ∷ ys) (append_assoc (cut_vids a) (cut_vids b) (cuts_left tree p q pieces))) in
       let before = (popped tree count pieces (part, level) leads.are_pieces).are in
       record {
         are_pieces = are-pushed tree count less (above, level + 1) (are-pushed tree count pieces (below, level + 1) before two.lower_part (omega arith)) two.upper_part (omega arith);

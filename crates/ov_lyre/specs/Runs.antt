@@ -1,5 +1,5 @@
 -- A split under way: parts that wait, the last of which comes next, and what is found so far.
-use Rattle.std.specs.Prelude.{◌≡◌, ℕ, suc, ◌+◌, ◌-◌, ◌<◌, ◌≤◌, max, List, [], ◌∷◌, ◌++◌, length, map, Vec}
+use Rattle.std.specs.Prelude.{◌≡◌, ℕ, ◌+◌, ◌-◌, ◌≤◌, max, List, [], ◌∷◌, ◌++◌, length, map, Vec}
 use Rattle.std.specs.declared.alloc.Global.{Global}
 use Rattle.ov_graph.specs.Trees.{VersionTree}
 use Rattle.ov_graph.specs.Splits.{IsPart, cuts_of, leaves, cut_vids, depth}

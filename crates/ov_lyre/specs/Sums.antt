@@ -1,5 +1,5 @@
 -- What the arrays by vid have to say while a part is cut.
-use Rattle.std.specs.Prelude.{◌≡◌, ℕ, ◌<◌, List, length, slice_index, slice_index_or, Bool, false}
+use Rattle.std.specs.Prelude.{◌≡◌, ℕ, List, slice_index, slice_index_or, Bool, false}
 use Rattle.ov_graph.specs.Trees.{VersionTree, total}
 use Rattle.ov_graph.specs.Splits.{Has, is_under, lower}
 

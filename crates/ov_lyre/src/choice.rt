@@ -32,7 +32,8 @@ fn better(candidate: Candidate, found: Option<Candidate>) -> Candidate
         None => candidate,
         Some(other) => {
             if candidate.versions_apart < other.versions_apart
-                || candidate.versions_apart == other.versions_apart && candidate.records_apart <= other.records_apart
+                || candidate.versions_apart == other.versions_apart
+                    && candidate.records_apart <= other.records_apart
             {
                 candidate
             } else {
@@ -49,7 +50,8 @@ fn stops(totals: Totals, versions: usize, threshold: Threshold) -> bool
     requires members { totals.members < 2 ^ 49 }
     ensures { result ≡ nat_le (threshold.p * totals.records * versions) (threshold.q * totals.members) }
 {
-    threshold.p as u128 * totals.records as u128 * versions as u128 <= threshold.q as u128 * totals.members as u128
+    threshold.p as u128 * totals.records as u128 * versions as u128
+        <= threshold.q as u128 * totals.members as u128
 }
 
 /// Whether an edge may be cut: q * w <= p * R.
@@ -60,7 +62,14 @@ fn may_cut(weight: u32, records: u64, threshold: Threshold) -> bool
 }
 
 /// What a cut of the edge of a version leaves, from the sums under it.
-fn weigh(nodes: &[Node], part: &[u32], part_records: u64, child: u32, versions_under: u64, fresh_under: u64) -> Candidate
+fn weigh(
+    nodes: &[Node],
+    part: &[u32],
+    part_records: u64,
+    child: u32,
+    versions_under: u64,
+    fresh_under: u64,
+) -> Candidate
     requires sound { IsSound nodes.now }
     requires part { IsPart (tree_of nodes.now) (length nodes.now) part.now }
     requires records { part_records ≡ records (tree_of nodes.now) part.now }
@@ -83,7 +92,14 @@ fn weigh(nodes: &[Node], part: &[u32], part_records: u64, child: u32, versions_u
 
 /// The edge that is cut, among those that may be: the one whose parts differ least in their numbers of versions; then
 /// least in R; then the one of the least vid. In the time of the part's versions.
-fn choose(nodes: &[Node], part: &[u32], part_records: u64, counts: &[u64], sums: &[u64], threshold: Threshold) -> Option<u32>
+fn choose(
+    nodes: &[Node],
+    part: &[u32],
+    part_records: u64,
+    counts: &[u64],
+    sums: &[u64],
+    threshold: Threshold,
+) -> Option<u32>
     requires sound { IsSound nodes.now }
     requires part { IsPart (tree_of nodes.now) (length nodes.now) part.now }
     requires records { part_records ≡ records (tree_of nodes.now) part.now }
@@ -100,7 +116,14 @@ fn choose(nodes: &[Node], part: &[u32], part_records: u64, counts: &[u64], sums:
         at -= 1;
         let vid = part[at];
         if may_cut(node_of(nodes, vid).weight, part_records, threshold) {
-            let candidate = weigh(nodes, part, part_records, vid, counts[vid as usize], sums[vid as usize]);
+            let candidate = weigh(
+                nodes,
+                part,
+                part_records,
+                vid,
+                counts[vid as usize],
+                sums[vid as usize],
+            );
             found = Some(better(candidate, found));
         }
     }
@@ -112,7 +135,13 @@ fn choose(nodes: &[Node], part: &[u32], part_records: u64, counts: &[u64], sums:
 
 /// The edge at which a part is cut next, by the vid of its child; `None` where the part stops. The arrays by vid may
 /// hold anything before.
-pub fn next_cut(nodes: &[Node], part: &[u32], threshold: Threshold, counts: &mut [u64], sums: &mut [u64]) -> Option<u32>
+pub fn next_cut(
+    nodes: &[Node],
+    part: &[u32],
+    threshold: Threshold,
+    counts: &mut [u64],
+    sums: &mut [u64],
+) -> Option<u32>
     requires sound { IsSound nodes.now }
     requires part { IsPart (tree_of nodes.now) (length nodes.now) part.now }
     requires counts { length nodes.now < length counts.old }

@@ -20,3 +20,6 @@ mod sums;
 
 pub use front::split;
 pub use outcome::Split;
+
+#[cfg(test)]
+mod tests;

@@ -6,8 +6,8 @@ ghost use Rattle.ov_graph.specs.Splits.{IsPart, cuts_of, leaves, cut_vids, depth
 ghost use Rattle.ov_lyre.specs.Runs.{piece_of, pieces_of, lists_of, RunLeads, pieces_left};
 
 use crate::choice::{Threshold, next_cut};
-use crate::sides::{Sides, cut_at};
 use crate::outcome::Split;
+use crate::sides::{Sides, cut_at};
 use ov_graph::Node;
 use std::alloc::{AllocError, Global};
 
@@ -44,7 +44,11 @@ impl Scratch {
         let counts = vec![in alloc; 0; len]?;
         let sums = vec![in alloc; 0; len]?;
         let marks = vec![in alloc; false; len]?;
-        Ok(Scratch { counts, sums, marks })
+        Ok(Scratch {
+            counts,
+            sums,
+            marks,
+        })
     }
 }
 
@@ -80,7 +84,14 @@ fn divide(child: u32, level: u32, sides: Sides, run: &mut Run) -> Result<(), All
 }
 
 /// Looks at a part that has waited: it stops, or it is cut and its sides wait.
-fn advance(alloc: Global, nodes: &[Node], threshold: Threshold, piece: Piece, run: &mut Run, scratch: &mut Scratch) -> Result<(), AllocError>
+fn advance(
+    alloc: Global,
+    nodes: &[Node],
+    threshold: Threshold,
+    piece: Piece,
+    run: &mut Run,
+    scratch: &mut Scratch,
+) -> Result<(), AllocError>
     requires sound { IsSound nodes.now }
     requires threshold { threshold.p ≤ threshold.q }
     requires part { IsPart (tree_of nodes.now) (length nodes.now) piece.part.items }
@@ -94,7 +105,13 @@ fn advance(alloc: Global, nodes: &[Node], threshold: Threshold, piece: Piece, ru
     ensures sums { OnOk result (length scratch.new.sums.items ≡ length scratch.old.sums.items) }
     ensures marks { OnOk result (length scratch.new.marks.items ≡ length scratch.old.marks.items) }
 {
-    match next_cut(nodes, &piece.part, threshold, &mut scratch.counts, &mut scratch.sums) {
+    match next_cut(
+        nodes,
+        &piece.part,
+        threshold,
+        &mut scratch.counts,
+        &mut scratch.sums,
+    ) {
         None => set_aside(piece, run),
         Some(child) => {
             let sides = cut_at(alloc, nodes, &piece.part, child, &mut scratch.marks)?;
@@ -105,7 +122,12 @@ fn advance(alloc: Global, nodes: &[Node], threshold: Threshold, piece: Piece, ru
 
 /// The split of a part, with its parts and cuts in the order in which they are found. In the worst case, where each
 /// cut takes a single version from a part, the time is in the square of the number of versions.
-pub fn divided(alloc: Global, nodes: &[Node], threshold: Threshold, whole: Vec<u32>) -> Result<Split, AllocError>
+pub fn divided(
+    alloc: Global,
+    nodes: &[Node],
+    threshold: Threshold,
+    whole: Vec<u32>,
+) -> Result<Split, AllocError>
     requires sound { IsSound nodes.now }
     requires threshold { threshold.p ≤ threshold.q }
     requires part { IsPart (tree_of nodes.now) (length nodes.now) whole.items }

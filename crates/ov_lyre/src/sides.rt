@@ -35,7 +35,13 @@ fn mark(nodes: &[Node], part: &[u32], child: u32, marks: &mut [bool])
 }
 
 /// Cuts the edge of a version to its tree parent. In the time of the part's versions.
-pub fn cut_at(alloc: Global, nodes: &[Node], part: &[u32], child: u32, marks: &mut [bool]) -> Result<Sides, AllocError>
+pub fn cut_at(
+    alloc: Global,
+    nodes: &[Node],
+    part: &[u32],
+    child: u32,
+    marks: &mut [bool],
+) -> Result<Sides, AllocError>
     requires sound { IsSound nodes.now }
     requires part { IsPart (tree_of nodes.now) (length nodes.now) part.now }
     requires child { Has (edges part.now) child }

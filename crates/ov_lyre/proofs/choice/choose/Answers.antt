@@ -1,9 +1,9 @@
-use Rattle.std.proofs.Common.{◌≡◌, ◌≤◌, ◌<◌, ◌+◌, ◌-◌, ℕ, Option, Some, None, length, drop, get_or, true, false, sym, ◌∙◌, ap, subst, arith}
-use Rattle.ov_graph.specs.Trees.{tree_of, total}
+use Rattle.std.proofs.Common.{◌≡◌, ◌+◌, ◌-◌, Option, Some, length, drop, get_or, true, false, sym, ◌∙◌, subst, arith}
+use Rattle.ov_graph.specs.Trees.{tree_of}
 use Rattle.ov_graph.specs.Splits.{lower, may_cut, chosen, chosen_among}
 use Rattle.ov_lyre.specs.declared.choice.Candidate.{Candidate}
-use Rattle.ov_lyre.specs.Candidates.{IsBest, better_of}
-use Rattle.ov_lyre.proofs.PartFacts.{Lies, part-at, edge-at, has-at, total-ones}
+use Rattle.ov_lyre.specs.Candidates.{IsBest}
+use Rattle.ov_lyre.proofs.PartFacts.{part-at, edge-at, has-at, total-ones}
 use Rattle.ov_lyre.proofs.ChoiceFacts.{best-skip, best-take, best-all, may-cut-is}
 use Rattle.ov_lyre.proofs.choice.choose.Goals as goal
 

@@ -1,6 +1,6 @@
-use Rattle.std.proofs.Common.{refl, ◌≡◌, ◌≤◌, ◌<◌, ℕ, length, true, false, sym, ◌∙◌, arith}
+use Rattle.std.proofs.Common.{refl, ◌≡◌, length, true, false, ◌∙◌, arith}
 use Rattle.std.specs.List.{slice_index}
-use Rattle.ov_graph.specs.Trees.{tree_of, total, fresh}
+use Rattle.ov_graph.specs.Trees.{tree_of, fresh}
 use Rattle.ov_graph.specs.Splits.{stops}
 use Rattle.ov_lyre.proofs.PartFacts.{part-long, total-same, total-ones}
 use Rattle.ov_lyre.proofs.NodeFacts.{sound-tree}
@@ -13,7 +13,7 @@ stops-requires-clause-versions c = let long = part-long (tree_of c.args.nodes.no
 pub returns-then-stops : goal.returns-then-stops
 returns-then-stops c =
     let stop : stops (tree_of c.args.nodes.now) c.args.threshold.p c.args.threshold.q c.args.part.now ≡ true =
-      stops-is (tree_of c.args.nodes.now) c.args.part.now c.args.threshold.p c.args.threshold.q c.add_totals-totals.result.records c.add_totals-totals.result.members c.stops.result c.add_totals-totals.ensures.records c.add_totals-totals.ensures.members c.stops.ensures ∙ c.if-stops.true in
+    stops-is (tree_of c.args.nodes.now) c.args.part.now c.args.threshold.p c.args.threshold.q c.add_totals-totals.result.records c.add_totals-totals.result.members c.stops.result c.add_totals-totals.ensures.records c.add_totals-totals.ensures.members c.stops.ensures ∙ c.if-stops.true in
     rw stop refl
 
 pub add_up-requires-clause-small : goal.add_up-requires-clause-small
@@ -42,5 +42,5 @@ choose-requires-clause-sums c vid has = c.add_up-2.ensures vid has ∙ stands-to
 pub returns : goal.returns
 returns c =
     let goes_on : stops (tree_of c.args.nodes.now) c.args.threshold.p c.args.threshold.q c.args.part.now ≡ false =
-      stops-is (tree_of c.args.nodes.now) c.args.part.now c.args.threshold.p c.args.threshold.q c.add_totals-totals.result.records c.add_totals-totals.result.members c.stops.result c.add_totals-totals.ensures.records c.add_totals-totals.ensures.members c.stops.ensures ∙ c.if-stops.false in
+    stops-is (tree_of c.args.nodes.now) c.args.part.now c.args.threshold.p c.args.threshold.q c.add_totals-totals.result.records c.add_totals-totals.result.members c.stops.result c.add_totals-totals.ensures.records c.add_totals-totals.ensures.members c.stops.ensures ∙ c.if-stops.false in
     c.choose.ensures ∙ rw goes_on refl

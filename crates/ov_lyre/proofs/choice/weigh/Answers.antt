@@ -1,10 +1,8 @@
-use Rattle.std.proofs.Common.{refl, ◌≡◌, ◌≤◌, ◌+◌, length, ◌∙◌, ap, arith}
-use Rattle.std.specs.Int.{abs_diff}
+use Rattle.std.proofs.Common.{refl, length, ◌∙◌, arith}
 use Rattle.ov_graph.specs.Trees.{tree_of}
-use Rattle.ov_graph.specs.Splits.{records}
-use Rattle.ov_lyre.proofs.PartFacts.{Lies, lies, edge-has}
+use Rattle.ov_lyre.proofs.PartFacts.{lies, edge-has}
 use Rattle.ov_lyre.proofs.NodeFacts.{sound-tree}
-use Rattle.ov_lyre.proofs.CutFacts.{Sides, sides}
+use Rattle.ov_lyre.proofs.CutFacts.{sides}
 use Rattle.ov_lyre.proofs.ChoiceFacts.{is-candidate}
 use Rattle.ov_lyre.proofs.choice.weigh.Goals as goal
 
@@ -44,5 +42,5 @@ pub returns-clause-candidate : goal.returns-clause-candidate
 returns-clause-candidate c =
     let weight = c.from-weight.ensures ∙ c.node_of.ensures.weight in
     is-candidate (tree_of c.args.nodes.now) (sound-tree c.args.nodes.now c.requires.sound) (length c.args.nodes.now) c.args.part.now _ c.args.versions_under c.args.fresh_under c.requires.part c.requires.child c.requires.versions_under c.requires.fresh_under
-      c.abs_diff.ensures
-      (c.abs_diff-2.ensures ∙ rw (weight, c.requires.records) refl)
+    c.abs_diff.ensures
+    (c.abs_diff-2.ensures ∙ rw (weight, c.requires.records) refl)

@@ -1,5 +1,4 @@
-use Rattle.std.proofs.Common.{◌≡◌, ◌+◌, ℕ, List, [], ◌∷◌, ◌++◌, suc, sym, ◌∙◌, ap, refl, arith}
-use Rattle.ov_graph.specs.Trees.{vids}
+use Rattle.std.proofs.Common.{◌+◌, ℕ, List, [], ◌∷◌, ◌++◌, sym, ◌∙◌, ap}
 use Rattle.ov_lyre.proofs.OrderFacts.{vids-more}
 use Rattle.ov_lyre.proofs.front.all_vids.Goals as goal
 

@@ -1,4 +1,4 @@
-use Rattle.std.proofs.Common.{◌≡◌, ◌<◌, ℕ, List, length, map, sym, ◌∙◌, ap, subst, refl, arith}
+use Rattle.std.proofs.Common.{◌≡◌, ℕ, List, length, sym, ◌∙◌, ap, subst, arith}
 use Rattle.std.specs.Prelude.{Vec}
 use Rattle.std.specs.declared.alloc.Global.{Global}
 use Rattle.std.proofs.lemmas.Result.{IfOk-weaker}
@@ -35,9 +35,9 @@ returns-clause-parts c =
     let xs = c.in_ok-split.split.parts.items in
     let is : lists_of xs ≡ leaves (cuts_of tree c.args.p c.args.q (vids (length nodes))) = rw (c.in_ok-whole.ensures, count, c.deref.ensures.value) at c.in_ok-split.ensures.parts in
     IfOk-weaker c.in_order.result _ _ (λ sorted from.
-      ap lists_of (sorted-in_order (λ (part : Vec ℕ Global). first_of part.items) xs sorted.parts.items (length nodes) from (found-keys nodes c.requires.sound c.requires.some c.args.p c.args.q c.requires.up_to_q xs is))
-      ∙ map-in_order (λ (part : Vec ℕ Global). part.items) first_of (vids (length nodes)) xs
-      ∙ ap (λ (parts : List (List ℕ)). in_order first_of (vids (length nodes)) parts) is) c.in_order.ensures.parts
+    ap lists_of (sorted-in_order (λ (part : Vec ℕ Global). first_of part.items) xs sorted.parts.items (length nodes) from (found-keys nodes c.requires.sound c.requires.some c.args.p c.args.q c.requires.up_to_q xs is))
+    ∙ map-in_order (λ (part : Vec ℕ Global). part.items) first_of (vids (length nodes)) xs
+    ∙ ap (λ (parts : List (List ℕ)). in_order first_of (vids (length nodes)) parts) is) c.in_order.ensures.parts
 
 pub returns-clause-cuts : goal.returns-clause-cuts
 returns-clause-cuts c =
@@ -47,8 +47,8 @@ returns-clause-cuts c =
     let xs = c.in_ok-split.split.cuts.items in
     let is : xs ≡ cut_vids (cuts_of tree c.args.p c.args.q (vids (length nodes))) = rw (c.in_ok-whole.ensures, count, c.deref.ensures.value) at c.in_ok-split.ensures.cuts in
     IfOk-weaker c.in_order.result _ _ (λ sorted from.
-      sorted-in_order (λ (vid : ℕ). vid) xs sorted.cuts.items (length nodes) from (found-vids nodes c.requires.sound c.requires.some c.args.p c.args.q c.requires.up_to_q xs is)
-      ∙ ap (λ (cuts : List ℕ). in_order (λ (vid : ℕ). vid) (vids (length nodes)) cuts) is) c.in_order.ensures.cuts
+    sorted-in_order (λ (vid : ℕ). vid) xs sorted.cuts.items (length nodes) from (found-vids nodes c.requires.sound c.requires.some c.args.p c.args.q c.requires.up_to_q xs is)
+    ∙ ap (λ (cuts : List ℕ). in_order (λ (vid : ℕ). vid) (vids (length nodes)) cuts) is) c.in_order.ensures.cuts
 
 pub returns-clause-depth : goal.returns-clause-depth
 returns-clause-depth c =

@@ -1,9 +1,8 @@
-use Rattle.std.proofs.Common.{◌≡◌, ◌≤◌, ◌<◌, ◌+◌, ℕ, List, [], ◌∷◌, ◌++◌, Option, Some, None, Result, length, sym, ◌∙◌, ap, subst, refl, arith}
-use Rattle.std.specs.Result.{OnOk}
+use Rattle.std.proofs.Common.{◌≡◌, Some, None, length, sym, ◌∙◌, ap}
 use Rattle.std.proofs.lemmas.Result.{IfOk-weaker}
 use Rattle.ov_graph.specs.Trees.{tree_of}
-use Rattle.ov_graph.specs.Splits.{Has, edges, next_cut_of, upper, lower}
-use Rattle.ov_lyre.specs.Runs.{RunLeads, pieces_of, lists_of}
+use Rattle.ov_graph.specs.Splits.{next_cut_of, upper, lower}
+use Rattle.ov_lyre.specs.Runs.{pieces_of, lists_of}
 use Rattle.ov_lyre.proofs.NodeFacts.{sound-tree}
 use Rattle.ov_lyre.proofs.EdgeFacts.{cut-at}
 use Rattle.ov_lyre.proofs.StateFacts.{on-ok, leads-stop, leads-cut, fewer-stop, fewer-cut}
@@ -22,7 +21,7 @@ returns-in-None-clause-leads c =
     let none : next_cut_of (tree_of nodes) c.args.threshold.p c.args.threshold.q c.args.piece.part.items ≡ None = sym (rw c.deref.ensures.value at c.in-None.ensures) in
     let said = c.set_aside.ensures in
     on-ok c.set_aside.result said.work said.parts said.cuts said.depth (λ work parts cuts depth whole leads.
-      rw (work, parts, cuts, depth) (leads-stop (tree_of nodes) (sound-tree nodes c.requires.sound) c.args.threshold.p c.args.threshold.q c.requires.threshold (length nodes) whole (pieces_of c.args.run.now.work.items) c.args.piece.part.items c.args.piece.level (lists_of c.args.run.now.split.parts.items) c.args.run.now.split.cuts.items c.args.run.now.split.depth none leads))
+    rw (work, parts, cuts, depth) (leads-stop (tree_of nodes) (sound-tree nodes c.requires.sound) c.args.threshold.p c.args.threshold.q c.requires.threshold (length nodes) whole (pieces_of c.args.run.now.work.items) c.args.piece.part.items c.args.piece.level (lists_of c.args.run.now.split.parts.items) c.args.run.now.split.cuts.items c.args.run.now.split.depth none leads))
 
 pub returns-in-None-clause-fewer : goal.returns-in-None-clause-fewer
 returns-in-None-clause-fewer c =
@@ -41,7 +40,7 @@ returns-in_ok-sides-in-Some-clause-leads c =
     let below = c.in_ok-sides-in-Some.ensures.below ∙ ap (lower tree child) c.deref-in-Some.ensures.value in
     let said = c.divide.ensures in
     on-ok c.divide.result said.work said.parts said.cuts said.depth (λ work parts cuts depth whole leads.
-      rw (work, parts, cuts, depth, above, below) (leads-cut tree (sound-tree nodes c.requires.sound) c.args.threshold.p c.args.threshold.q c.requires.threshold (length nodes) whole (pieces_of c.args.run.now.work.items) part c.args.piece.level (lists_of c.args.run.now.split.parts.items) c.args.run.now.split.cuts.items c.args.run.now.split.depth child c.requires.part has c.requires.level next leads))
+    rw (work, parts, cuts, depth, above, below) (leads-cut tree (sound-tree nodes c.requires.sound) c.args.threshold.p c.args.threshold.q c.requires.threshold (length nodes) whole (pieces_of c.args.run.now.work.items) part c.args.piece.level (lists_of c.args.run.now.split.parts.items) c.args.run.now.split.cuts.items c.args.run.now.split.depth child c.requires.part has c.requires.level next leads))
 
 pub returns-in_ok-sides-in-Some-clause-fewer : goal.returns-in_ok-sides-in-Some-clause-fewer
 returns-in_ok-sides-in-Some-clause-fewer c =

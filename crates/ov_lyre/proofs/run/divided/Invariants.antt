@@ -1,4 +1,4 @@
-use Rattle.std.proofs.Common.{◌≡◌, ◌<◌, length}
+use Rattle.std.proofs.Common.{◌<◌, length}
 use Rattle.ov_graph.specs.Trees.{tree_of}
 use Rattle.ov_lyre.specs.Runs.{pieces_of, RunLeads, pieces_left}
 use Rattle.ov_lyre.proofs.run.divided.Given as goal

@@ -1,7 +1,7 @@
-use Rattle.std.proofs.Common.{◌≡◌, ◌<◌, ◌≤◌, ℕ, true, false, not, length, get_or, sym, ◌∙◌, ap, arith}
+use Rattle.std.proofs.Common.{◌≡◌, true, false, not, length, get_or, sym, ◌∙◌, ap, arith}
 use Rattle.ov_graph.specs.Trees.{tree_of}
 use Rattle.ov_graph.specs.Splits.{is_under}
-use Rattle.ov_lyre.proofs.PartFacts.{Lies, part-at, has-at, filter-push, filter-skip}
+use Rattle.ov_lyre.proofs.PartFacts.{part-at, has-at, filter-push, filter-skip}
 use Rattle.ov_lyre.proofs.sides.cut_at.Goals.{then-marks-vid+in_ok-push, else-marks-vid+in_ok-push-2}
 use Rattle.ov_lyre.proofs.sides.cut_at.Goals as goal
 
@@ -20,10 +20,14 @@ loop-vid-preserved c =
     elim c.if-marks-vid.branch [
       | then-marks-vid+in_ok-push w ↦
           let under : is_under tree child y ≡ true = sym marked ∙ w.if-marks-vid.true in
-          rw (w.above-is, w.below-is) (filter-skip (λ version. not (is_under tree child version)) part c.loop-vid.above.items k lt c.loop-vid.invariant.0 (ap not under),
-          w.in_ok-push.ensures.items ∙ filter-push (λ version. is_under tree child version) part c.loop-vid.below.items k lt c.loop-vid.invariant.1 under)
+          rw (w.above-is, w.below-is) (
+            filter-skip (λ version. not (is_under tree child version)) part c.loop-vid.above.items k lt c.loop-vid.invariant.0 (ap not under),
+            w.in_ok-push.ensures.items ∙ filter-push (λ version. is_under tree child version) part c.loop-vid.below.items k lt c.loop-vid.invariant.1 under,
+          )
       | else-marks-vid+in_ok-push-2 w ↦
           let apart : is_under tree child y ≡ false = sym marked ∙ w.if-marks-vid.false in
-          rw (w.above-is, w.below-is) (w.in_ok-push-2.ensures.items ∙ filter-push (λ version. not (is_under tree child version)) part c.loop-vid.above.items k lt c.loop-vid.invariant.0 (ap not apart),
-          filter-skip (λ version. is_under tree child version) part c.loop-vid.below.items k lt c.loop-vid.invariant.1 apart)
+          rw (w.above-is, w.below-is) (
+            w.in_ok-push-2.ensures.items ∙ filter-push (λ version. not (is_under tree child version)) part c.loop-vid.above.items k lt c.loop-vid.invariant.0 (ap not apart),
+            filter-skip (λ version. is_under tree child version) part c.loop-vid.below.items k lt c.loop-vid.invariant.1 apart,
+          )
     ]

@@ -1,8 +1,8 @@
-use Rattle.std.proofs.Common.{◌≡◌, ◌<◌, ◌≤◌, ℕ, Bool, true, false, length, get_or, length-set, sym, ◌∙◌, ap, subst, arith}
+use Rattle.std.proofs.Common.{◌≡◌, ℕ, true, false, length, get_or, length-set, sym, ◌∙◌, ap, subst, arith}
 use Rattle.std.proofs.lemmas.Bool.{eq-eqb}
 use Rattle.ov_graph.specs.Trees.{tree_of}
 use Rattle.ov_graph.specs.Splits.{is_under}
-use Rattle.ov_lyre.proofs.PartFacts.{Lies, part-at}
+use Rattle.ov_lyre.proofs.PartFacts.{part-at}
 use Rattle.ov_lyre.proofs.NodeFacts.{sound-tree}
 use Rattle.ov_lyre.proofs.UnderFacts.{under-self, under-parent}
 use Rattle.ov_lyre.proofs.RunDownFacts.{marks-start, marks-more, parent-there}
@@ -42,7 +42,7 @@ loop-at-preserved c =
     let same = c.loop-at.auto.marks in let set_long = length-set c.args.marks.now (get_or c.args.part.now 0 0) false in
     let parent = c.loop-at.invariant (tree.parent y) (parent-there tree sound (length nodes) part c.requires.part at (omega arith) c.loop-at-test.true) in
     let is : c.if-vid-child.marks ≡ is_under tree child y = elim c.if-vid-child.branch [
-        | then-vid-child w ↦ w.marks-is ∙ eq-eqb y child w.if-vid-child.true ∙ sym (let P : ℕ → Type 0 = λ v. is_under tree child v ≡ true in subst P (sym w.if-vid-child.true) (under-self tree sound child))
-        | else-vid-child w ↦ w.marks-is ∙ ap (λ v. get_or c.loop-at.marks v false) c.node_of.ensures.parent ∙ parent ∙ sym (under-parent tree sound child y (omega arith) w.if-vid-child.false)
-      ] in
+      | then-vid-child w ↦ w.marks-is ∙ eq-eqb y child w.if-vid-child.true ∙ sym (let P : ℕ → Type 0 = λ v. is_under tree child v ≡ true in subst P (sym w.if-vid-child.true) (under-self tree sound child))
+      | else-vid-child w ↦ w.marks-is ∙ ap (λ v. get_or c.loop-at.marks v false) c.node_of.ensures.parent ∙ parent ∙ sym (under-parent tree sound child y (omega arith) w.if-vid-child.false)
+    ] in
     marks-more tree child part c.loop-at.marks at c.if-vid-child.marks c.loop-at-test.true c.loop-at.invariant is (omega arith)

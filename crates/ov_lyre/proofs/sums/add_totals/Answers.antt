@@ -1,8 +1,6 @@
-use Rattle.std.proofs.Common.{◌≡◌, ◌<◌, ◌≤◌, length, get_or, arith}
+use Rattle.std.proofs.Common.{length, arith}
 use Rattle.ov_graph.specs.Trees.{tree_of, fresh}
 use Rattle.ov_lyre.proofs.PartFacts.{part-at, part-long, total-take}
-use Rattle.ov_lyre.proofs.NodeFacts.{sound-tree}
-use Rattle.ov_lyre.proofs.CutFacts.{records-fresh}
 use Rattle.ov_lyre.proofs.sums.add_totals.Goals as goal
 
 pub node_of-node-requires-clause-from_one : goal.node_of-node-requires-clause-from_one

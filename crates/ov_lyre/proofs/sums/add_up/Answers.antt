@@ -1,9 +1,9 @@
-use Rattle.std.proofs.Common.{◌≡◌, ℕ, ◌+◌, ◌-◌, ◌<◌, ◌≤◌, length, get_or, arith}
+use Rattle.std.proofs.Common.{◌≡◌, ◌+◌, ◌-◌, length, get_or, arith}
 use Rattle.std.specs.List.{slice_index}
 use Rattle.ov_graph.specs.Trees.{tree_of}
-use Rattle.ov_lyre.proofs.PartFacts.{Lies, part-at}
+use Rattle.ov_lyre.proofs.PartFacts.{part-at}
 use Rattle.ov_lyre.proofs.NodeFacts.{sound-tree}
-use Rattle.ov_lyre.proofs.RunDownFacts.{PassesOn, passes-start, passes-more, passes-fit, passes-all, set-passed}
+use Rattle.ov_lyre.proofs.RunDownFacts.{PassesOn, passes-more, passes-fit, passes-all, set-passed}
 use Rattle.ov_lyre.proofs.sums.add_up.Goals as goal
 
 pub node_of-parent-requires-clause-from_one : goal.node_of-parent-requires-clause-from_one

@@ -1,4 +1,3 @@
-use Rattle.std.proofs.Common.{length, ◌≤◌}
 use Rattle.std.specs.List.{slice_index}
 use Rattle.ov_graph.specs.Trees.{tree_of}
 use Rattle.ov_lyre.proofs.RunDownFacts.{PassesOn}

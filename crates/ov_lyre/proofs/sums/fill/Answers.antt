@@ -1,6 +1,6 @@
-use Rattle.std.proofs.Common.{◌≡◌, ℕ, ◌-◌, ◌<◌, ◌≤◌, length, get_or, ◌∙◌, arith}
+use Rattle.std.proofs.Common.{length, arith}
 use Rattle.ov_graph.specs.Trees.{tree_of, fresh}
-use Rattle.ov_lyre.proofs.PartFacts.{Lies, part-at}
+use Rattle.ov_lyre.proofs.PartFacts.{part-at}
 use Rattle.ov_lyre.proofs.RunDownFacts.{stands-more}
 use Rattle.ov_lyre.proofs.sums.fill.Goals as goal
 
@@ -27,8 +27,7 @@ loop-vid-preserved c =
     let sums_long = c.requires.sums in
     let sums_same = c.loop-vid.auto.sums in
     let r = c.node_of-node.ensures.records in
-    let w = c.node_of-node.ensures.weight in
-    (
+    let w = c.node_of-node.ensures.weight in (
       stands-more (λ _. 1) part c.loop-vid.counts k 1 c.loop-vid-test.true c.loop-vid.invariant.0 (omega arith) (omega arith),
       stands-more (fresh tree) part c.loop-vid.sums k c.from.result c.loop-vid-test.true c.loop-vid.invariant.1 (omega (arith, c.from.ensures, r, w)) (omega arith),
     )
