@@ -1,8 +1,8 @@
 -- Split: how LyreSplit divides a tree of versions into parts, under a threshold p/q; and the bounds that its parts
 -- meet. A part is a connected piece of the tree, as the ascending list of its vids. So its first version is its
 -- topmost one, and each other version's edge to its tree parent is an edge inside the part.
-use Rattle.std.specs.Prelude.{◌≡◌, ℕ, zero, suc, ◌+◌, ◌*◌, ◌^◌, ◌<◌, ◌≤◌, Bool, true, false, not, ◌⊎◌, ◌||◌, ◌&&◌, ◌==◌, nat_lt, nat_le, if◌then◌else◌, max, Option, Some, None, List, [], ◌∷◌, ◌++◌, length, filter, map}
-use Rattle.std.specs.List.{flat_map}
+use Rattle.std.specs.Prelude.{◌≡◌, ℕ, zero, suc, ◌+◌, ◌*◌, ◌^◌, ◌<◌, ◌≤◌, Bool, true, false, not, ◌⊎◌, ◌||◌, ◌&&◌, ◌==◌, nat_lt, nat_le, if◌then◌else◌, max, Option, Some, None, List, [], ◌∷◌, ◌++◌, length, filter, map, count_by}
+use Rattle.std.specs.List.{All, list_any, flat_map}
 use Rattle.std.specs.Int.{abs_diff}
 use Rattle.ov_graph.specs.declared.nodes.Node.{Node}
 use Rattle.ov_graph.specs.Trees.{VersionTree, fresh, total, tree_of, vids_of}
@@ -154,6 +154,15 @@ cut_edges_of nodes p q = in_order (λ vid. vid) (vids_of nodes) (cut_vids (split
 
 abbrev pub depth_of : List Node → ℕ → ℕ → ℕ
 depth_of nodes p q = depth (split_of nodes p q)
+
+abbrev pub has_vid : List ℕ → ℕ → Bool
+has_vid part vid = list_any (λ other. other == vid) part
+
+-- each version is in exactly one of the parts, and each part is connected and stops
+pub record IsDivision (nodes : List Node) (p q : ℕ) (parts : List (List ℕ)) : Type 0 where
+  pub each_once : (vid : ℕ) → 1 ≤ vid → vid ≤ length nodes → count_by (λ part. has_vid part vid) parts ≡ 1
+  pub are_parts : All (IsPart (tree_of nodes) (length nodes)) parts
+  pub all_stop : All (λ part. stops (tree_of nodes) p q part ≡ true) parts
 
 -- Bounds. Partitions, each as its versions and its records: those that are stored are the sum of their records, and
 -- their cost is the sum of versions times records.

@@ -38,7 +38,7 @@ vids-ascend : (low from count high : ℕ) → low < from → from + count ≤ su
 vids-ascend low from zero high lt le = tt
 vids-ascend low from (suc count) high lt le = (lt, omega arith, vids-ascend from (from + 1) count high (omega arith) (omega arith))
 
-has-vid : (from count vid : ℕ) → from ≤ vid → vid < from + count → Has (range_with_len from count) vid
+pub has-vid : (from count vid : ℕ) → from ≤ vid → vid < from + count → Has (range_with_len from count) vid
 has-vid from zero vid le lt = absurd (omega arith)
 has-vid from (suc count) vid le lt = elim (cases_eq from vid) [ inl same ↦ inl same | inr other ↦ inr (has-vid (from + 1) count vid (omega arith) (omega arith)) ]
 

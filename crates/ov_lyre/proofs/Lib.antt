@@ -10,3 +10,4 @@ pub mod NodeFacts
 pub mod ChoiceFacts
 pub mod StateFacts
 pub mod LawFacts
+pub mod DivisionFacts

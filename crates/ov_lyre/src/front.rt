@@ -2,7 +2,7 @@
 
 ghost use Rattle.std.specs.Prelude.{◌≡◌, ◌<◌, ◌≤◌, length, IfOk};
 ghost use Rattle.ov_graph.specs.Trees.{IsSound, tree_of, vids, all_records, all_members};
-ghost use Rattle.ov_graph.specs.Splits.{first_of, parts_of, cut_edges_of, depth_of, AreBounded, sizes, HasSplitLaws};
+ghost use Rattle.ov_graph.specs.Splits.{first_of, parts_of, cut_edges_of, depth_of, IsDivision, AreBounded, sizes, HasSplitLaws};
 ghost use Rattle.ov_lyre.specs.Runs.{lists_of};
 ghost use Rattle.ov_lyre.specs.Orders.{IsSortedFrom};
 
@@ -55,6 +55,9 @@ pub fn split(alloc: Global, tree: &Tree, p: u32, q: u32) -> Result<Split, AllocE
     ensures parts { IfOk result (λ split. lists_of split.parts.items ≡ parts_of tree.now.nodes.items p q) }
     ensures cuts { IfOk result (λ split. split.cuts.items ≡ cut_edges_of tree.now.nodes.items p q) }
     ensures depth { IfOk result (λ split. split.depth ≡ depth_of tree.now.nodes.items p q) }
+
+    // Each version is in one part, and each part stops.
+    ensures division { IfOk result (λ split. IsDivision tree.now.nodes.items p q (lists_of split.parts.items)) }
 
     // What is stored and what it costs are bounded, with T and E of the tree.
     ensures bounds { IfOk result (λ split. AreBounded p q split.depth (all_records tree.now.nodes.items) (all_members tree.now.nodes.items) (sizes (tree_of tree.now.nodes.items) (lists_of split.parts.items))) }

@@ -9,6 +9,7 @@ use Rattle.ov_lyre.specs.Runs.{lists_of}
 use Rattle.ov_lyre.proofs.NodeFacts.{sound-tree}
 use Rattle.ov_lyre.proofs.OrderFacts.{sorted-in_order, map-in_order}
 use Rattle.ov_lyre.proofs.LawFacts.{split-laws, vids-IsPart, found-keys, found-vids, found-bounds, both-ok}
+use Rattle.ov_lyre.proofs.DivisionFacts.{found-division}
 use Rattle.ov_lyre.proofs.front.split.Goals as goal
 
 pub returns-in_err-whole-clause-laws : goal.returns-in_err-whole-clause-laws
@@ -66,3 +67,12 @@ returns-clause-bounds c =
     let is : lists_of xs ≡ leaves (cuts_of tree c.args.p c.args.q (vids (length nodes))) = rw (c.in_ok-whole.ensures, count, c.deref.ensures.value) at c.in_ok-split.ensures.parts in
     let deep : c.in_ok-split.split.depth ≡ depth (cuts_of tree c.args.p c.args.q (vids (length nodes))) = rw (c.in_ok-whole.ensures, count, c.deref.ensures.value) at c.in_ok-split.ensures.depth in
     both-ok c.in_order.result _ _ _ (λ sorted from same. found-bounds nodes c.requires.sound c.requires.some c.args.p c.args.q c.requires.up_to_q xs sorted.parts.items sorted.depth is (same ∙ deep) from.permutation) c.in_order.ensures.parts c.in_order.ensures.depth
+
+pub returns-clause-division : goal.returns-clause-division
+returns-clause-division c =
+    let nodes = c.args.tree.now.nodes.items in
+    let tree = tree_of nodes in
+    let count : c.len.result ≡ length nodes = omega (arith, c.len.ensures, c.args.tree.now.nodes.ok) in
+    let xs = c.in_ok-split.split.parts.items in
+    let is : lists_of xs ≡ leaves (cuts_of tree c.args.p c.args.q (vids (length nodes))) = rw (c.in_ok-whole.ensures, count, c.deref.ensures.value) at c.in_ok-split.ensures.parts in
+    IfOk-weaker c.in_order.result _ _ (λ sorted from. found-division nodes c.requires.sound c.requires.some c.args.p c.args.q c.requires.up_to_q xs sorted.parts.items is from.permutation) c.in_order.ensures.parts
