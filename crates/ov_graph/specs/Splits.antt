@@ -1,9 +1,11 @@
 -- Split: how LyreSplit divides a tree of versions into parts, under a threshold p/q; and the bounds that its parts
 -- meet. A part is a connected piece of the tree, as the ascending list of its vids. So its first version is its
 -- topmost one, and each other version's edge to its tree parent is an edge inside the part.
-use Rattle.std.specs.Prelude.{◌≡◌, ℕ, zero, suc, ◌+◌, ◌-◌, ◌*◌, ◌^◌, ◌<◌, ◌≤◌, Bool, not, ◌⊎◌, ◌||◌, ◌&&◌, ◌==◌, nat_lt, nat_le, if◌then◌else◌, max, Option, Some, None, List, [], ◌∷◌, ◌++◌, length, filter, map}
-use Rattle.std.specs.List.{flat_map}
-use Rattle.ov_graph.specs.Trees.{VersionTree, fresh, total, vids}
+use Rattle.std.specs.Prelude.{◌≡◌, ℕ, zero, suc, ◌+◌, ◌*◌, ◌^◌, ◌<◌, ◌≤◌, Bool, true, false, not, ◌⊎◌, ◌||◌, ◌&&◌, ◌==◌, nat_lt, nat_le, if◌then◌else◌, max, Option, Some, None, List, [], ◌∷◌, ◌++◌, length, filter, map, count_by}
+use Rattle.std.specs.List.{All, list_any, flat_map}
+use Rattle.std.specs.Int.{abs_diff}
+use Rattle.ov_graph.specs.declared.nodes.Node.{Node}
+use Rattle.ov_graph.specs.Trees.{VersionTree, fresh, total, tree_of, vids_of}
 
 -- R: the records of a part, by what each version adds to its tree parent's; of the topmost one, all
 abbrev pub records : VersionTree → List ℕ → ℕ
@@ -63,15 +65,12 @@ stops tree p q part = nat_le (p * records tree part * length part) (q * members 
 unfoldable pub may_cut : VersionTree → ℕ → ℕ → List ℕ → ℕ → Bool
 may_cut tree p q part vid = nat_le (q * tree.weight vid) (p * records tree part)
 
-abbrev pub apart : ℕ → ℕ → ℕ
-apart a b = (a - b) + (b - a)
-
 -- how far the two parts of a cut are apart, in versions and in records
 unfoldable pub versions_apart : VersionTree → List ℕ → ℕ → ℕ
-versions_apart tree part vid = apart (length (upper tree vid part)) (length (lower tree vid part))
+versions_apart tree part vid = abs_diff (length (upper tree vid part)) (length (lower tree vid part))
 
 unfoldable pub records_apart : VersionTree → List ℕ → ℕ → ℕ
-records_apart tree part vid = apart (records tree (upper tree vid part)) (records tree (lower tree vid part))
+records_apart tree part vid = abs_diff (records tree (upper tree vid part)) (records tree (lower tree vid part))
 
 -- whether a cut is taken before another one, of a greater vid
 abbrev pub comes_first : ℕ → ℕ → ℕ → ℕ → Bool
@@ -87,6 +86,13 @@ better tree part vid (Some other) = if comes_first (versions_apart tree part vid
 abbrev pub chosen_among : VersionTree → ℕ → ℕ → List ℕ → List ℕ → Option ℕ
 chosen_among tree p q part [] = None
 chosen_among tree p q part (vid ∷ vids) = if may_cut tree p q part vid then better tree part vid (chosen_among tree p q part vids) else chosen_among tree p q part vids
+
+-- what is chosen, by the rule's own words: no other edge that may be cut leaves parts that differ less in versions; of
+-- those that differ as little, none leaves parts that differ less in records; of those, none has a lower vid
+pub record IsLeast (tree : VersionTree) (part : List ℕ) (vid other : ℕ) : Type 0 where
+  pub versions : versions_apart tree part vid ≤ versions_apart tree part other
+  pub records : versions_apart tree part vid ≡ versions_apart tree part other → records_apart tree part vid ≤ records_apart tree part other
+  pub vids : versions_apart tree part vid ≡ versions_apart tree part other → records_apart tree part vid ≡ records_apart tree part other → vid ≤ other
 
 unfoldable pub chosen : VersionTree → ℕ → ℕ → List ℕ → Option ℕ
 chosen tree p q part = chosen_among tree p q part (edges part)
@@ -134,16 +140,29 @@ first_of (vid ∷ vids) = vid
 abbrev pub in_order : {X : Type 0} → (X → ℕ) → List ℕ → List X → List X
 in_order key keys items = flat_map (λ k. filter (λ item. key item == k) items) keys
 
--- Split of the tree of the versions from 1 to count: its parts, by their least vids
-abbrev pub parts_of : VersionTree → ℕ → ℕ → ℕ → List (List ℕ)
-parts_of tree count p q = in_order first_of (vids count) (leaves (cuts_of tree p q (vids count)))
+-- Split of a whole tree
+abbrev pub split_of : List Node → ℕ → ℕ → Cuts
+split_of nodes p q = cuts_of (tree_of nodes) p q (vids_of nodes)
+
+-- its parts, by their least vids
+abbrev pub parts_of : List Node → ℕ → ℕ → List (List ℕ)
+parts_of nodes p q = in_order first_of (vids_of nodes) (leaves (split_of nodes p q))
 
 -- the vids whose edges are cut, ascending
-abbrev pub cuts_in_order : VersionTree → ℕ → ℕ → ℕ → List ℕ
-cuts_in_order tree count p q = in_order (λ vid. vid) (vids count) (cut_vids (cuts_of tree p q (vids count)))
+abbrev pub cut_edges_of : List Node → ℕ → ℕ → List ℕ
+cut_edges_of nodes p q = in_order (λ vid. vid) (vids_of nodes) (cut_vids (split_of nodes p q))
 
-abbrev pub depth_of : VersionTree → ℕ → ℕ → ℕ → ℕ
-depth_of tree count p q = depth (cuts_of tree p q (vids count))
+abbrev pub depth_of : List Node → ℕ → ℕ → ℕ
+depth_of nodes p q = depth (split_of nodes p q)
+
+abbrev pub has_vid : List ℕ → ℕ → Bool
+has_vid part vid = list_any (λ other. other == vid) part
+
+-- each version is in exactly one of the parts, and each part is connected and stops
+pub record IsDivision (nodes : List Node) (p q : ℕ) (parts : List (List ℕ)) : Type 0 where
+  pub each_once : (vid : ℕ) → 1 ≤ vid → vid ≤ length nodes → count_by (λ part. has_vid part vid) parts ≡ 1
+  pub are_parts : All (IsPart (tree_of nodes) (length nodes)) parts
+  pub all_stop : All (λ part. stops (tree_of nodes) p q part ≡ true) parts
 
 -- Bounds. Partitions, each as its versions and its records: those that are stored are the sum of their records, and
 -- their cost is the sum of versions times records.
@@ -163,3 +182,16 @@ pub record AreBounded (p q depth all_records all_members : ℕ) (partitions : Li
 -- the parts of a split, with R for their records
 abbrev pub sizes : VersionTree → List (List ℕ) → List (ℕ × ℕ)
 sizes tree parts = map (λ part. (length part, records tree part)) parts
+
+-- an edge of a part at which it is cut
+pub record IsChosen (tree : VersionTree) (p q : ℕ) (part : List ℕ) (vid : ℕ) : Type 0 where
+  pub is : chosen tree p q part ≡ Some vid
+  pub inside : Has (edges part) vid
+  pub light : may_cut tree p q part vid ≡ true
+
+-- Laws of the parts of a tree. A part that doesn't stop has an edge that may be cut. Of the edges that may be, the least
+-- by the rule is cut. A cut stores again what the two versions share: R1 + R2 = R + w.
+pub record HasSplitLaws (tree : VersionTree) (count p q : ℕ) : Type 0 where
+  pub an_edge_may_be_cut : (part : List ℕ) → IsPart tree count part → stops tree p q part ≡ false → (vid : ℕ) × IsChosen tree p q part vid
+  pub the_least_is_cut : (part : List ℕ) (vid other : ℕ) → IsPart tree count part → chosen tree p q part ≡ Some vid → Has (edges part) other → may_cut tree p q part other ≡ true → IsLeast tree part vid other
+  pub records_at_a_cut : (part : List ℕ) (vid : ℕ) → IsPart tree count part → Has (edges part) vid → records tree (upper tree vid part) + records tree (lower tree vid part) ≡ records tree part + tree.weight vid

@@ -1,7 +1,7 @@
 -- A tree of versions, as numbers.
 --     tree_of nodes      what a list of nodes says of each vid
 --     vids count      1, 2, 3 and so on up to count
---     all_records tree count, all_members tree count      T and E, over the versions from 1 to count
+--     all_records nodes, all_members nodes      T and E
 use Rattle.std.specs.Prelude.{◌≡◌, ℕ, suc, ◌+◌, ◌-◌, ◌<◌, ◌≤◌, List, [], ◌∷◌, length, slice_index_or}
 use Rattle.std.specs.List.{range_with_len}
 use Rattle.ov_graph.specs.declared.nodes.Node.{Node}
@@ -47,10 +47,13 @@ fresh tree vid = tree.records vid - tree.weight vid
 abbrev pub vids : ℕ → List ℕ
 vids count = range_with_len 1 count
 
+abbrev pub vids_of : List Node → List ℕ
+vids_of nodes = vids (length nodes)
+
 -- T
-abbrev pub all_records : VersionTree → ℕ → ℕ
-all_records tree count = total (fresh tree) (vids count)
+abbrev pub all_records : List Node → ℕ
+all_records nodes = total (fresh (tree_of nodes)) (vids_of nodes)
 
 -- E
-abbrev pub all_members : VersionTree → ℕ → ℕ
-all_members tree count = total tree.records (vids count)
+abbrev pub all_members : List Node → ℕ
+all_members nodes = total (tree_of nodes).records (vids_of nodes)

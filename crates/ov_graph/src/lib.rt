@@ -13,3 +13,6 @@ mod nodes;
 pub use graph::Graph;
 pub use laws::heaviest_is_kept;
 pub use nodes::{Node, Tree};
+
+#[cfg(test)]
+mod tests;

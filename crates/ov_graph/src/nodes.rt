@@ -1,7 +1,7 @@
 //! A tree of versions.
 
-ghost use Rattle.std.specs.Prelude.{◌≡◌, ◌≤◌, ◌*◌, ◌^◌, length};
-ghost use Rattle.ov_graph.specs.Trees.{IsSound, tree_of, all_records, all_members};
+ghost use Rattle.std.specs.Prelude.{◌≡◌};
+ghost use Rattle.ov_graph.specs.Trees.{IsSound, all_records, all_members};
 
 /// One version of a tree.
 #[derive(Clone, Copy, Debug)]
@@ -27,7 +27,7 @@ impl Tree {
     /// T: the sum over versions of their records less the weight to the tree parent. It is below 2^48.
     pub fn records(&self) -> u64
         requires { IsSound self.now.nodes.items }
-        ensures { result ≡ all_records (tree_of self.now.nodes.items) (length self.now.nodes.items) }
+        ensures { result ≡ all_records self.now.nodes.items }
     {
         let mut sum = 0;
         for node in &self.nodes {
@@ -39,7 +39,7 @@ impl Tree {
     /// E: the sum over versions of their records. It is below 2^48.
     pub fn members(&self) -> u64
         requires { IsSound self.now.nodes.items }
-        ensures { result ≡ all_members (tree_of self.now.nodes.items) (length self.now.nodes.items) }
+        ensures { result ≡ all_members self.now.nodes.items }
     {
         let mut sum = 0;
         for node in &self.nodes {

@@ -1,0 +1,13 @@
+pub mod PartFacts
+pub mod UnderFacts
+pub mod CutFacts
+pub mod BoundFacts
+pub mod EdgeFacts
+pub mod CutsFacts
+pub mod OrderFacts
+pub mod RunDownFacts
+pub mod NodeFacts
+pub mod ChoiceFacts
+pub mod StateFacts
+pub mod LawFacts
+pub mod DivisionFacts

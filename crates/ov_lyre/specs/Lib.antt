@@ -1,0 +1,4 @@
+pub mod Sums
+pub mod Candidates
+pub mod Runs
+pub mod Orders
