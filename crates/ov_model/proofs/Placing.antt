@@ -4,8 +4,8 @@ use Rattle.std.specs.Prelude.{◌≢◌, if◌then◌else◌, not, ◌||◌, nat
 use Rattle.std.proofs.lemmas.List.{length-append, length-map}
 use Rattle.std.proofs.lemmas.Bool.{cases_Bool, eqb-true, eq-eqb, ltb-true, ltb-false}
 use Rattle.ov_graph.specs.Splits.{Cuts, whole, cut, cuts_within, cuts_of, leaves, next_cut_of, upper, lower, in_order, first_of, is_under}
-use Rattle.ov_graph.specs.Trees.{VersionTree, vids}
-use Rattle.ov_graph.specs.Versions.{heaviest}
+use Rattle.ov_graph.specs.Trees.{VersionTree, vids, tree_of}
+use Rattle.ov_graph.specs.Versions.{heaviest, reduced}
 use Rattle.ov_place.specs.Placement.{is_budgeted}
 use Rattle.ov_place.specs.declared.place_facts.Place.{Place}
 use Rattle.ov_place.specs.declared.place_facts.Place.TheVariants.{Own, Join}
@@ -14,7 +14,7 @@ use Rattle.ov_value.specs.Shapes.{Shape}
 use Rattle.ov_model.specs.Book.{Row, Version}
 use Rattle.ov_model.specs.Moves.{Move, Init, Commit, BeginPlan, Copy, Flip, Drop, Checkpoint, moved, change, numbered, committed, with_version, version_of, wide, wide_part, wide_plan, wide_version, facts_of, tree_edge_of, parts_with, next_with, with_joined, own_part, new_set}
 use Rattle.ov_model.specs.Placed.{times, part_times, id_times, AreVersions, TargetsAre, PlanIs, IsPlaced, ArePlaced, AreThere, HasParents, AllHaveParents, NamesParents}
-use Rattle.ov_model.specs.Plans.{tree_of_set, parts_at, targets_of, planned, current, no_target, copied_for, copied_more, left_parts, target_part, flipped_by, flipped}
+use Rattle.ov_model.specs.Plans.{graph_of, nodes_of_set, parts_at, targets_of, planned, current, no_target, copied_for, copied_more, left_parts, target_part, flipped_by, flipped}
 use Rattle.ov_model.specs.Records.{Rec, recs, records_of, of_version, weight, weights}
 use Rattle.ov_model.specs.World.{Part, Target, Plan, Dataset, World, is_one, part_of, stored, is_unmoved}
 use Rattle.ov_model.proofs.Counting.{one_if, one_most, one_same, one_other, filter_versions, listed, not_listed, range_versions, times-append, parts-append, ids-append, left_ids, left_gone, left_stays}
@@ -58,12 +58,17 @@ all_leaves (suc levels) count tree p q part are =
           (all_leaves levels count tree p q (lower tree vid part) (filter_versions (λ version. is_under tree vid version) count part are))
     ]
 
+reduced_long : (vs : List Version) (done : List (List Rec)) → length (reduced (graph_of vs done)) ≡ length vs
+reduced_long [] done = refl
+reduced_long (v ∷ vs) done = ap (λ n. suc n) (reduced_long vs (done ++ records_of v done ∷ []))
+
 all_parts : (d : Dataset) (p q : ℕ) → All (length d.cvd.versions) (parts_at d p q)
 unfolding cuts_of
 all_parts d p q =
-    let count : ℕ = length d.cvd.versions
-    in all_in_order count (vids count) (leaves (cuts_of (tree_of_set d) p q (vids count)))
-    (all_leaves (length (vids count)) count (tree_of_set d) p q (vids count) (range_versions count))
+    let size : ℕ = length (nodes_of_set d)
+    in subst (λ count. All count (parts_at d p q)) (reduced_long d.cvd.versions [])
+    (all_in_order size (vids size) (leaves (cuts_of (tree_of (nodes_of_set d)) p q (vids size)))
+    (all_leaves (length (vids size)) size (tree_of (nodes_of_set d)) p q (vids size) (range_versions size)))
 
 targets_are : (d : Dataset) (count : ℕ) (parts : List (List ℕ)) → All count parts → TargetsAre count (targets_of d parts)
 targets_are d count [] are = tt

@@ -9,7 +9,7 @@ use Rattle.ov_graph.specs.declared.nodes.Node.{Node}
 use Rattle.ov_graph.specs.Trees.{total, no_node, node_at, all_records}
 use Rattle.ov_graph.specs.Versions as graph
 use Rattle.ov_model.specs.Book.{Row, Version}
-use Rattle.ov_model.specs.Plans.{graph_of, tree_of_set}
+use Rattle.ov_model.specs.Plans.{graph_of, nodes_of_set}
 use Rattle.ov_model.specs.Records.{Rec, is_same_row, is_same_rec, is_among, origin_in, origin_by, of_version, first_of, or_own, record_of, records_of, recs, fresh_in, order, order_of, weight, weights}
 use Rattle.ov_model.specs.World.{Dataset, HasOneParentAtMost}
 use Rattle.ov_model.proofs.Growing.{order_more}
@@ -177,13 +177,7 @@ added_total (v ∷ vs) done few low =
     ap (λ n. length (fresh_in (records_of v done) n)) (omega arith)
     in omega (arith, adds v done few.0 low, more, same, added_total vs next few.1 (one_more_below v done low))
 
-nodes_long : (vs : List Version) (done : List (List Rec)) → length (graph.reduced (graph_of vs done)) ≡ length vs
-nodes_long [] done = refl
-nodes_long (v ∷ vs) done = ap (λ n. suc n) (nodes_long vs (done ++ records_of v done ∷ []))
-
-pub singles : (d : Dataset) → HasOneParentAtMost d.cvd.versions → all_records (tree_of_set d) (length d.cvd.versions) ≡ length (order_of d.cvd.versions)
+pub singles : (d : Dataset) → HasOneParentAtMost d.cvd.versions → all_records (nodes_of_set d) ≡ length (order_of d.cvd.versions)
 singles d few =
-    let nodes : List Node = graph.reduced (graph_of d.cvd.versions [])
-    in ap (all_records (tree_of_set d)) (sym (nodes_long d.cvd.versions []))
-    ∙ nodes_total added nodes []
-    ∙ (let whole = added_total d.cvd.versions [] few tt in omega (arith, whole))
+    nodes_total added (nodes_of_set d) []
+    ∙ (let sum_is = added_total d.cvd.versions [] few tt in omega (arith, sum_is))

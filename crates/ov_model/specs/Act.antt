@@ -17,7 +17,7 @@ use Rattle.ov_model.specs.Forms.{schema_refusal}
 use Rattle.ov_model.specs.Merge.{has_key, in_key_order, merged}
 use Rattle.ov_model.specs.Generator.{generated}
 use Rattle.ov_model.specs.Moves.{Move, Init, Commit, BeginPlan, Drop, Checkpoint, version_of, wide}
-use Rattle.ov_model.specs.Plans.{tree_of_set, parts_at, depth_at, planned, current, missing_of, plan_steps, sizes_of}
+use Rattle.ov_model.specs.Plans.{nodes_of_set, parts_at, depth_at, planned, current, missing_of, plan_steps, sizes_of}
 use Rattle.ov_model.specs.Steps.{next_steps, all_moved, steps_left}
 use Rattle.ov_model.specs.Records.{recs, records_of, fresh_in, order_of, rows_at}
 use Rattle.ov_model.specs.World.{Part, Plan, Dataset, World, held, stored, cost, copied_records, set_named, is_one}
@@ -220,7 +220,7 @@ optimize_refusal d p q =
 abbrev pub optimized : Dataset → ℕ → ℕ → List (List ℕ) → Reply
 optimized d p q parts =
     says.Optimize (depth_at d p q) (length parts) (splits.stored (sizes_of d parts))
-    (all_records (tree_of_set d) (length d.cvd.versions)) (all_members (tree_of_set d) (length d.cvd.versions))
+    (all_records (nodes_of_set d)) (all_members (nodes_of_set d))
     (splits.cost (sizes_of d parts)) (plan_steps (planned p q d))
 
 abbrev pub optimize_deed : Session → List ℕ → ℕ → ℕ → Option Dataset → Deed

@@ -6,8 +6,8 @@
 --     plan_steps d      the steps that its plan has left
 use Rattle.std.specs.Prelude.{ℕ, ◌+◌, ◌/◌, Bool, not, ◌&&◌, ◌==◌, nat_lt, nat_le, if◌then◌else◌, List, [], ◌∷◌, ◌++◌, length, map, filter, take, slice_index_or, Option, Some, None}
 use Rattle.std.specs.List.{list_all, list_any}
+use Rattle.ov_graph.specs.declared.nodes.Node.{Node}
 use Rattle.ov_graph.specs.Splits as splits
-use Rattle.ov_graph.specs.Trees.{VersionTree, tree_of}
 use Rattle.ov_graph.specs.Versions as graph
 use Rattle.ov_model.specs.Book.{Version, Cvd}
 use Rattle.ov_model.specs.Lists.{joined}
@@ -21,14 +21,14 @@ graph_of (v ∷ vs) done =
     record { records = length v.rows; parents = weights v.parents (records_of v done) done } ∷ graph_of vs (done ++ records_of v done ∷ [])
 
 -- the reduced tree of its versions
-abbrev pub tree_of_set : Dataset → VersionTree
-tree_of_set d = tree_of (graph.reduced (graph_of d.cvd.versions []))
+abbrev pub nodes_of_set : Dataset → List Node
+nodes_of_set d = graph.reduced (graph_of d.cvd.versions [])
 
 abbrev pub parts_at : Dataset → ℕ → ℕ → List (List ℕ)
-parts_at d p q = splits.parts_of (tree_of_set d) (length d.cvd.versions) p q
+parts_at d p q = splits.parts_of (nodes_of_set d) p q
 
 abbrev pub depth_at : Dataset → ℕ → ℕ → ℕ
-depth_at d p q = splits.depth_of (tree_of_set d) (length d.cvd.versions) p q
+depth_at d p q = splits.depth_of (nodes_of_set d) p q
 
 -- the records of these versions together, in the order of their rids
 abbrev pub records_in : Cvd → List ℕ → List Rec

@@ -6,7 +6,7 @@ ghost use Rattle.ov_graph.specs.Trees.{all_records};
 ghost use Rattle.ov_value.specs.Rows.{key_cmp};
 ghost use Rattle.ov_model.specs.Assigned.{assigned, stored_parents};
 ghost use Rattle.ov_model.specs.Lists.{IsIn, AllAreIn, Rises};
-ghost use Rattle.ov_model.specs.Plans.{tree_of_set};
+ghost use Rattle.ov_model.specs.Plans.{nodes_of_set};
 ghost use Rattle.ov_model.specs.World.{Dataset, HasOneParentAtMost};
 ghost use Rattle.ov_model.specs.Records.{Rec, recs, records_of, fresh_in, order_of, rid_in, rows_at, counted, AllRise};
 
@@ -41,5 +41,5 @@ pub fn assignment_gives_the_rids()
 /// versions, is the number of distinct records.
 pub fn single_parents_count_records()
     ensures { (d : Dataset) → HasOneParentAtMost d.cvd.versions
-        → all_records (tree_of_set d) (length d.cvd.versions) ≡ length (order_of d.cvd.versions) }
+        → all_records (nodes_of_set d) ≡ length (order_of d.cvd.versions) }
 {}
