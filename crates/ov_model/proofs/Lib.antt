@@ -4,6 +4,7 @@ pub mod Assigning
 pub mod Counting
 pub mod Courses
 pub mod Growing
+pub mod Holds
 pub mod Lines
 pub mod Merging
 pub mod Origins
@@ -13,4 +14,5 @@ pub mod Replying
 pub mod Rids
 pub mod Singles
 pub mod Truths
+pub mod Widening
 pub mod Worked

@@ -70,16 +70,16 @@ found_by (p ∷ ps) done row o all are e =
       | inr later ↦ found_by ps done row o all are later
     ]
 
-in_left : (xs ys : List Rec) (r : Rec) → IsIn xs r → IsIn (xs ++ ys) r
+pub in_left : (xs ys : List Rec) (r : Rec) → IsIn xs r → IsIn (xs ++ ys) r
 in_left [] ys r is = absurd is
 in_left (x ∷ xs) ys r (inl same) = inl same
 in_left (x ∷ xs) ys r (inr later) = inr (in_left xs ys r later)
 
-in_right : (xs ys : List Rec) (r : Rec) → IsIn ys r → IsIn (xs ++ ys) r
+pub in_right : (xs ys : List Rec) (r : Rec) → IsIn ys r → IsIn (xs ++ ys) r
 in_right [] ys r is = is
 in_right (x ∷ xs) ys r is = inr (in_right xs ys r is)
 
-in_filter : (p : Rec → Bool) (xs : List Rec) (r : Rec) → p r ≡ true → IsIn xs r → IsIn (filter p xs) r
+pub in_filter : (p : Rec → Bool) (xs : List Rec) (r : Rec) → p r ≡ true → IsIn xs r → IsIn (filter p xs) r
 in_filter p [] r passes is = absurd is
 in_filter p (x ∷ xs) r passes (inl same) =
     subst (λ ys. IsIn ys r) (sym (cond-true (p x) (x ∷ filter p xs) (filter p xs) (ap p (sym same) ∙ passes))) (inl same)
@@ -106,7 +106,7 @@ pub all_in : (rows : List Row) → AreIn rows rows
 all_in [] = tt
 all_in (row ∷ rows) = (inl refl, more_in row rows rows (all_in rows))
 
-are_more : (rs xs ys : List Rec) → AreIn rs xs → AreIn rs (xs ++ ys)
+pub are_more : (rs xs ys : List Rec) → AreIn rs xs → AreIn rs (xs ++ ys)
 are_more [] xs ys are = tt
 are_more (r ∷ rs) xs ys are = (in_left xs ys r are.0, are_more rs xs ys are.1)
 

@@ -77,7 +77,7 @@ targets_are d count (vs ∷ parts) are = (are.0, targets_are d count parts are.1
 no_versions : (count : ℕ) → AreVersions count []
 no_versions count = record { once = λ vid. omega arith; from_one = λ vid some. absurd (omega (arith, some)); there = λ vid some. absurd (omega (arith, some)) }
 
-target_at : (count : ℕ) (ts : List Target) (k : ℕ) → TargetsAre count ts → AreVersions count (slice_index_or ts k no_target).versions
+pub target_at : (count : ℕ) (ts : List Target) (k : ℕ) → TargetsAre count ts → AreVersions count (slice_index_or ts k no_target).versions
 target_at count [] k are = no_versions count
 target_at count (t ∷ ts) zero are = are.0
 target_at count (t ∷ ts) (suc k) are = target_at count ts k are.1

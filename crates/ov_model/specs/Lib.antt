@@ -8,6 +8,7 @@ pub mod Examples
 pub mod Forms
 pub mod Generator
 pub mod Grammar
+pub mod Holding
 pub mod Kinds
 pub mod Line
 pub mod Lineages

@@ -6,6 +6,7 @@ ghost use Rattle.ov_model.specs.Forms.{Form};
 ghost use Rattle.ov_model.specs.Moves.{Move, Checkpoint, moved};
 ghost use Rattle.ov_model.specs.declared.command.Command.{Command};
 ghost use Rattle.ov_model.specs.declared.command.Command.TheVariants.{Checkout};
+ghost use Rattle.ov_model.specs.Holding.{AreHeld, MayFlip};
 ghost use Rattle.ov_model.specs.Placed.{ArePlaced, NamesParents};
 ghost use Rattle.ov_model.specs.Words.{lines_of};
 ghost use Rattle.ov_model.specs.World.{World, AllBegun, book, empty_world};
@@ -71,4 +72,11 @@ pub fn a_checkout_is_of_the_book()
 pub fn each_version_is_in_one_partition()
     ensures start { ArePlaced empty_world.sets }
     ensures kept { (m : Move) (w : World) → NamesParents m w → ArePlaced w.sets → ArePlaced (moved m w).sets }
+{}
+
+/// Each partition keeps all records of each version that it serves, and stays so with every move, a flip at which no record is
+/// missing among them.
+pub fn partitions_have_their_versions_records()
+    ensures start { AreHeld empty_world.sets }
+    ensures kept { (m : Move) (w : World) → MayFlip m w → ArePlaced w.sets → AreHeld w.sets → AreHeld (moved m w).sets }
 {}

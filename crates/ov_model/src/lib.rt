@@ -24,7 +24,8 @@ pub use conditions::{comparisons_by_cases, truth_by_cases};
 pub use course::{
     a_checkout_is_of_the_book, a_checkpoint_changes_no_reply, a_course_ends_at_its_moves,
     a_course_goes_on, due_never_falls, each_version_is_in_one_partition,
-    no_reply_of_a_run_is_empty, whole_lines_stand_alone, worlds_are_one_move_apart,
+    no_reply_of_a_run_is_empty, partitions_have_their_versions_records, whole_lines_stand_alone,
+    worlds_are_one_move_apart,
 };
 pub use examples::{worked_examples, worked_queries};
 pub use line::a_line_is_one_thing;
