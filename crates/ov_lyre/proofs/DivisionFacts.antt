@@ -12,7 +12,7 @@ use Rattle.ov_graph.specs.declared.nodes.Node.{Node}
 use Rattle.ov_graph.specs.Trees.{VersionTree, IsSound, tree_of, vids}
 use Rattle.ov_graph.specs.Splits.{Has, IsPart, stops, is_under, lower, upper, Cuts, cuts_of, leaves, has_vid, IsDivision}
 use Rattle.ov_graph.specs.Splits.Cuts.{whole, cut}
-use Rattle.ov_lyre.specs.Runs.{lists_of}
+use Rattle.ov_lyre.specs.Parts.{lists_of}
 use Rattle.ov_lyre.proofs.UnderFacts.{IsSoundTree}
 use Rattle.ov_lyre.proofs.NodeFacts.{sound-tree}
 use Rattle.ov_lyre.proofs.CutsFacts.{split-all}

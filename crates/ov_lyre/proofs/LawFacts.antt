@@ -13,7 +13,7 @@ use Rattle.std.proofs.lemmas.List.Sorted.{sum_by-IsPermutation, IsPermutation-ma
 use Rattle.ov_graph.specs.declared.nodes.Node.{Node}
 use Rattle.ov_graph.specs.Trees.{VersionTree, IsSound, tree_of, vids, total, fresh, all_records, all_members}
 use Rattle.ov_graph.specs.Splits.{Ascends, Has, HasParents, IsPart, edges, records, stops, chosen, IsChosen, HasSplitLaws, first_of, cuts_of, leaves, cut_vids, depth, stored, cost, sizes, AreBounded}
-use Rattle.ov_lyre.specs.Runs.{lists_of}
+use Rattle.ov_lyre.specs.Parts.{lists_of}
 use Rattle.ov_lyre.proofs.UnderFacts.{IsSoundTree}
 use Rattle.ov_lyre.proofs.NodeFacts.{sound-tree}
 use Rattle.ov_lyre.proofs.CutFacts.{sides}

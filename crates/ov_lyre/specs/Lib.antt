@@ -1,3 +1,4 @@
+pub mod Parts
 pub mod Sums
 pub mod Candidates
 pub mod Runs

@@ -1,8 +1,8 @@
 -- A split under way: parts that wait, the last of which comes next, and what is found so far.
-use Rattle.std.specs.Prelude.{◌≡◌, ℕ, ◌+◌, ◌-◌, ◌≤◌, max, List, [], ◌∷◌, ◌++◌, length, map, Vec}
-use Rattle.std.specs.declared.alloc.Global.{Global}
+use Rattle.std.specs.Prelude.{◌≡◌, ℕ, ◌+◌, ◌-◌, ◌≤◌, max, List, [], ◌∷◌, ◌++◌, length, map}
 use Rattle.ov_graph.specs.Trees.{VersionTree}
 use Rattle.ov_graph.specs.Splits.{IsPart, cuts_of, leaves, cut_vids, depth}
+use Rattle.ov_lyre.specs.Parts.{lists_of}
 use Rattle.ov_lyre.specs.declared.run.Piece.{Piece}
 use Rattle.ov_lyre.specs.declared.run.Run.{Run}
 
@@ -12,9 +12,6 @@ piece_of piece = (piece.part.items, piece.level)
 
 abbrev pub pieces_of : List Piece → List (List ℕ × ℕ)
 pieces_of pieces = map piece_of pieces
-
-abbrev pub lists_of : List (Vec ℕ Global) → List (List ℕ)
-lists_of parts = map (λ part. part.items) parts
 
 -- what the parts that wait will give, the last one first
 abbrev pub leaves_left : VersionTree → ℕ → ℕ → List (List ℕ × ℕ) → List (List ℕ)

@@ -3,7 +3,7 @@
 ghost use Rattle.std.specs.Prelude.{◌≡◌, ◌<◌, ◌≤◌, length, IfOk};
 ghost use Rattle.ov_graph.specs.Trees.{IsSound, tree_of, vids, all_records, all_members};
 ghost use Rattle.ov_graph.specs.Splits.{first_of, parts_of, cut_edges_of, depth_of, IsDivision, AreBounded, sizes, HasSplitLaws};
-ghost use Rattle.ov_lyre.specs.Runs.{lists_of};
+ghost use Rattle.ov_lyre.specs.Parts.{lists_of};
 ghost use Rattle.ov_lyre.specs.Orders.{IsSortedFrom};
 
 use crate::choice::Threshold;
@@ -44,7 +44,10 @@ fn in_order(mut split: Split) -> Result<Split, AllocError>
     Ok(split)
 }
 
-/// The split of a sound tree under the threshold p/q.
+/// The split of a sound tree, of 1 to 65,535 versions, under the threshold p/q, from 1/1000000 to 1.
+///
+/// In the memory of a few numbers a version; in the order of n log n where cuts halve their parts, and of n squared where
+/// each takes a single version from its part.
 pub fn split(alloc: Global, tree: &Tree, p: u32, q: u32) -> Result<Split, AllocError>
     requires from_one { 1 ≤ p }
     requires up_to_q { p ≤ q }

@@ -3,7 +3,8 @@
 ghost use Rattle.std.specs.Prelude.{◌≡◌, ◌+◌, ◌<◌, ◌≤◌, [], ◌∷◌, ◌++◌, List, ℕ, length, max, OnOk, IfOk};
 ghost use Rattle.ov_graph.specs.Trees.{IsSound, tree_of};
 ghost use Rattle.ov_graph.specs.Splits.{IsPart, cuts_of, leaves, cut_vids, depth};
-ghost use Rattle.ov_lyre.specs.Runs.{piece_of, pieces_of, lists_of, RunLeads, pieces_left};
+ghost use Rattle.ov_lyre.specs.Parts.{lists_of};
+ghost use Rattle.ov_lyre.specs.Runs.{piece_of, pieces_of, RunLeads, pieces_left};
 
 use crate::choice::{Threshold, next_cut};
 use crate::outcome::Split;

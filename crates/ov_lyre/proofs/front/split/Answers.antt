@@ -5,7 +5,7 @@ use Rattle.std.proofs.lemmas.Result.{IfOk-weaker}
 use Rattle.ov_graph.specs.declared.nodes.Node.{Node}
 use Rattle.ov_graph.specs.Trees.{tree_of, vids}
 use Rattle.ov_graph.specs.Splits.{IsPart, cuts_of, leaves, cut_vids, depth, first_of, in_order}
-use Rattle.ov_lyre.specs.Runs.{lists_of}
+use Rattle.ov_lyre.specs.Parts.{lists_of}
 use Rattle.ov_lyre.proofs.NodeFacts.{sound-tree}
 use Rattle.ov_lyre.proofs.OrderFacts.{sorted-in_order, map-in_order}
 use Rattle.ov_lyre.proofs.LawFacts.{split-laws, vids-IsPart, found-keys, found-vids, found-bounds, both-ok}

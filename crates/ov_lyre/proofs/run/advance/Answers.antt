@@ -2,7 +2,8 @@ use Rattle.std.proofs.Common.{◌≡◌, Some, None, length, sym, ◌∙◌, ap}
 use Rattle.std.proofs.lemmas.Result.{IfOk-weaker}
 use Rattle.ov_graph.specs.Trees.{tree_of}
 use Rattle.ov_graph.specs.Splits.{next_cut_of, upper, lower}
-use Rattle.ov_lyre.specs.Runs.{pieces_of, lists_of}
+use Rattle.ov_lyre.specs.Parts.{lists_of}
+use Rattle.ov_lyre.specs.Runs.{pieces_of}
 use Rattle.ov_lyre.proofs.NodeFacts.{sound-tree}
 use Rattle.ov_lyre.proofs.EdgeFacts.{cut-at}
 use Rattle.ov_lyre.proofs.StateFacts.{on-ok, leads-stop, leads-cut, fewer-stop, fewer-cut}

@@ -1,7 +1,8 @@
 use Rattle.std.proofs.Common.{ℕ, List, [], ◌∷◌, ◌++◌, length, ◌∙◌, ap, subst, arith}
 use Rattle.ov_graph.specs.Trees.{tree_of}
 use Rattle.ov_lyre.specs.declared.run.Piece.{Piece}
-use Rattle.ov_lyre.specs.Runs.{ArePieces, Leads, pieces_of, piece_of, lists_of}
+use Rattle.ov_lyre.specs.Parts.{lists_of}
+use Rattle.ov_lyre.specs.Runs.{ArePieces, Leads, pieces_of, piece_of}
 use Rattle.ov_lyre.proofs.PartFacts.{part-long}
 use Rattle.ov_lyre.proofs.NodeFacts.{sound-tree}
 use Rattle.ov_lyre.proofs.StateFacts.{popped, pieces_of-last, leads-start}
