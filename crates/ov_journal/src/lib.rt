@@ -1,8 +1,8 @@
 //! The journal of a store: its records, in one of two halves of an area.
 //!
-//! A record counts where its gate, one byte, is A5; so a record stands or doesn't, in one write of one byte. What the
-//! bytes of an area are is `AreaIs` of `specs/Journal.antt`; what a stop in a call leaves is `IsOldOrNew` of
-//! `specs/Held.antt`.
+//! A record counts where its gate, one byte, is A5; so a record stands or doesn't, in one write of one byte. A checkpoint
+//! writes a snapshot into the other half and opens that half's slot in the same way. What the bytes of an area are is
+//! `AreaIs` of `specs/Journal.antt`; what a stop in a call leaves is `IsOldOrNew` of `specs/Held.antt`.
 #![tactic(auto)]
 
 mod errors;
