@@ -40,7 +40,7 @@ first_mapped : (f : ℕ → ℕ) (a b : Option ℕ) → first_of (option_map f a
 first_mapped f None b = refl
 first_mapped f (Some x) b = refl
 
-rid_by_is : (ps : List ℕ) (done : List (List Rec)) (all : List Rec) (row : Row) → rid_by (stored_parents ps done all) row ≡ option_map (λ o. rid_in all (record { origin = o; row = row })) (origin_by ps done row)
+pub rid_by_is : (ps : List ℕ) (done : List (List Rec)) (all : List Rec) (row : Row) → rid_by (stored_parents ps done all) row ≡ option_map (λ o. rid_in all (record { origin = o; row = row })) (origin_by ps done row)
 rid_by_is [] done all row = refl
 rid_by_is (p ∷ ps) done all row =
     ap (λ x. first_of x (rid_by (stored_parents ps done all) row)) (rid_is (of_version done p) all row)

@@ -27,7 +27,7 @@ both_true : (a b : Bool) → (a && b) ≡ true → (a ≡ true) × (b ≡ true)
 both_true true b e = (refl, e)
 both_true false b e = cc
 
-same_recs : (a b : Rec) → is_same_rec a b ≡ true → a ≡ b
+pub same_recs : (a b : Rec) → is_same_rec a b ≡ true → a ≡ b
 same_recs a b e =
     let both = both_true (a.origin == b.origin) (is_same_row a.row b.row) e
     in λ i. record { origin = eqb-true a.origin b.origin both.0 i; row = same_rows a.row b.row both.1 i }
@@ -259,7 +259,7 @@ any_listed p (v ∷ vs) vid e passes =
     rest true b f g = cc
     rest false b f g = g
 
-at_known : (done : List (List Rec)) (k : ℕ) (all : List Rec) → AllAreIn done all → AreIn (get_or done k []) all
+pub at_known : (done : List (List Rec)) (k : ℕ) (all : List Rec) → AllAreIn done all → AreIn (get_or done k []) all
 at_known [] k all are = tt
 at_known (l ∷ ls) zero all are = are.0
 at_known (l ∷ ls) (suc k) all are = at_known ls k all are.1

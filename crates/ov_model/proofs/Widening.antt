@@ -13,7 +13,7 @@ use Rattle.ov_model.specs.Records.{Rec, is_same_row, origin_in, of_version, firs
 use Rattle.ov_model.proofs.Growing.{same_row-refl}
 
 -- a Bool that two statements decide is one Bool
-same_bool : (a b : Bool) → (a ≡ true → b ≡ true) → (b ≡ true → a ≡ true) → a ≡ b
+pub same_bool : (a b : Bool) → (a ≡ true → b ≡ true) → (b ≡ true → a ≡ true) → a ≡ b
 same_bool true true f g = refl
 same_bool true false f g = sym (f refl)
 same_bool false true f g = g refl

@@ -2,7 +2,8 @@
 --     assigned rows parents next      the rid of each row: that of the first equal row of the first listed parent that has one,
 --         or else the next number, counted from `next`
 --     stored rs all      records as rid and row, by their places among all
-use Rattle.std.specs.Prelude.{ℕ, ◌+◌, if◌then◌else◌, List, [], ◌∷◌, map, Option, Some, None}
+use Rattle.std.specs.List.{list_any}
+use Rattle.std.specs.Prelude.{ℕ, ◌+◌, Bool, ◌==◌, if◌then◌else◌, List, [], ◌∷◌, length, map, filter, Option, Some, None}
 use Rattle.ov_model.specs.Book.{Row}
 use Rattle.ov_model.specs.Records.{Rec, is_same_row, of_version, first_of, rid_in}
 
@@ -37,3 +38,10 @@ stored rs all = map (λ r. (rid_in all r, r.row)) rs
 -- the records of each of these versions, as they are stored
 abbrev pub stored_parents : List ℕ → List (List Rec) → List Rec → List (List (ℕ × Row))
 stored_parents parents done all = map (λ p. stored (of_version done p) all) parents
+
+-- how many of these rids a parent has
+abbrev pub has_rid : List (ℕ × Row) → ℕ → Bool
+has_rid parent rid = list_any (λ r. r.0 == rid) parent
+
+abbrev pub shared_with : List ℕ → List (ℕ × Row) → ℕ
+shared_with rids parent = length (filter (has_rid parent) rids)

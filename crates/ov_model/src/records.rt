@@ -4,11 +4,11 @@ ghost use Rattle.ov_value.specs.Shapes.{Shape};
 ghost use Rattle.ov_model.specs.Book.{Row, Version};
 ghost use Rattle.ov_graph.specs.Trees.{all_records};
 ghost use Rattle.ov_value.specs.Rows.{key_cmp};
-ghost use Rattle.ov_model.specs.Assigned.{assigned, stored_parents};
+ghost use Rattle.ov_model.specs.Assigned.{assigned, fresh_rows, shared_with, stored, stored_parents};
 ghost use Rattle.ov_model.specs.Lists.{IsIn, AllAreIn, Rises};
 ghost use Rattle.ov_model.specs.Plans.{nodes_of_set};
 ghost use Rattle.ov_model.specs.World.{Dataset, HasOneParentAtMost};
-ghost use Rattle.ov_model.specs.Records.{Rec, recs, records_of, fresh_in, order_of, rid_in, rows_at, counted, AllRise};
+ghost use Rattle.ov_model.specs.Records.{Rec, recs, records_of, of_version, weight, fresh_in, order_of, rid_in, rows_at, counted, AllRise};
 
 /// A version more gives the records that were there the rids that they had, and each record of each version has a rid.
 pub fn versions_keep_earlier_rids()
@@ -30,11 +30,20 @@ pub fn rids_have_no_gap()
         → map (rid_in (order_of versions)) (order_of versions) ≡ counted 1 (length (order_of versions)) }
 {}
 
-/// The rids that a commit gives, from its parents' records as they are stored, are those of the new version's records.
+/// The rids that a commit gives, from its parents' records as they are stored, are those of the new version's records; the
+/// weight of its edge from a version is the number of them that this one has; and the fresh records are as many as have
+/// new rids.
 pub fn assignment_gives_the_rids()
-    ensures { (schema : Shape) (versions : List Version) (v : Version) → Rises (key_cmp schema) v.rows
+    ensures rids { (schema : Shape) (versions : List Version) (v : Version) → Rises (key_cmp schema) v.rows
         → assigned v.rows (stored_parents v.parents (recs versions []) (order_of versions)) (length (order_of versions) + 1)
         ≡ map (rid_in (order_of (versions ++ v ∷ []))) (records_of v (recs versions [])) }
+    ensures weights { (schema : Shape) (versions : List Version) (v : Version) (vid : ℕ) → Rises (key_cmp schema) v.rows
+        → shared_with (assigned v.rows (stored_parents v.parents (recs versions []) (order_of versions)) (length (order_of versions) + 1))
+        (stored (of_version (recs versions []) vid) (order_of versions))
+        ≡ weight (records_of v (recs versions [])) (of_version (recs versions []) vid) }
+    ensures fresh { (versions : List Version) (v : Version)
+        → fresh_rows v.rows (stored_parents v.parents (recs versions []) (order_of versions))
+        ≡ length (fresh_in (records_of v (recs versions [])) (length versions + 1)) }
 {}
 
 /// Where every version has at most one parent, T, the records that each version adds to its tree parent's, summed over all
