@@ -16,7 +16,11 @@ use Rattle.ov_model.specs.declared.command.Command.{Command}
 use Rattle.ov_model.specs.declared.command.Command.TheVariants as asks
 use Rattle.ov_model.specs.declared.refusal.Refusal.{Refusal}
 use Rattle.ov_model.specs.declared.refusal.Refusal.TheVariants as no
-use Rattle.ov_model.specs.Values.{Given, Text, Number, Vids, Ratio, Names, Columns, Table, Reading, AnyText, FileName, Message, NumberFrom, NumberWith, ListOfVids, TwoNumbers, ListOfNames, SchemaItems, StagedTable}
+use Rattle.ov_model.specs.Values.{number_from}
+use Rattle.ov_model.specs.declared.given.Given.{Given}
+use Rattle.ov_model.specs.declared.given.Given.TheVariants.{Text, Number, Vids, Ratio, Names, Columns, Table}
+use Rattle.ov_model.specs.declared.given.Reading.{Reading}
+use Rattle.ov_model.specs.declared.given.Reading.TheVariants.{AnyText, FileName, Message, NumberFrom, NumberWith, ListOfVids, TwoNumbers, ListOfNames, SchemaItems, StagedTable}
 
 -- A word in order: what it is called where it is missing, and how it is read.
 pub record Param : Type 0 where
@@ -55,10 +59,6 @@ option_in (o ∷ os) letter = if bytes_eq o.0 letter then Some o.1 else option_i
 abbrev pub text_in : Option Given → List ℕ
 text_in (Some (Text text)) = text
 text_in _ = []
-
-abbrev pub number_from : Option Given → ℕ
-number_from (Some (Number n)) = n
-number_from _ = 0
 
 abbrev pub vids_in : Option Given → List ℕ
 vids_in (Some (Vids vids)) = vids

@@ -6,7 +6,9 @@ use Rattle.ov_model.specs.declared.command.Command.{Command}
 use Rattle.ov_model.specs.declared.refusal.Refusal.{Refusal}
 use Rattle.ov_model.specs.declared.refusal.Refusal.TheVariants.{LongLine, NotUtf8, OpenQuote, UnknownCommand, Missing, UnexpectedWord}
 use Rattle.ov_model.specs.Words.{Next, NoWord, Word, Unclosed, next_word, words_of, without_blanks, is_comment}
-use Rattle.ov_model.specs.Values.{Given, Text, read}
+use Rattle.ov_model.specs.declared.given.Given.{Given}
+use Rattle.ov_model.specs.declared.given.Given.TheVariants.{Text}
+use Rattle.ov_model.specs.Values.{read}
 use Rattle.ov_model.specs.Forms.{Param, Choice, Values, Form, option_in}
 
 pub data Line : Type 0 where

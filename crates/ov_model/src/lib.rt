@@ -8,6 +8,7 @@
 mod answer;
 mod command;
 mod course;
+mod given;
 mod merge;
 mod records;
 mod refusal;
@@ -17,6 +18,7 @@ mod seq;
 pub use answer::{Answer, Cell};
 pub use command::Command;
 pub use course::{a_course_ends_at_its_moves, a_course_goes_on, due_never_falls, no_reply_of_a_run_is_empty, whole_lines_stand_alone, worlds_are_one_move_apart};
+pub use given::{Given, Reading};
 pub use merge::merge_takes_the_first_of_each_key;
 pub use records::{own_rows_are_no_new_records, versions_keep_earlier_rids};
 pub use refusal::Refusal;

@@ -1,0 +1,12 @@
+//! The lines of a script: what each one asks for, or why it is refused.
+//!
+//! A line is one command, a comment, or a refusal that says which word is wrong. The definitions of `ov_model` say which; a
+//! table of the commands with their words and options drives the reading, and a command is added by adding its row.
+#![tactic(auto)]
+
+mod line_err;
+mod numbers;
+mod split;
+mod columns;
+
+pub use line_err::LineErr;
