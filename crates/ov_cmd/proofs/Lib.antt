@@ -1,3 +1,5 @@
 pub mod Schemas
 pub mod Lists
 pub mod Numerals
+pub mod Boundaries
+pub mod Splitting

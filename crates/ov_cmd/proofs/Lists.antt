@@ -3,7 +3,7 @@ use Rattle.std.proofs.Common.{◌≡◌, List, [], ◌∷◌, ◌++◌, map, Opt
 use Rattle.std.specs.Option.{option_map, option_and_then}
 use Rattle.ov_model.specs.Values.{all_some}
 
-joined : {Y : Type 0} (ys : List Y) (y : Y) (rest : Option (List Y)) → option_map (λ more. ys ++ more) (option_map (λ more. y ∷ more) rest) ≡ option_map (λ more. ys ++ y ∷ [] ++ more) rest
+pub joined : {Y : Type 0} (ys : List Y) (y : Y) (rest : Option (List Y)) → option_map (λ more. ys ++ more) (option_map (λ more. y ∷ more) rest) ≡ option_map (λ more. ys ++ y ∷ [] ++ more) rest
 joined ys y None = refl
 joined ys y (Some more) = ap Some (sym (append_assoc ys (y ∷ []) more))
 
@@ -25,3 +25,7 @@ all_some_none f all ys left later x is value so_far =
 pub all_some_map : {W X Y : Type 0} (f : X → Option Y) (g : W → X) (ws : List W) → all_some f (map g ws) ≡ all_some (λ w. f (g w)) ws
 all_some_map f g [] = refl
 all_some_map f g (w ∷ ws) = ap (λ rest. option_and_then (λ y. option_map (λ ys. y ∷ ys) rest) (f (g w))) (all_some_map f g ws)
+
+pub append_nil : {Y : Type 0} (ys : List Y) → ys ++ [] ≡ ys
+append_nil [] = refl
+append_nil (y ∷ ys) = ap (λ rest. y ∷ rest) (append_nil ys)

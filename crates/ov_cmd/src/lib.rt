@@ -6,7 +6,11 @@
 
 mod line_err;
 mod numbers;
+mod next;
+mod read;
 mod split;
+mod word;
+mod words;
 mod columns;
 
 pub use line_err::LineErr;
