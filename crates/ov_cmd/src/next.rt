@@ -3,7 +3,7 @@
 ghost use Rattle.std.specs.Prelude.{◌≡◌, ◌==◌, ◌||◌, if◌then◌else◌, IfOk, OnOk, IsUtf8, [], ◌∷◌, ◌++◌, false};
 ghost use Rattle.std.specs.List.{position_or_len};
 ghost use Rattle.ov_model.specs.Words.{is_blank as is_blank_of, is_no_blank, without_blanks as without_blanks_of, plain as plain_of, quoted as quoted_of, next_word as next_word_of};
-ghost use Rattle.ov_cmd.specs.Following.{next_of};
+ghost use Rattle.ov_cmd.specs.Following.{next_of, IsCut};
 
 use crate::word::Word;
 use ov_value::Txt;
@@ -56,7 +56,8 @@ pub(crate) fn without_blanks(text: &str) -> &str
 }
 
 fn plain(text: &str) -> Next<'_>
-    ensures { next_of result ≡ plain_of text.now }
+    ensures is { next_of result ≡ plain_of text.now }
+    ensures cut { IsCut result }
 {
     let end = word_len(text.as_bytes());
     Next::Word {
@@ -78,7 +79,8 @@ fn push_escaped(b: u8, word: &mut Vec<u8>) -> Result<(), AllocError>
 
 /// A quoted word, behind its first quote.
 fn quoted<'a>(alloc: Global, text: &'a str) -> Result<Next<'a>, AllocError>
-    ensures { IfOk result (λ next. next_of next ≡ quoted_of false [] text.now) }
+    ensures is { IfOk result (λ next. next_of next ≡ quoted_of false [] text.now) }
+    ensures cut { IfOk result IsCut }
 {
     let mut word = Vec::new(alloc);
     let mut escaped = false;
@@ -108,7 +110,8 @@ fn text_of(bytes: Vec<u8>) -> Txt
 
 /// The first word and the text behind it.
 pub(crate) fn next_word<'a>(alloc: Global, text: &'a str) -> Result<Next<'a>, AllocError>
-    ensures { IfOk result (λ next. next_of next ≡ next_word_of text.now) }
+    ensures is { IfOk result (λ next. next_of next ≡ next_word_of text.now) }
+    ensures cut { IfOk result IsCut }
 {
     let text = without_blanks(text);
     match text.as_bytes() {
