@@ -30,7 +30,7 @@ first_passes p (b ∷ bs) h =
     (λ v. cond (not v) (1 + position_or_len p bs) 0 < length (b ∷ bs) → p (get_or (b ∷ bs) (cond (not v) (1 + position_or_len p bs) 0) 0) ≡ true)
     (λ e k. e)
     (λ e k. let next : 1 + position_or_len p bs ≡ suc (position_or_len p bs) = omega arith in
-        rw next (first_passes p bs (omega (arith, k))))
+    rw next (first_passes p bs (omega (arith, k))))
     h
 
 cases_within : (m n : ℕ) → m ≤ n → (m < n) ⊎ (m ≡ n)
@@ -40,8 +40,8 @@ cases_within m n h = grind arith
 pub at_first : (p : ℕ → Bool) → ((b : ℕ) → p b ≡ true → b < 128) → (bs : List ℕ) → IsCharBoundary bs (position_or_len p bs)
 at_first p small bs =
     elim (cases_within (position_or_len p bs) (length bs) (first_not_over p bs)) [
-      inl before ↦ IsCharBoundary-before_ascii bs (position_or_len p bs) before (small _ (first_passes p bs before))
-    | inr end ↦ rw end (IsCharBoundary-end bs)
+      | inl before ↦ IsCharBoundary-before_ascii bs (position_or_len p bs) before (small _ (first_passes p bs before))
+      | inr end ↦ rw end (IsCharBoundary-end bs)
     ]
 
 pub at_blank : (bs : List ℕ) → IsCharBoundary bs (position_or_len is_blank bs)
@@ -52,7 +52,7 @@ skipped [] text = text
 skipped (b ∷ bs) text =
     on_bool (is_blank b) (λ v. IsUtf8 (drop (cond (not (not v)) (1 + position_or_len is_no_blank bs) 0) (b ∷ bs)))
     (λ e. let next : 1 + position_or_len is_no_blank bs ≡ suc (position_or_len is_no_blank bs) = omega arith in
-        rw next (skipped bs (tail b bs (small_blank b e) text)))
+    rw next (skipped bs (tail b bs (small_blank b e) text)))
     (λ e. text)
 
 pub at_no_blank : (bs : List ℕ) → IsUtf8 bs → IsCharBoundary bs (position_or_len is_no_blank bs)
@@ -115,14 +115,14 @@ quoted_text false word (b ∷ text) sound =
     on_bool (b == 34) (λ v. AreTexts (cond v (Word word text) (cond (b == 92) (quoted true word text) (quoted false (word ++ b ∷ []) text))))
     (λ e. let small : b < 128 = let n : b ≡ 34 = eqb-true b 34 e in omega arith in (front word b text small sound, back word b text small sound))
     (λ e. on_bool (b == 92) (λ v. AreTexts (cond v (quoted true word text) (quoted false (word ++ b ∷ []) text)))
-        (λ f. let small : b < 128 = let n : b ≡ 92 = eqb-true b 92 f in omega arith in
-            quoted_text true word text (front word b text small sound, back word b text small sound))
-        (λ f. quoted_text false (word ++ b ∷ []) text (rw append_assoc sound)))
+    (λ f. let small : b < 128 = let n : b ≡ 92 = eqb-true b 92 f in omega arith in
+    quoted_text true word text (front word b text small sound, back word b text small sound))
+    (λ f. quoted_text false (word ++ b ∷ []) text (rw append_assoc sound)))
 quoted_text true word (b ∷ text) sound =
     on_bool (b == 34 || b == 92) (λ v. AreTexts (cond v (quoted false (word ++ b ∷ []) text) (quoted false (word ++ 92 ∷ b ∷ []) text)))
     (λ e. quoted_text false (word ++ b ∷ []) text (rw append_assoc (IsUtf8-append word (b ∷ text) sound.0 sound.1)))
     (λ e. quoted_text false (word ++ 92 ∷ b ∷ []) text
-        (rw append_assoc (IsUtf8-append word (92 ∷ b ∷ text) sound.0 (IsUtf8-append (92 ∷ []) (b ∷ text) (IsUtf8-from_ascii (92 ∷ []) backslash) sound.1))))
+    (rw append_assoc (IsUtf8-append word (92 ∷ b ∷ text) sound.0 (IsUtf8-append (92 ∷ []) (b ∷ text) (IsUtf8-from_ascii (92 ∷ []) backslash) sound.1))))
 
 -- what was read of a quoted word up to its end
 pub word_text : (word behind text : List ℕ) → IsUtf8 text → Word word behind ≡ quoted false [] text → IsUtf8 word

@@ -1,3 +1,4 @@
 pub mod Errors
 pub mod Following
 pub mod Kept
+pub mod Table

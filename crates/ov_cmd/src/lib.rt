@@ -4,13 +4,15 @@
 //! table of the commands with their words and options drives the reading, and a command is added by adding its row.
 #![tactic(auto)]
 
+mod columns;
+mod form;
 mod line_err;
-mod numbers;
 mod next;
+mod numbers;
 mod read;
 mod split;
+mod table;
 mod word;
 mod words;
-mod columns;
 
 pub use line_err::LineErr;

@@ -9,11 +9,7 @@ use ov_value::Txt;
 use std::alloc::{AllocError, Global};
 
 /// The pieces of a text between the places of an ASCII character.
-pub(crate) fn pieces<'a>(
-    alloc: Global,
-    text: &'a str,
-    at: char,
-) -> Result<Vec<&'a str>, AllocError>
+pub(crate) fn pieces<'a>(alloc: Global, text: &'a str, at: char) -> Result<Vec<&'a str>, AllocError>
     requires { at < 128 }
     ensures { IfOk result (λ v. map (λ x. x.now) v.items ≡ slice_split (λ b. b == at) text.now) }
 {

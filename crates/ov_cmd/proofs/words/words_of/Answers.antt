@@ -21,6 +21,6 @@ pub loop-preserved : goal.loop-preserved
 loop-preserved c = record {
   text = subst IsCut c.in-Word.is c.in_ok-next_word.ensures.cut;
   words = rw c.in_ok-push-in-Word.ensures.items
-    (one_more (length c.args.text.now + 1) c.loop.counter c.loop.words.items c.loop.rest.now c.in-Word.word c.in-Word.behind.now (words_of c.args.text.now) c.loop-test.true
-    (ap next_of (sym c.in-Word.is) ∙ c.in_ok-next_word.ensures.is) c.loop.invariant.words);
+      (one_more (length c.args.text.now + 1) c.loop.counter c.loop.words.items c.loop.rest.now c.in-Word.word c.in-Word.behind.now (words_of c.args.text.now) c.loop-test.true
+      (ap next_of (sym c.in-Word.is) ∙ c.in_ok-next_word.ensures.is) c.loop.invariant.words);
 }
