@@ -2,3 +2,4 @@ pub mod Errors
 pub mod Following
 pub mod Kept
 pub mod Table
+pub mod Gathered

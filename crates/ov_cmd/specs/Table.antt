@@ -5,7 +5,6 @@ use Rattle.std.specs.Option.{option_map}
 use Rattle.ov_model.specs.declared.command.Command.{Command}
 use Rattle.ov_model.specs.declared.command.Command.TheVariants as asks
 use Rattle.ov_model.specs.declared.refusal.Refusal.{Refusal}
-use Rattle.ov_model.specs.Values.{number_from}
 use Rattle.ov_model.specs.Forms as model
 use Rattle.ov_cmd.specs.declared.form.Param.{Param}
 use Rattle.ov_cmd.specs.declared.form.Choice.{Choice}
@@ -27,7 +26,7 @@ make_of makes.CommitStaged v = model.make_commit_staged v
 make_of makes.Run v = Ok (asks.Run (model.text_in (model.word_of v 0)))
 make_of makes.Optimize v = model.make_optimize v
 make_of makes.Advise v = model.make_advise v
-make_of makes.Migrate v = Ok (asks.Migrate (number_from (model.word_of v 0)))
+make_of makes.Migrate v = Ok (asks.Migrate (model.count_in (model.word_of v 0)))
 make_of makes.Layout v = Ok (asks.Layout (model.text_in (model.word_of v 0)))
 make_of makes.Log v = Ok (asks.Log (model.text_in (model.word_of v 0)))
 make_of makes.DropCvd v = Ok (asks.DropCvd (model.text_in (model.word_of v 0)))

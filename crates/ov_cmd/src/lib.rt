@@ -9,9 +9,12 @@ mod form;
 mod line_err;
 mod next;
 mod numbers;
+mod options;
+mod order;
 mod read;
 mod split;
 mod table;
+mod values;
 mod word;
 mod words;
 

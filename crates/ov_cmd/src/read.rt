@@ -33,9 +33,9 @@ pub(crate) fn read(
         Reading::NumberFrom { least, most } => {
             number_or_refused(number_in(least, most, number_of(word)))
         }
+        Reading::CountTo { most } => count_to(most, number_of(word)),
         Reading::NumberWith { each, most } => {
-            let last = last_number(before);
-            number_or_refused(number_with(last, each, most, number_of(word)))
+            number_with(last_number(before), each, most, number_of(word))
         }
         Reading::ListOfVids => read_vids(alloc, word),
         Reading::TwoNumbers => read_ratio(alloc, word),
@@ -90,12 +90,24 @@ fn number_in(least: u64, most: u64, number: Option<u64>) -> Option<u64>
     }
 }
 
-fn number_with(last: u64, each: u64, most: u64, number: Option<u64>) -> Option<u64>
-    ensures { result ≡ number_beside last each most number }
+fn count_to(most: u32, number: Option<u64>) -> Result<Given, LineErr>
+    ensures ok { IfOk result (λ given. or_refused no.BadNumber gives.Count (number_between 0 most number) ≡ Ok given) }
+    ensures err { IfErr result (Refuses (or_refused no.BadNumber gives.Count (number_between 0 most number))) }
 {
-    match number_in(1, each, number) {
-        Some(n) if last <= most && n <= most - last => Some(n),
-        _ => None,
+    match number {
+        Some(n) if n <= most as u64 => Ok(Given::Count(n as u32)),
+        _ => Err(LineErr::BadNumber),
+    }
+}
+
+fn number_with(last: u64, each: u32, most: u32, number: Option<u64>) -> Result<Given, LineErr>
+    ensures ok { IfOk result (λ given. or_refused no.BadNumber (λ n. gives.Both last n) (number_beside last each most number) ≡ Ok given) }
+    ensures err { IfErr result (Refuses (or_refused no.BadNumber (λ n. gives.Both last n) (number_beside last each most number))) }
+{
+    let most = most as u64;
+    match number_in(1, each as u64, number) {
+        Some(n) if last <= most && n <= most - last => Ok(Given::Both(last as u32, n as u32)),
+        _ => Err(LineErr::BadNumber),
     }
 }
 

@@ -187,10 +187,7 @@ static ALL: [Form; 19] = [
         whole: false,
         params: &[Param {
             what: "n",
-            reads: Reading::NumberFrom {
-                least: 0,
-                most: 1_000_000,
-            },
+            reads: Reading::CountTo { most: 1_000_000 },
         }],
         choices: &[],
         maker: Maker::Migrate,

@@ -10,9 +10,9 @@ use Rattle.ov_value.specs.declared.column.Column.{Column}
 use Rattle.ov_value.specs.declared.column.Kind.{Kind}
 use Rattle.ov_value.specs.declared.column.Kind.TheVariants as kind
 use Rattle.ov_model.specs.declared.given.Given.{Given}
-use Rattle.ov_model.specs.declared.given.Given.TheVariants.{Text, Number, Vids, Ratio, Names, Columns, Table}
+use Rattle.ov_model.specs.declared.given.Given.TheVariants.{Text, Number, Count, Both, Vids, Ratio, Names, Columns, Table}
 use Rattle.ov_model.specs.declared.given.Reading.{Reading}
-use Rattle.ov_model.specs.declared.given.Reading.TheVariants.{AnyText, FileName, Message, NumberFrom, NumberWith, ListOfVids, TwoNumbers, ListOfNames, SchemaItems, StagedTable}
+use Rattle.ov_model.specs.declared.given.Reading.TheVariants.{AnyText, FileName, Message, NumberFrom, CountTo, NumberWith, ListOfVids, TwoNumbers, ListOfNames, SchemaItems, StagedTable}
 use Rattle.ov_model.specs.declared.refusal.Refusal.{Refusal}
 use Rattle.ov_model.specs.declared.refusal.Refusal.TheVariants as no
 
@@ -96,7 +96,9 @@ read AnyText nth before word = Ok (Text word)
 read FileName nth before word = when (nat_le 1 (length word) && nat_le (length word) 255) (no.UnexpectedWord nth) (Text word)
 read Message nth before word = when (nat_le (length word) 1024) (no.UnexpectedWord nth) (Text word)
 read (NumberFrom least most) nth before word = or_refused no.BadNumber Number (number_in least most (number_of word))
-read (NumberWith each most) nth before word = or_refused no.BadNumber Number (number_with (last_number before) each most (number_of word))
+read (CountTo most) nth before word = or_refused no.BadNumber Count (number_in 0 most (number_of word))
+read (NumberWith each most) nth before word =
+    or_refused no.BadNumber (λ n. Both (last_number before) n) (number_with (last_number before) each most (number_of word))
 read ListOfVids nth before word = or_refused no.BadNumber Vids (vids_of word)
 read TwoNumbers nth before word = or_refused no.BadNumber (λ r. Ratio r.0 r.1) (ratio_of word)
 read ListOfNames nth before word = Ok (Names (comma_items word))

@@ -10,6 +10,10 @@ pub enum Given {
     Text(Txt),
     /// A number of up to 18 digits.
     Number(u64),
+    /// A number below 2^32.
+    Count(u32),
+    /// The number of the word before it, and its own.
+    Both(u32, u32),
     /// Numbers in order, at least one.
     Vids(Seq<u64>),
     /// Two numbers, the one over the other.
@@ -33,8 +37,10 @@ pub enum Reading {
     Message,
     /// A number from the least to the greatest.
     NumberFrom { least: u64, most: u64 },
+    /// A number up to the greatest.
+    CountTo { most: u32 },
     /// A number from 1 to the greatest of its own, which with the number before it is at most the greatest of both.
-    NumberWith { each: u64, most: u64 },
+    NumberWith { each: u32, most: u32 },
     /// Numbers joined by commas.
     ListOfVids,
     /// Two numbers joined by `/`.
