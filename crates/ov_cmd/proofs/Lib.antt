@@ -3,3 +3,4 @@ pub mod Lists
 pub mod Numerals
 pub mod Boundaries
 pub mod Splitting
+pub mod Reading

@@ -7,6 +7,7 @@
 mod columns;
 mod form;
 mod line_err;
+mod make;
 mod next;
 mod numbers;
 mod options;
