@@ -3,3 +3,4 @@ pub mod Following
 pub mod Kept
 pub mod Table
 pub mod Gathered
+pub mod Said

@@ -118,15 +118,19 @@ schema_refusal (bad.UnknownKey name) = no.UnknownKey name
 schema_refusal (bad.RepeatedKey name) = no.RepeatedKey name
 schema_refusal bad.Memory = no.NoColumns
 
-abbrev pub init_with : List ℕ → List ℕ → Result Shape SchemaErr → Result Command Refusal
+abbrev pub or_schema_refusal : Result Shape SchemaErr → Result Shape Refusal
+or_schema_refusal (Ok schema) = Ok schema
+or_schema_refusal (Err refusal) = Err (schema_refusal refusal)
+
+abbrev pub init_with : List ℕ → List ℕ → Result Shape Refusal → Result Command Refusal
 init_with cvd file (Ok schema) = Ok (asks.Init cvd schema file)
-init_with cvd file (Err refusal) = Err (schema_refusal refusal)
+init_with cvd file (Err refusal) = Err refusal
 
 -- the dataset's name is one, and then the schema is accepted
 abbrev pub make_init : Values → Result Command Refusal
 make_init v =
     if is_name (text_in (word_of v 0))
-    then init_with (text_in (word_of v 0)) (text_in (choice v (codes "-f"))) (schema_of (columns_in (choice v (codes "-s"))) (names_in (choice v (codes "-k"))))
+    then init_with (text_in (word_of v 0)) (text_in (choice v (codes "-f"))) (or_schema_refusal (schema_of (columns_in (choice v (codes "-s"))) (names_in (choice v (codes "-k")))))
     else Err (no.BadName (text_in (word_of v 0)))
 
 -- there is a column to add, where any are to be added

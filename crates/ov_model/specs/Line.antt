@@ -92,15 +92,21 @@ abbrev pub by_words : Form → Option (List (List ℕ)) → Line
 by_words f None = Refused OpenQuote
 by_words f (Some words) = answer (made_by f (read_words f.choices f.params [] 2 words))
 
--- where word 2 decides between two forms of a name
-abbrev pub has_second : Option (List ℕ) → Option (List (List ℕ)) → Bool
-has_second None words = true
-has_second (Some second) (Some (word ∷ words)) = bytes_eq second word
-has_second (Some second) _ = false
+-- the first word behind the command's name
+abbrev pub first_of : Option (List (List ℕ)) → Option (List ℕ)
+first_of None = None
+first_of (Some []) = None
+first_of (Some (word ∷ words)) = Some word
 
-abbrev pub form_of : List Form → List ℕ → Option (List (List ℕ)) → Option Form
-form_of [] name words = None
-form_of (f ∷ fs) name words = if bytes_eq f.name name && has_second f.second words then Some f else form_of fs name words
+-- where word 2 decides between two forms of a name
+abbrev pub has_second : Option (List ℕ) → Option (List ℕ) → Bool
+has_second None word = true
+has_second (Some second) (Some word) = bytes_eq second word
+has_second (Some second) None = false
+
+abbrev pub form_of : List Form → List ℕ → Option (List ℕ) → Option Form
+form_of [] name word = None
+form_of (f ∷ fs) name word = if bytes_eq f.name name && has_second f.second word then Some f else form_of fs name word
 
 -- a line that begins with no command's name
 abbrev pub off_all : Option (List (List ℕ)) → Line
@@ -115,7 +121,7 @@ by_form behind words (Some f) =
 
 abbrev pub by_name : List Form → Next → Line
 by_name forms NoWord = Comment
-by_name forms (Word name behind) = by_form behind (words_of behind) (form_of forms name (words_of behind))
+by_name forms (Word name behind) = by_form behind (words_of behind) (form_of forms name (first_of (words_of behind)))
 by_name forms Unclosed = Refused OpenQuote
 
 abbrev pub line_of : List Form → List ℕ → Line
