@@ -4,3 +4,4 @@ pub mod Numerals
 pub mod Boundaries
 pub mod Splitting
 pub mod Reading
+pub mod Lines

@@ -4,3 +4,4 @@ pub mod Kept
 pub mod Table
 pub mod Gathered
 pub mod Said
+pub mod Whole

@@ -6,6 +6,7 @@
 
 mod columns;
 mod form;
+mod line;
 mod line_err;
 mod make;
 mod next;
@@ -19,4 +20,5 @@ mod values;
 mod word;
 mod words;
 
+pub use line::{read_built_line, read_line};
 pub use line_err::LineErr;

@@ -1,6 +1,6 @@
 //! The next word of a text.
 
-ghost use Rattle.std.specs.Prelude.{◌≡◌, ◌==◌, ◌||◌, if◌then◌else◌, IfOk, OnOk, IsUtf8, [], ◌∷◌, ◌++◌, false};
+ghost use Rattle.std.specs.Prelude.{◌≡◌, ◌≤◌, length, ◌==◌, ◌||◌, if◌then◌else◌, IfOk, OnOk, IsUtf8, [], ◌∷◌, ◌++◌, false};
 ghost use Rattle.std.specs.List.{position_or_len};
 ghost use Rattle.ov_model.specs.Words.{is_blank as is_blank_of, is_no_blank, without_blanks as without_blanks_of, plain as plain_of, quoted as quoted_of, next_word as next_word_of};
 ghost use Rattle.ov_cmd.specs.Following.{next_of, IsCut};
@@ -24,8 +24,9 @@ fn is_blank(b: u8) -> bool
 }
 
 /// How many blanks stand in front.
-fn blanks(text: &[u8]) -> usize
-    ensures { result ≡ position_or_len is_no_blank text.now }
+pub(crate) fn blanks(text: &[u8]) -> usize
+    ensures is { result ≡ position_or_len is_no_blank text.now }
+    ensures within { result ≤ length text.now }
 {
     for (i, b) in text.iter().enumerate() {
         if !is_blank(*b) {
