@@ -7,8 +7,8 @@ use Rattle.ov_model.specs.declared.command.Command.{Command}
 use Rattle.ov_model.specs.declared.refusal.Refusal.{Refusal}
 use Rattle.ov_model.specs.declared.refusal.Refusal.TheVariants as no
 use Rattle.ov_model.specs.Forms.{Form}
-use Rattle.ov_model.specs.Line.{Line, Comment, Asks, Refused, answer, by_words, off_all, by_form, by_name, form_of, made_by, read_words, line_of}
-use Rattle.ov_model.specs.Values.{Text}
+use Rattle.ov_model.specs.Line.{Line, Comment, Asks, Refused, answer, by_words, off_all, by_form, by_name, first_of, form_of, made_by, read_words, line_of}
+use Rattle.ov_model.specs.declared.given.Given.TheVariants.{Text}
 use Rattle.ov_model.specs.Words.{Next, NoWord, Word, Unclosed, plain, quoted, word_at, next_word, words_of, without_blanks, is_note, is_comment}
 
 abbrev Speaks : Line → Type 0
@@ -53,10 +53,6 @@ there_if : (t : Bool) (a b : Next) → IsThere a → IsThere b → IsThere (if t
 there_if true a b one other = one
 there_if false a b one other = other
 
-plain_there : (word text : List ℕ) → IsThere (plain word text)
-plain_there word [] = tt
-plain_there word (b ∷ text) = there_if _ (Word word (b ∷ text)) (plain (word ++ b ∷ []) text) tt (plain_there (word ++ b ∷ []) text)
-
 quoted_there : (escaped : Bool) (word text : List ℕ) → IsThere (quoted escaped word text)
 quoted_there escaped word [] = tt
 quoted_there false word (b ∷ text) =
@@ -68,13 +64,13 @@ quoted_there true word (b ∷ text) =
 
 name_speaks : (forms : List Form) (next : Next) → IsThere next → Speaks (by_name forms next)
 name_speaks forms NoWord is = absurd is
-name_speaks forms (Word name behind) is = form_speaks behind (words_of behind) (form_of forms name (words_of behind))
+name_speaks forms (Word name behind) is = form_speaks behind (words_of behind) (form_of forms name (first_of (words_of behind)))
 name_speaks forms Unclosed is = tt
 
 -- a text that is no note has a word
 word_there : (text : List ℕ) → is_note text ≡ false → IsThere (word_at text)
 word_there [] e = cc
-word_there (b ∷ text) e = there_if (b == 34) (quoted false [] text) (plain (b ∷ []) text) (quoted_there false [] text) (plain_there (b ∷ []) text)
+word_there (b ∷ text) e = there_if (b == 34) (quoted false [] text) (plain (b ∷ text)) (quoted_there false [] text) tt
 
 -- the three tests of a line
 abbrev by_tests : Bool → Bool → Bool → Line → Line

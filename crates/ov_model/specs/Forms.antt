@@ -16,7 +16,11 @@ use Rattle.ov_model.specs.declared.command.Command.{Command}
 use Rattle.ov_model.specs.declared.command.Command.TheVariants as asks
 use Rattle.ov_model.specs.declared.refusal.Refusal.{Refusal}
 use Rattle.ov_model.specs.declared.refusal.Refusal.TheVariants as no
-use Rattle.ov_model.specs.Values.{Given, Text, Number, Vids, Ratio, Names, Columns, Table, Reading, AnyText, FileName, Message, NumberFrom, NumberWith, ListOfVids, TwoNumbers, ListOfNames, SchemaItems, StagedTable}
+use Rattle.ov_model.specs.Values.{number_from}
+use Rattle.ov_model.specs.declared.given.Given.{Given}
+use Rattle.ov_model.specs.declared.given.Given.TheVariants.{Text, Count, Both, Vids, Ratio, Names, Columns, Table}
+use Rattle.ov_model.specs.declared.given.Reading.{Reading}
+use Rattle.ov_model.specs.declared.given.Reading.TheVariants.{AnyText, FileName, Message, NumberFrom, CountTo, NumberWith, ListOfVids, TwoNumbers, ListOfNames, SchemaItems, StagedTable}
 
 -- A word in order: what it is called where it is missing, and how it is read.
 pub record Param : Type 0 where
@@ -56,13 +60,22 @@ abbrev pub text_in : Option Given → List ℕ
 text_in (Some (Text text)) = text
 text_in _ = []
 
-abbrev pub number_from : Option Given → ℕ
-number_from (Some (Number n)) = n
-number_from _ = 0
-
 abbrev pub vids_in : Option Given → List ℕ
 vids_in (Some (Vids vids)) = vids
 vids_in _ = []
+
+abbrev pub count_in : Option Given → ℕ
+count_in (Some (Count n)) = n
+count_in _ = 0
+
+-- the number of the word before, and the word's own
+abbrev pub before_in : Option Given → ℕ
+before_in (Some (Both before own)) = before
+before_in _ = 0
+
+abbrev pub own_in : Option Given → ℕ
+own_in (Some (Both before own)) = own
+own_in _ = 0
 
 abbrev pub over_in : Option Given → ℕ
 over_in (Some (Ratio over under)) = over
@@ -105,15 +118,19 @@ schema_refusal (bad.UnknownKey name) = no.UnknownKey name
 schema_refusal (bad.RepeatedKey name) = no.RepeatedKey name
 schema_refusal bad.Memory = no.NoColumns
 
-abbrev pub init_with : List ℕ → List ℕ → Result Shape SchemaErr → Result Command Refusal
+abbrev pub or_schema_refusal : Result Shape SchemaErr → Result Shape Refusal
+or_schema_refusal (Ok schema) = Ok schema
+or_schema_refusal (Err refusal) = Err (schema_refusal refusal)
+
+abbrev pub init_with : List ℕ → List ℕ → Result Shape Refusal → Result Command Refusal
 init_with cvd file (Ok schema) = Ok (asks.Init cvd schema file)
-init_with cvd file (Err refusal) = Err (schema_refusal refusal)
+init_with cvd file (Err refusal) = Err refusal
 
 -- the dataset's name is one, and then the schema is accepted
 abbrev pub make_init : Values → Result Command Refusal
 make_init v =
     if is_name (text_in (word_of v 0))
-    then init_with (text_in (word_of v 0)) (text_in (choice v (codes "-f"))) (schema_of (columns_in (choice v (codes "-s"))) (names_in (choice v (codes "-k"))))
+    then init_with (text_in (word_of v 0)) (text_in (choice v (codes "-f"))) (or_schema_refusal (schema_of (columns_in (choice v (codes "-s"))) (names_in (choice v (codes "-k")))))
     else Err (no.BadName (text_in (word_of v 0)))
 
 -- there is a column to add, where any are to be added
@@ -152,7 +169,7 @@ make_advise v = Ok (asks.Advise (text_in (word_of v 0)) (number_from (choice v (
 abbrev pub make_generate : Values → Result Command Refusal
 make_generate v =
     if is_name (text_in (word_of v 0))
-    then Ok (asks.Generate (text_in (word_of v 0)) (number_from (word_of v 1)) (number_from (word_of v 2)) (number_from (word_of v 3)))
+    then Ok (asks.Generate (text_in (word_of v 0)) (number_from (word_of v 1)) (before_in (word_of v 3)) (own_in (word_of v 3)))
     else Err (no.BadName (text_in (word_of v 0)))
 
 abbrev pub word : List ℕ → Param
@@ -223,7 +240,7 @@ advise_form =
     form (codes "advise") (word (codes "cvd") ∷ []) (needs (codes "-s") (NumberFrom 0 (10 ^ 18)) ∷ needs (codes "-m") TwoNumbers ∷ []) make_advise
 
 abbrev pub migrate_form : Form
-migrate_form = form (codes "migrate") (number (codes "n") (NumberFrom 0 1000000) ∷ []) [] (λ v. Ok (asks.Migrate (number_from (word_of v 0))))
+migrate_form = form (codes "migrate") (number (codes "n") (CountTo 1000000) ∷ []) [] (λ v. Ok (asks.Migrate (count_in (word_of v 0))))
 
 abbrev pub generate_form : Form
 generate_form =

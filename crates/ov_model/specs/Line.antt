@@ -6,7 +6,9 @@ use Rattle.ov_model.specs.declared.command.Command.{Command}
 use Rattle.ov_model.specs.declared.refusal.Refusal.{Refusal}
 use Rattle.ov_model.specs.declared.refusal.Refusal.TheVariants.{LongLine, NotUtf8, OpenQuote, UnknownCommand, Missing, UnexpectedWord}
 use Rattle.ov_model.specs.Words.{Next, NoWord, Word, Unclosed, next_word, words_of, without_blanks, is_comment}
-use Rattle.ov_model.specs.Values.{Given, Text, read}
+use Rattle.ov_model.specs.declared.given.Given.{Given}
+use Rattle.ov_model.specs.declared.given.Given.TheVariants.{Text}
+use Rattle.ov_model.specs.Values.{read}
 use Rattle.ov_model.specs.Forms.{Param, Choice, Values, Form, option_in}
 
 pub data Line : Type 0 where
@@ -32,39 +34,40 @@ choice_named (c ∷ cs) letter = if bytes_eq c.letter letter then Some c else ch
 abbrev pub may_follow : List (List ℕ × Given) → Choice → Bool
 may_follow options c = not (has options c.letter) && not (has options c.rival)
 
--- Options and their values from word `nth` on. A value is read by its option.
-abbrev pub with_option : (List (List ℕ × Given) → Read) → List (List ℕ × Given) → List ℕ → Result Given Refusal → Read
-with_option more options letter (Ok given) = more (options ++ (letter, given) ∷ [])
-with_option more options letter (Err refusal) = Err refusal
+-- what comes of a value, where there is one
+abbrev pub and_then : {X Y : Type 0} → (X → Result Y Refusal) → Result X Refusal → Result Y Refusal
+and_then more (Ok x) = more x
+and_then more (Err refusal) = Err refusal
 
+-- the option that a word in an option's place names
 abbrev pub accepted : ℕ → List (List ℕ × Given) → Option Choice → Result Choice Refusal
 accepted nth options None = Err (UnexpectedWord nth)
 accepted nth options (Some c) = if may_follow options c then Ok c else Err (UnexpectedWord nth)
 
-abbrev pub last_option : Result Choice Refusal → Read
-last_option (Ok c) = Err (Missing c.letter)
-last_option (Err refusal) = Err refusal
+abbrev pub option_at : List Choice → List (List ℕ × Given) → ℕ → List ℕ → Result Choice Refusal
+option_at choices options nth letter = accepted nth options (choice_named choices letter)
 
-abbrev pub next_option : (List (List ℕ × Given) → Read) → List Given → List (List ℕ × Given) → ℕ → List ℕ → Result Choice Refusal → Read
-next_option more before options nth value (Ok c) = with_option more options c.letter (read c.reads (nth + 1) before value)
-next_option more before options nth value (Err refusal) = Err refusal
+-- the options with the one that word `nth` names; the word behind it is its value, and is read by it
+abbrev pub with_option : List (List ℕ × Given) → List ℕ → Given → List (List ℕ × Given)
+with_option options letter given = options ++ (letter, given) ∷ []
 
+abbrev pub one_option : List Choice → List Given → List (List ℕ × Given) → ℕ → List ℕ → List ℕ → Result (List (List ℕ × Given)) Refusal
+one_option choices before options nth letter value =
+    and_then (λ c. and_then (λ given. Ok (with_option options c.letter given)) (read c.reads (nth + 1) before value)) (option_at choices options nth letter)
+
+-- options and their values from word `nth` on
 abbrev pub read_options : List Choice → List Given → List (List ℕ × Given) → ℕ → List (List ℕ) → Read
 read_options choices before options nth [] = Ok (record { words = before; options = options })
-read_options choices before options nth (letter ∷ []) = last_option (accepted nth options (choice_named choices letter))
+read_options choices before options nth (letter ∷ []) = and_then (λ c. Err (Missing c.letter)) (option_at choices options nth letter)
 read_options choices before options nth (letter ∷ value ∷ words) =
-    next_option (λ more. read_options choices before more (nth + 2) words) before options nth value (accepted nth options (choice_named choices letter))
+    and_then (λ more. read_options choices before more (nth + 2) words) (one_option choices before options nth letter value)
 
 -- the words in order from word `nth` on, and then the options
-abbrev pub with_word : (List Given → Read) → List Given → Result Given Refusal → Read
-with_word more before (Ok given) = more (before ++ given ∷ [])
-with_word more before (Err refusal) = Err refusal
-
 abbrev pub read_words : List Choice → List Param → List Given → ℕ → List (List ℕ) → Read
 read_words choices [] before nth words = read_options choices before [] nth words
 read_words choices (p ∷ ps) before nth [] = Err (Missing p.what)
 read_words choices (p ∷ ps) before nth (word ∷ words) =
-    with_word (λ more. read_words choices ps more (nth + 1) words) before (read p.reads nth before word)
+    and_then (λ given. read_words choices ps (before ++ given ∷ []) (nth + 1) words) (read p.reads nth before word)
 
 -- the first option that is needed and neither given nor excluded by one that is
 abbrev pub missing : List Choice → List (List ℕ × Given) → Option (List ℕ)
@@ -89,15 +92,21 @@ abbrev pub by_words : Form → Option (List (List ℕ)) → Line
 by_words f None = Refused OpenQuote
 by_words f (Some words) = answer (made_by f (read_words f.choices f.params [] 2 words))
 
--- where word 2 decides between two forms of a name
-abbrev pub has_second : Option (List ℕ) → Option (List (List ℕ)) → Bool
-has_second None words = true
-has_second (Some second) (Some (word ∷ words)) = bytes_eq second word
-has_second (Some second) _ = false
+-- the first word behind the command's name
+abbrev pub first_of : Option (List (List ℕ)) → Option (List ℕ)
+first_of None = None
+first_of (Some []) = None
+first_of (Some (word ∷ words)) = Some word
 
-abbrev pub form_of : List Form → List ℕ → Option (List (List ℕ)) → Option Form
-form_of [] name words = None
-form_of (f ∷ fs) name words = if bytes_eq f.name name && has_second f.second words then Some f else form_of fs name words
+-- where word 2 decides between two forms of a name
+abbrev pub has_second : Option (List ℕ) → Option (List ℕ) → Bool
+has_second None word = true
+has_second (Some second) (Some word) = bytes_eq second word
+has_second (Some second) None = false
+
+abbrev pub form_of : List Form → List ℕ → Option (List ℕ) → Option Form
+form_of [] name word = None
+form_of (f ∷ fs) name word = if bytes_eq f.name name && has_second f.second word then Some f else form_of fs name word
 
 -- a line that begins with no command's name
 abbrev pub off_all : Option (List (List ℕ)) → Line
@@ -112,7 +121,7 @@ by_form behind words (Some f) =
 
 abbrev pub by_name : List Form → Next → Line
 by_name forms NoWord = Comment
-by_name forms (Word name behind) = by_form behind (words_of behind) (form_of forms name (words_of behind))
+by_name forms (Word name behind) = by_form behind (words_of behind) (form_of forms name (first_of (words_of behind)))
 by_name forms Unclosed = Refused OpenQuote
 
 abbrev pub line_of : List Form → List ℕ → Line

@@ -2,7 +2,7 @@
 --     refusal_text r      of a refusal, without its number
 --     reply_text r      of a reply: lines, each ended by a line feed; the words rows, versions, records and so on are plural always
 use Rattle.std.specs.Prelude.{ℕ, ◌+◌, Bool, true, false, if◌then◌else◌, List, [], ◌∷◌, ◌++◌, length, Option, Some, None, codes}
-use Rattle.std.specs.List.{flat_map, concat}
+use Rattle.std.specs.List.{flat_map, concat, join_by}
 use Rattle.std.specs.Fmt.{decimal}
 use Rattle.ov_value.specs.declared.column.Kind.{Kind}
 use Rattle.ov_value.specs.declared.column.Kind.TheVariants as kind
@@ -27,13 +27,8 @@ kind_text kind.Text = codes "text"
 kind_text kind.Flag = codes "flag"
 
 -- numbers with commas between them
-abbrev pub more_numbers : List ℕ → List ℕ
-more_numbers [] = []
-more_numbers (n ∷ ns) = codes "," ++ (decimal n ++ more_numbers ns)
-
 abbrev pub numbers : List ℕ → List ℕ
-numbers [] = []
-numbers (n ∷ ns) = decimal n ++ more_numbers ns
+numbers ns = join_by decimal (codes ",") ns
 
 -- what a `migrate` that was refused has done
 abbrev pub so_far : Option (ℕ × ℕ) → List ℕ
@@ -158,13 +153,17 @@ parents_text (p ∷ ps) = numbers (p ∷ ps)
 abbrev pub part_line : PartLine → List ℕ
 part_line part = line (codes "partition " ∷ decimal part.id ∷ codes ": records " ∷ decimal part.records ∷ codes ", versions " ∷ numbers part.versions ∷ [])
 
-abbrev pub plan_line : Option PlanLine → List ℕ
-plan_line None = []
-plan_line (Some plan) =
+abbrev pub running_line : PlanLine → List ℕ
+running_line plan =
     line (codes "plan " ∷ decimal plan.p ∷ codes "/" ∷ decimal plan.q
     ∷ codes ": target " ∷ decimal plan.target ∷ codes " of " ∷ decimal plan.targets
     ∷ codes ", copied " ∷ decimal plan.copied ∷ codes " of " ∷ decimal plan.size
     ∷ codes ", steps " ∷ decimal plan.steps ∷ [])
+
+-- of the plan that runs, where one does
+abbrev pub plan_line : Option PlanLine → List ℕ
+plan_line None = []
+plan_line (Some plan) = running_line plan
 
 abbrev pub log_line : LogLine → List ℕ
 log_line v =
@@ -177,19 +176,27 @@ cvd_line cvd = line (cvd.name ∷ codes ": " ∷ decimal cvd.versions ∷ codes 
 abbrev pub table_line : TableLine → List ℕ
 table_line t = line (t.user ∷ codes "." ∷ t.table ∷ codes ": " ∷ t.cvd ∷ codes " " ∷ t.vids ∷ [])
 
+abbrev pub budget_line : ℕ → BudgetLine → List ℕ
+budget_line p b =
+    line (codes "p " ∷ decimal p ∷ codes ": depth " ∷ decimal b.depth ∷ codes ", partitions " ∷ decimal b.partitions
+    ∷ codes ", stored " ∷ decimal b.stored ∷ codes ", cost " ∷ decimal b.cost ∷ [])
+
 -- of each threshold from p / 100 on
 abbrev pub budget_lines : ℕ → List BudgetLine → List ℕ
 budget_lines p [] = []
-budget_lines p (b ∷ bs) =
-    line (codes "p " ∷ decimal p ∷ codes ": depth " ∷ decimal b.depth ∷ codes ", partitions " ∷ decimal b.partitions
-    ∷ codes ", stored " ∷ decimal b.stored ∷ codes ", cost " ∷ decimal b.cost ∷ [])
-    ++ budget_lines (p + 1) bs
+budget_lines p (b ∷ bs) = budget_line p b ++ budget_lines (p + 1) bs
 
 abbrev pub optimize_line : ℕ → ℕ → ℕ → ℕ → ℕ → ℕ → ℕ → List ℕ
 optimize_line depth partitions stored records members cost steps =
     line (codes "depth " ∷ decimal depth ∷ codes ", partitions " ∷ decimal partitions ∷ codes ", stored " ∷ decimal stored
     ∷ codes ", records " ∷ decimal records ∷ codes ", members " ∷ decimal members ∷ codes ", cost " ∷ decimal cost
     ∷ codes ", steps " ∷ decimal steps ∷ [])
+
+abbrev pub chosen_line : ℕ → List ℕ
+chosen_line chosen = line (codes "chosen " ∷ decimal chosen ∷ codes "/100" ∷ [])
+
+abbrev pub stored_line : ℕ → ℕ → List ℕ
+stored_line stored cost = line (codes "stored " ∷ decimal stored ∷ codes ", cost " ∷ decimal cost ∷ [])
 
 -- how many of them there are
 abbrev pub count_line : ℕ → List ℕ → List ℕ
@@ -205,13 +212,12 @@ reply_text (says.Answer text rows) = text ++ count_line rows (codes "rows")
 reply_text (says.Optimize depth partitions stored records members cost steps) = optimize_line depth partitions stored records members cost steps
 reply_text (says.Within lines chosen depth partitions stored records members cost steps) =
     budget_lines 1 lines
-    ++ (line (codes "chosen " ∷ decimal chosen ∷ codes "/100" ∷ []) ++ optimize_line depth partitions stored records members cost steps)
+    ++ (chosen_line chosen ++ optimize_line depth partitions stored records members cost steps)
 reply_text (says.Advise cost best optimize) =
     line (codes "cost " ∷ decimal cost ∷ codes ", best " ∷ decimal best ∷ (if optimize then codes ": optimize" else codes ": keep") ∷ [])
 reply_text (says.Migrate taken left) = line (codes "steps " ∷ decimal taken ∷ codes " left " ∷ decimal left ∷ [])
 reply_text (says.Layout parts plan stored cost) =
-    flat_map part_line parts
-    ++ (plan_line plan ++ line (codes "stored " ∷ decimal stored ∷ codes ", cost " ∷ decimal cost ∷ []))
+    flat_map part_line parts ++ (plan_line plan ++ stored_line stored cost)
 reply_text (says.Log versions) = flat_map log_line versions
 reply_text (says.Ls cvds) = flat_map cvd_line cvds ++ count_line (length cvds) (codes "datasets")
 reply_text (says.Dropped cvd) = line (cvd ∷ codes ": dropped" ∷ [])

@@ -2,8 +2,8 @@
 --     lines_of text      the lines of a script
 --     next_word text      the first word and what stands behind it
 --     words_of text      all of them; None where a quote isn't closed
-use Rattle.std.specs.Prelude.{ℕ, zero, suc, ◌+◌, Bool, true, false, ◌||◌, ◌&&◌, ◌==◌, nat_le, if◌then◌else◌, List, [], ◌∷◌, ◌++◌, length, Option, Some, None}
-use Rattle.std.specs.List.{onto_first}
+use Rattle.std.specs.Prelude.{ℕ, zero, suc, ◌+◌, Bool, true, false, ◌||◌, ◌&&◌, ◌==◌, nat_le, if◌then◌else◌, List, [], ◌∷◌, ◌++◌, length, take, drop, not, Option, Some, None}
+use Rattle.std.specs.List.{onto_first, position_or_len}
 use Rattle.std.specs.Option.{option_map}
 
 -- a line ends at a line feed, or at the end of the text; an empty last line is no line
@@ -15,9 +15,12 @@ lines_of (b ∷ text) = if b == 10 then [] ∷ lines_of text else onto_first b (
 abbrev pub is_blank : ℕ → Bool
 is_blank b = b == 32 || (b == 9 || b == 13)
 
+abbrev pub is_no_blank : ℕ → Bool
+is_no_blank b = not (is_blank b)
+
+-- from the first byte on that is no blank
 abbrev pub without_blanks : List ℕ → List ℕ
-without_blanks [] = []
-without_blanks (b ∷ text) = if is_blank b then without_blanks text else b ∷ text
+without_blanks text = drop (position_or_len is_no_blank text) text
 
 -- no word; a word, and the text behind it; or a quote that isn't closed
 pub data Next : Type 0 where
@@ -25,10 +28,9 @@ pub data Next : Type 0 where
   Word : (word : List ℕ) (behind : List ℕ) → Next
   Unclosed : Next
 
--- the rest of a word without quotes: up to a blank or to the end
-abbrev pub plain : List ℕ → List ℕ → Next
-plain word [] = Word word []
-plain word (b ∷ text) = if is_blank b then Word word (b ∷ text) else plain (word ++ b ∷ []) text
+-- a word without quotes: up to a blank or to the end
+abbrev pub plain : List ℕ → Next
+plain text = Word (take (position_or_len is_blank text) text) (drop (position_or_len is_blank text) text)
 
 -- The rest of a word in quotes, behind a backslash or not: up to the next quote with no backslash of its own before it. A
 -- backslash goes where a quote or a backslash stands behind it; any other backslash stays.
@@ -43,7 +45,7 @@ quoted true word (b ∷ text) =
 
 abbrev pub word_at : List ℕ → Next
 word_at [] = NoWord
-word_at (b ∷ text) = if b == 34 then quoted false [] text else plain (b ∷ []) text
+word_at (b ∷ text) = if b == 34 then quoted false [] text else plain (b ∷ text)
 
 abbrev pub next_word : List ℕ → Next
 next_word text = word_at (without_blanks text)

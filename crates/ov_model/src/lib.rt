@@ -10,6 +10,7 @@ mod command;
 mod conditions;
 mod course;
 mod examples;
+mod given;
 mod line;
 mod merge;
 mod query;
@@ -28,6 +29,7 @@ pub use course::{
     worlds_are_one_move_apart,
 };
 pub use examples::{worked_examples, worked_queries};
+pub use given::{Given, Reading};
 pub use line::a_line_is_one_thing;
 pub use merge::merge_takes_the_first_of_each_key;
 pub use query::{

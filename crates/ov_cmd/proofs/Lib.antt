@@ -1,0 +1,7 @@
+pub mod Schemas
+pub mod Lists
+pub mod Numerals
+pub mod Boundaries
+pub mod Splitting
+pub mod Reading
+pub mod Lines

@@ -1,0 +1,4 @@
+use Rattle.ov_reply.proofs.writing.write_init.Goals as goal
+
+pub returns : goal.returns
+returns c = rw (← c.as_bytes.ensures.bytes) c.write_line.ensures
