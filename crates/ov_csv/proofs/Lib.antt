@@ -1,2 +1,5 @@
 pub mod Between
 pub mod Reading
+pub mod Spelled
+pub mod Places
+pub mod Rows

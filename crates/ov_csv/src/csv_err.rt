@@ -1,7 +1,7 @@
 //! Why the bytes of a file are no rows of a schema.
 
 use ov_value::{Kind, Txt};
-use std::alloc::AllocError;
+use std::alloc::{AllocError, AllocFailed};
 
 /// Why the bytes of a file are no rows of a schema. `TooLong` and `BadHeader` come before all others; of the others the
 /// first row that has one counts, and within a row they come as they stand here. Rows are counted from 1, without the header.
@@ -32,6 +32,17 @@ impl From<AllocError> for CsvErr {
     ghost from_gives = { λ _ made. made ≡ why.Memory };
 
     fn from(_error: AllocError) -> CsvErr {
+        CsvErr::Memory
+    }
+}
+
+impl<T: Drop> From<AllocFailed<T>> for CsvErr {
+    ghost use Rattle.std.specs.Prelude.{◌≡◌};
+    ghost use Rattle.ov_csv.specs.declared.csv_err.CsvErr.TheVariants as why;
+
+    ghost from_gives = { λ _ made. made ≡ why.Memory };
+
+    fn from(_failed: AllocFailed<T>) -> CsvErr {
         CsvErr::Memory
     }
 }

@@ -2,6 +2,9 @@
 #![tactic(auto)]
 
 mod csv_err;
+mod fields;
 mod lines;
+mod names;
+mod records;
 
 pub use csv_err::CsvErr;
