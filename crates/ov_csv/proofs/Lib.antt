@@ -1,5 +1,7 @@
 pub mod Between
-pub mod Reading
+pub mod Steps
 pub mod Spelled
+pub mod IsRows
+pub mod Lists
 pub mod Places
 pub mod Rows

@@ -5,6 +5,8 @@ mod csv_err;
 mod fields;
 mod lines;
 mod names;
+mod reading;
 mod records;
 
 pub use csv_err::CsvErr;
+pub use reading::read_csv;

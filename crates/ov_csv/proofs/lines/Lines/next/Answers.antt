@@ -1,5 +1,5 @@
 -- A read takes the first of the records that are left.
-use Rattle.ov_csv.proofs.Reading.{read-takes, read-reads}
+use Rattle.ov_csv.proofs.Steps.{read-takes, read-reads}
 use Rattle.ov_csv.proofs.lines.Lines.next.Goals as goal
 
 pub invariant_of-self-2 : goal.invariant_of-self-2
