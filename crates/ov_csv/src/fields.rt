@@ -8,11 +8,7 @@ use ov_value::{Kind, Txt, Value};
 use std::alloc::{AllocError, Global};
 
 /// The value that the text spells in a column of the kind, or `None` where it spells none.
-pub(crate) fn read_field(
-    alloc: Global,
-    kind: Kind,
-    text: &str,
-) -> Result<Option<Value>, AllocError>
+pub(crate) fn read_field(alloc: Global, kind: Kind, text: &str) -> Result<Option<Value>, AllocError>
     ensures { IfOk result (λ read. read ≡ field_value kind text.now) }
 {
     match kind {

@@ -15,5 +15,8 @@ mod records;
 mod spelling;
 
 pub use csv_err::CsvErr;
-pub use csv_text::{write_rows, CsvText};
+pub use csv_text::{CsvText, write_rows};
 pub use reading::read_csv;
+
+#[cfg(test)]
+mod tests;

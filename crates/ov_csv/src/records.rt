@@ -13,7 +13,7 @@ use crate::csv_err::CsvErr;
 use crate::fields::read_field;
 use crate::names::{are_text, text_of};
 use csv::ByteRecord;
-use ov_value::{row_len, Column, Row, Schema, Value};
+use ov_value::{Column, Row, Schema, Value, row_len};
 use std::alloc::Global;
 
 /// The row that the record spells, which is the `row`th after the header, or the first refusal.
@@ -93,12 +93,7 @@ fn refused_field(
 }
 
 // Refuses the first key column that is NULL.
-fn refuse_null_key(
-    alloc: Global,
-    schema: &Schema,
-    row: u64,
-    values: &[Value],
-) -> Result<(), CsvErr>
+fn refuse_null_key(alloc: Global, schema: &Schema, row: u64, values: &[Value]) -> Result<(), CsvErr>
     requires { length values.now ≡ length schema.now.columns }
     ensures none { OnOk result (null_key schema.now row 0 schema.now.columns values.now ≡ None) }
     ensures err { IfErr result (λ why. StandsFor schema.now why (null_key schema.now row 0 schema.now.columns values.now)) }
