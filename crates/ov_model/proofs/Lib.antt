@@ -6,4 +6,5 @@ pub mod Origins
 pub mod Own
 pub mod Replying
 pub mod Rids
+pub mod RoundTrip
 pub mod Worked
