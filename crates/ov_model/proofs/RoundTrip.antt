@@ -220,8 +220,11 @@ rows-back : (schema : Shape) (nth : ℕ) (rows : List Row)
 rows-back schema nth [] h = refl
 rows-back schema nth (row ∷ rows) h =
     let here = h 0 [] (omega arith) in
-    rw (row-back schema nth row here.0 here.1, fields-back schema.columns row here.0.fits.kinds here.0.typed,
-    rows-back schema (nth + 1) rows (λ k d lt. h (suc k) d (omega arith))) refl
+    rw (
+      row-back schema nth row here.0 here.1,
+      fields-back schema.columns row here.0.fits.kinds here.0.typed,
+      rows-back schema (nth + 1) rows (λ k d lt. h (suc k) d (omega arith)),
+    ) refl
 
 -- records
 
@@ -332,12 +335,12 @@ table-back schema rows sound h =
     let tail : List ℕ = flat_map (λ row. row_text default_writer (fields_of schema.columns row)) rows in
     let n : ℕ = length (text_of schema rows) in
     let size : length rows < n =
-        let whole = length-append (row_text default_writer (names schema.columns)) tail in
-        omega (arith, whole, line-long (names schema.columns), lines-long schema.columns rows)
+    let whole = length-append (row_text default_writer (names schema.columns)) tail in
+    omega (arith, whole, line-long (names schema.columns), lines-long schema.columns rows)
     in
     let lines : records_from default_config (suc n) st.StartRecord (text_of schema rows) ≡ names schema.columns ∷ map (fields_of schema.columns) rows =
-        record-back n (names schema.columns) tail
-        ∙ rw (names-back schema.columns some, lines-back schema.columns rows n size some (λ k d lt. (h k d lt).0.fits.kinds)) refl in
+    record-back n (names schema.columns) tail
+    ∙ rw (names-back schema.columns some, lines-back schema.columns rows n size some (λ k d lt. (h k d lt).0.fits.kinds)) refl in
     rw (add-one, lines, names-same (names schema.columns)) (rows-back schema 1 rows h)
 
 text-back-whole : (schema : Shape) (text : List ℕ) (rows : List Row) → Plain text → length text ≤ 67108864

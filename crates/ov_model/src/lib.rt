@@ -34,6 +34,6 @@ pub use query::{
 pub use records::{own_rows_are_no_new_records, rids_have_no_gap, versions_keep_earlier_rids};
 pub use refusal::Refusal;
 pub use replies::a_reply_is_not_empty;
-pub use round_trip::what_is_written_reads_back;
 pub use reply::{BudgetLine, CvdLine, LogLine, PartLine, PlanLine, Reply, TableLine};
+pub use round_trip::what_is_written_reads_back;
 pub use sqlite_items::{Boxed, Items as Seq};
