@@ -12,6 +12,7 @@ pub mod Own
 pub mod Placing
 pub mod Replying
 pub mod Rids
+pub mod RoundTrip
 pub mod Sharing
 pub mod Singles
 pub mod Truths

@@ -18,6 +18,7 @@ mod records;
 mod refusal;
 mod replies;
 mod reply;
+mod round_trip;
 
 pub use answer::{Answer, Cell};
 pub use command::Command;
@@ -43,4 +44,5 @@ pub use records::{
 pub use refusal::Refusal;
 pub use replies::a_reply_is_not_empty;
 pub use reply::{BudgetLine, CvdLine, LogLine, PartLine, PlanLine, Reply, TableLine};
+pub use round_trip::what_is_written_reads_back;
 pub use sqlite_items::{Boxed, Items as Seq};

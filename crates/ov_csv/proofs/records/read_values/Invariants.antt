@@ -1,0 +1,11 @@
+use Rattle.std.proofs.Common.{◌≡◌, ◌++◌, drop}
+use Rattle.std.specs.List.{list_all}
+use Rattle.std.specs.Str.{is_utf8}
+use Rattle.csv.specs.Records.{fields_of}
+use Rattle.ov_model.specs.Csv.{bad_field, row_in}
+use Rattle.ov_csv.proofs.Rows.{SoFar}
+use Rattle.ov_csv.proofs.records.read_values.Given as goal
+
+-- the fields before the place have these values, and the answer is that of the others
+abbrev pub invariant-loop-place : goal.invariant-loop-place
+invariant-loop-place l = SoFar l.row l.columns (fields_of l.line) l.place l.values.items

@@ -1,0 +1,22 @@
+//! Rows from the text of a file, and the text of a file from rows.
+//!
+//! `read_csv` reads a whole file and names its first fault; `CsvText` writes a header and rows, a line at a time. The `csv`
+//! crate splits the bytes into records and writes records; what a field spells in a column stands in the definitions of
+//! `ov_model`, which both sides are proved to meet.
+#![tactic(auto)]
+
+mod csv_err;
+mod csv_text;
+mod fields;
+mod lines;
+mod names;
+mod reading;
+mod records;
+mod spelling;
+
+pub use csv_err::CsvErr;
+pub use csv_text::{CsvText, write_rows};
+pub use reading::read_csv;
+
+#[cfg(test)]
+mod tests;
