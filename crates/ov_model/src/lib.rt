@@ -10,7 +10,8 @@ mod records;
 
 pub use merge::merge_takes_the_first_of_each_key;
 pub use query::{
-    Col, Cond, Fixed, Items, JoinQuery, Key, LineageKind, Operand, Query, Side, Sign, Src, Symbol, Term,
+    Col, Cond, Fixed, Items, JoinQuery, Key, LineageKind, Operand, Query, Side, Sign, Src, Symbol,
+    Term,
 };
 pub use records::{own_rows_are_no_new_records, versions_keep_earlier_rids};
 pub use sqlite_items::{Boxed, Items as Seq};

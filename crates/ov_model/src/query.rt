@@ -36,11 +36,20 @@ pub enum Items {
 #[derive(Drop)]
 pub enum Src {
     /// The listed ones, at least one, in this order.
-    Listed { vids: Seq<u64>, cvd: Txt },
+    Listed {
+        vids: Seq<u64>,
+        cvd: Txt,
+    },
     /// All of the dataset.
-    Whole { cvd: Txt },
+    Whole {
+        cvd: Txt,
+    },
     /// Those that stand in this lineage of one version.
-    Lineage { kind: LineageKind, vid: u64, cvd: Txt },
+    Lineage {
+        kind: LineageKind,
+        vid: u64,
+        cvd: Txt,
+    },
 }
 
 /// Which relatives of a version.
