@@ -119,7 +119,7 @@ module _ {A : Type 0} (between : Fixed) (words : List Fixed) (R : List Symbol �
   list-again used rest [] j h = absurd j
   list-again used rest (x ∷ xs) j h =
       let t = joined-tail between R used x xs j in
-      let one : at (used ++ rest) ≡ Some (x, t.others ++ rest) = rw (t.symbols_are, append_assoc) (item.again t.first (t.others ++ rest) x t.first_is (tail-follows t.others rest xs t.tail_is h.1)) in
+      let one : at (used ++ rest) ≡ Some (x, t.others ++ rest) = ap at (ap (λ (ss : List Symbol). ss ++ rest) t.symbols_are ∙ append_assoc t.first t.others rest) ∙ item.again t.first (t.others ++ rest) x t.first_is (tail-follows t.others rest xs t.tail_is h.1) in
       let more = more-again (length (t.others ++ rest)) t.others rest xs t.tail_is (omega (arith, length-append t.others rest)) h.0 h.1 in
       rw (one, more) refl
 
