@@ -1,7 +1,9 @@
 pub mod Conds
 pub mod Loop
 pub mod Operands
+pub mod Queries
 pub mod Readers
 pub mod Terms
 pub mod Tests
 pub mod Words
+pub mod Whole

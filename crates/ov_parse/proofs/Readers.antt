@@ -42,7 +42,7 @@ pub record IsReader {A : Type 0} (words : List Fixed) (R : List Symbol → A →
 -- ---- lists
 
 -- items behind a separator each
-abbrev Tail : {A : Type 0} → Fixed → (List Symbol → A → Type 0) → List Symbol → List A → Type 0
+abbrev pub Tail : {A : Type 0} → Fixed → (List Symbol → A → Type 0) → List Symbol → List A → Type 0
 Tail between R symbols [] = symbols ≡ []
 Tail between R symbols (x ∷ xs) = (first : List Symbol) × (others : List Symbol) × (symbols ≡ fixed between ∷ (first ++ others)) × R first x × Tail between R others xs
 
@@ -51,13 +51,13 @@ tail-joined between R first others x [] h t = subst (λ (ss : List Symbol). R ss
 tail-joined between R first others x (y ∷ ys) h t = (first, t.0 ++ t.1, ap (λ (ss : List Symbol). first ++ ss) t.2, h, tail-joined between R t.0 t.1 y ys t.3 t.4)
 
 pub record HasTail {A : Type 0} (between : Fixed) (R : List Symbol → A → Type 0) (symbols : List Symbol) (x : A) (xs : List A) : Type 0 where
-  first : List Symbol
-  others : List Symbol
-  symbols_are : symbols ≡ first ++ others
-  first_is : R first x
-  tail_is : Tail between R others xs
+  pub first : List Symbol
+  pub others : List Symbol
+  pub symbols_are : symbols ≡ first ++ others
+  pub first_is : R first x
+  pub tail_is : Tail between R others xs
 
-joined-tail : {A : Type 0} (between : Fixed) (R : List Symbol → A → Type 0) (symbols : List Symbol) (x : A) (xs : List A) → Joined between R symbols (x ∷ xs) → HasTail between R symbols x xs
+pub joined-tail : {A : Type 0} (between : Fixed) (R : List Symbol → A → Type 0) (symbols : List Symbol) (x : A) (xs : List A) → Joined between R symbols (x ∷ xs) → HasTail between R symbols x xs
 joined-tail between R symbols x [] j = record { first = symbols; others = []; symbols_are = sym (append-nil symbols); first_is = j; tail_is = refl }
 joined-tail between R symbols x (y ∷ ys) j =
     let t = joined-tail between R j.1 y ys j.4 in
