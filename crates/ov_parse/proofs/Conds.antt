@@ -10,7 +10,7 @@ use Rattle.ov_model.specs.Grammar.{Joined, every, any, IsConj, IsDisj, IsNegatio
 use Rattle.ov_parse.specs.Reading.{◌>>=◌, Reading, or_else, made_at, same_word, eaten, list_at, conj_at, disj_at, closed_at, unit_at, cond_at, test_at}
 use Rattle.ov_parse.proofs.Words.{eaten-some, eaten-there}
 use Rattle.ov_parse.proofs.Readers.{bind_some, chosen, Took, Avoids, IsReader, MayFollow, list_reader}
-use Rattle.ov_parse.proofs.Tests.{test_reader, test-first}
+use Rattle.ov_parse.proofs.Comparisons.{test_reader, test-first}
 
 or_follows_and : MayFollow f.Or (f.And ∷ [])
 unfolding eaten same_word

@@ -1,9 +1,10 @@
 pub mod Conds
+pub mod Found
 pub mod Loop
 pub mod Operands
 pub mod Queries
 pub mod Readers
 pub mod Terms
-pub mod Tests
+pub mod Comparisons
 pub mod Words
 pub mod Whole

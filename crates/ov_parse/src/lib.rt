@@ -5,6 +5,8 @@ mod cond;
 mod list;
 mod part;
 mod query;
+mod say;
 mod stop;
 mod symbols;
 mod term;
+mod keywords;
