@@ -8,3 +8,8 @@ pub mod Terms
 pub mod Comparisons
 pub mod Words
 pub mod Whole
+pub mod Parsed
+pub mod Said
+pub mod Slices
+pub mod Unescape
+pub mod Signs

@@ -1,6 +1,5 @@
 -- What stands between the quotes of a name and of a text.
 --     Between bytes      the bytes stand between two quotes of one kind
---     IsInside bytes inner      the inner bytes are those between the first and the last
 --     IsEscaped bytes      the bytes spell a text between its quotes
 use Rattle.std.specs.Prelude.{◌≡◌, ℕ, ◌<◌, List, [], ◌∷◌, ◌++◌}
 use Rattle.std.specs.List.{flat_map}
@@ -11,9 +10,6 @@ pub record Between (bytes : List ℕ) : Type 0 where
   pub inner : List ℕ
   pub ascii : quote < 128
   pub bytes_are : bytes ≡ quote ∷ (inner ++ quote ∷ [])
-
-abbrev pub IsInside : List ℕ → List ℕ → Type 0
-IsInside bytes inner = (first : ℕ) × (last : ℕ) × (bytes ≡ first ∷ (inner ++ last ∷ []))
 
 pub record IsEscaped (bytes : List ℕ) : Type 0 where
   pub text : List ℕ

@@ -1,12 +1,12 @@
 //! What the tokens of a text say.
 
-ghost use Rattle.std.specs.Prelude.{◌≡◌, ◌<◌, ◌^◌, length, IfOk, string_bytes, drop};
-ghost use Rattle.std.specs.List.{AllByRecursion, flat_map};
+ghost use Rattle.std.specs.Prelude.{◌≡◌, ℕ, List, [], ◌∷◌, ◌++◌, IfOk};
+ghost use Rattle.std.specs.List.{All, flat_map};
 ghost use Rattle.ov_lex.specs.Spellings.{IsSpelling, IsInRange, escaped};
 ghost use Rattle.ov_lex.specs.declared.token.TokenKind.TheVariants as kinds;
 ghost use Rattle.ov_lex.specs.Texts.{Stands, spelling_of};
 ghost use Rattle.ov_model.specs.Grammar.{AllSay, Says, SpellingSays};
-ghost use Rattle.ov_parse.specs.Unquoting.{Between, IsInside, IsEscaped};
+ghost use Rattle.ov_parse.specs.Unquoting.{Between, IsEscaped};
 
 use crate::keywords::{keyword, sign};
 use ov_lex::{Token, TokenKind};
@@ -16,14 +16,12 @@ use std::alloc::{AllocError, Global};
 
 /// What each token says.
 pub(crate) fn symbols(alloc: Global, text: &str, tokens: &[Token]) -> Result<Vec<Symbol>, AllocError>
-    requires { AllByRecursion (Stands text.now) tokens.now }
+    requires { All (Stands text.now) tokens.now }
     ensures { IfOk result (λ said. AllSay text.now tokens.now said.items) }
 {
     let mut said = Vec::new(alloc);
-    let mut rest = tokens;
-    while let [first, others @ ..] = rest {
-        said.push(symbol(alloc, text, first)?)?;
-        rest = others;
+    for token in tokens {
+        said.push(symbol(alloc, text, token)?)?;
     }
     Ok(said)
 }
@@ -78,7 +76,7 @@ fn number(spelling: &str) -> Symbol
 /// What stands between the quotes.
 fn inside(spelling: &str) -> &str
     requires { Between spelling.now }
-    ensures { IsInside spelling.now result.now }
+    ensures { (quote : ℕ) (inner : List ℕ) → spelling.now ≡ quote ∷ (inner ++ quote ∷ []) → result.now ≡ inner }
 {
     let (front, _) = spelling.split_at(spelling.len() - 1);
     let (_, inner) = front.split_at(1);
