@@ -13,3 +13,4 @@ pub mod Said
 pub mod Slices
 pub mod Unescape
 pub mod Signs
+pub mod Deciding
