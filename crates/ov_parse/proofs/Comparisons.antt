@@ -98,7 +98,7 @@ null-takes aggregates symbols after rest tested x took e h =
     let n = bind_some (eaten f.Null (not_at rest).1) _ x h in
     let same : (cond.IsNull tested (not_at rest).0, n.0) ≡ x = cc (n.2) in
     let is : after ≡ fixed f.Is ∷ (not_word (not_at rest).0 ++ fixed f.Null ∷ n.0) =
-      eaten-some f.Is after rest e ∙ ap (λ (ss : List Symbol). fixed f.Is ∷ ss) (not-takes rest ∙ ap (λ (ss : List Symbol). not_word (not_at rest).0 ++ ss) (eaten-some f.Null (not_at rest).1 n.0 n.1)) in
+    eaten-some f.Is after rest e ∙ ap (λ (ss : List Symbol). fixed f.Is ∷ ss) (not-takes rest ∙ ap (λ (ss : List Symbol). not_word (not_at rest).0 ++ ss) (eaten-some f.Null (not_at rest).1 n.0 n.1)) in
     let used : List Symbol = took.used ++ fixed f.Is ∷ (not_word (not_at rest).0 ++ fixed f.Null ∷ []) in
     let whole : symbols ≡ used ++ n.0 = took.parts ∙ (ap (λ (ss : List Symbol). took.used ++ ss) is ∙ (simp append_assoc)) in
     subst (λ (y : Cond × List Symbol). Took (IsTest aggregates) symbols y) same (record {

@@ -34,29 +34,29 @@ one_text (x ∷ xs) [] e = elim (cases_Bool (x == 39)) [
 one_text (x ∷ xs) (y ∷ ys) e = elim (cases_Bool (x == 39)) [
   | inl p ↦ elim (cases_Bool (y == 39)) [
     | inl q ↦
-      let same : 39 ∷ 39 ∷ flat_map escaped xs ≡ 39 ∷ 39 ∷ flat_map escaped ys = rw (p, q) at e in
-      let more : flat_map escaped xs ≡ flat_map escaped ys = cc in
-      let first : x ≡ y = eqb-true x 39 p ∙ sym (eqb-true y 39 q) in
-      let rest : xs ≡ ys = one_text xs ys more in
-      cc
+        let same : 39 ∷ 39 ∷ flat_map escaped xs ≡ 39 ∷ 39 ∷ flat_map escaped ys = rw (p, q) at e in
+        let more : flat_map escaped xs ≡ flat_map escaped ys = cc in
+        let first : x ≡ y = eqb-true x 39 p ∙ sym (eqb-true y 39 q) in
+        let rest : xs ≡ ys = one_text xs ys more in
+        cc
     | inr q ↦
-      let same : 39 ∷ 39 ∷ flat_map escaped xs ≡ y ∷ flat_map escaped ys = rw (p, q) at e in
-      let first : y ≡ 39 = cc in
-      let is : (y == 39) ≡ true = rw first refl in
-      absurd cc
+        let same : 39 ∷ 39 ∷ flat_map escaped xs ≡ y ∷ flat_map escaped ys = rw (p, q) at e in
+        let first : y ≡ 39 = cc in
+        let is : (y == 39) ≡ true = rw first refl in
+        absurd cc
   ]
   | inr p ↦ elim (cases_Bool (y == 39)) [
     | inl q ↦
-      let same : x ∷ flat_map escaped xs ≡ 39 ∷ 39 ∷ flat_map escaped ys = rw (p, q) at e in
-      let first : x ≡ 39 = cc in
-      let is : (x == 39) ≡ true = rw first refl in
-      absurd cc
+        let same : x ∷ flat_map escaped xs ≡ 39 ∷ 39 ∷ flat_map escaped ys = rw (p, q) at e in
+        let first : x ≡ 39 = cc in
+        let is : (x == 39) ≡ true = rw first refl in
+        absurd cc
     | inr q ↦
-      let same : x ∷ flat_map escaped xs ≡ y ∷ flat_map escaped ys = rw (p, q) at e in
-      let first : x ≡ y = cc in
-      let more : flat_map escaped xs ≡ flat_map escaped ys = cc in
-      let rest : xs ≡ ys = one_text xs ys more in
-      cc
+        let same : x ∷ flat_map escaped xs ≡ y ∷ flat_map escaped ys = rw (p, q) at e in
+        let first : x ≡ y = cc in
+        let more : flat_map escaped xs ≡ flat_map escaped ys = cc in
+        let rest : xs ≡ ys = one_text xs ys more in
+        cc
   ]
 ]
 

@@ -64,9 +64,9 @@ unfolding operand_at
 operand-takes aggregates [] x e = absurd cc
 operand-takes aggregates (s ∷ symbols) x e = elim (either_way (is_literal s) _ _ (Some x) e) [
   | inl p ↦
-    let l = bind_some (literal_of s) _ x p.1 in
-    let same : (operand.Literal l.0, symbols) ≡ x = cc (l.2) in
-    subst (λ (y : Operand × List Symbol). Took (IsOperand aggregates) (s ∷ symbols) y) same (record { used = s ∷ []; parts = refl; spelled = literal-sound s l.0 l.1 })
+      let l = bind_some (literal_of s) _ x p.1 in
+      let same : (operand.Literal l.0, symbols) ≡ x = cc (l.2) in
+      subst (λ (y : Operand × List Symbol). Took (IsOperand aggregates) (s ∷ symbols) y) same (record { used = s ∷ []; parts = refl; spelled = literal-sound s l.0 l.1 })
   | inr p ↦ standing-takes aggregates (s ∷ symbols) x p.1
 ]
 
@@ -157,9 +157,9 @@ lineage-takes symbols x e =
     let counts = count_reader.takes o.0 n.0 n.1 in
     let same : ((k.0.0, n.0.0), c.0) ≡ x = cc (c.2) in
     let whole : symbols ≡ fixed (lineage_word k.0.0) ∷ fixed f.Open ∷ Number (pos n.0.0) false ∷ fixed f.Close ∷ c.0 =
-      kinds.parts ∙ (ap (λ (ss : List Symbol). ss ++ k.0.1) kinds.spelled ∙ ap (λ (ss : List Symbol). fixed (lineage_word k.0.0) ∷ ss)
-      (eaten-some f.Open k.0.1 o.0 o.1 ∙ ap (λ (ss : List Symbol). fixed f.Open ∷ ss)
-      (counts.parts ∙ (ap (λ (ss : List Symbol). ss ++ n.0.1) counts.spelled ∙ ap (λ (ss : List Symbol). Number (pos n.0.0) false ∷ ss) (eaten-some f.Close n.0.1 c.0 c.1))))) in
+    kinds.parts ∙ (ap (λ (ss : List Symbol). ss ++ k.0.1) kinds.spelled ∙ ap (λ (ss : List Symbol). fixed (lineage_word k.0.0) ∷ ss)
+    (eaten-some f.Open k.0.1 o.0 o.1 ∙ ap (λ (ss : List Symbol). fixed f.Open ∷ ss)
+    (counts.parts ∙ (ap (λ (ss : List Symbol). ss ++ n.0.1) counts.spelled ∙ ap (λ (ss : List Symbol). Number (pos n.0.0) false ∷ ss) (eaten-some f.Close n.0.1 c.0 c.1))))) in
     subst (λ (y : (LineageKind × ℕ) × List Symbol). Took IsPairLineage symbols y) same (record { used = fixed (lineage_word k.0.0) ∷ fixed f.Open ∷ Number (pos n.0.0) false ∷ fixed f.Close ∷ []; parts = whole; spelled = refl })
 
 lineage-by : (kind : LineageKind) (vid : ℕ) (rest : List Symbol) → lineage_at (fixed (lineage_word kind) ∷ fixed f.Open ∷ Number (pos vid) false ∷ fixed f.Close ∷ rest) ≡ Some ((kind, vid), rest)

@@ -57,13 +57,13 @@ items-takes : (symbols : List Symbol) (x : Items × List Symbol) → items_at sy
 unfolding items_at
 items-takes symbols x e = elim (chosen (eaten f.Star symbols) _ _ x e) [
   | inl s ↦
-    let same : (items.Everything, s.0) ≡ x = cc (s.2) in
-    subst (λ (y : Items × List Symbol). Took IsItems symbols y) same (record { used = fixed f.Star ∷ []; parts = eaten-some f.Star symbols s.0 s.1; spelled = refl })
+      let same : (items.Everything, s.0) ≡ x = cc (s.2) in
+      subst (λ (y : Items × List Symbol). Took IsItems symbols y) same (record { used = fixed f.Star ∷ []; parts = eaten-some f.Star symbols s.0 s.1; spelled = refl })
   | inr t ↦
-    let l = bind_some (list_at f.Comma term_at symbols) _ x t.1 in
-    let took = terms.takes symbols l.0 l.1 in
-    let same : (items.Terms l.0.0, l.0.1) ≡ x = cc (l.2) in
-    subst (λ (y : Items × List Symbol). Took IsItems symbols y) same (record { used = took.used; parts = took.parts; spelled = took.spelled })
+      let l = bind_some (list_at f.Comma term_at symbols) _ x t.1 in
+      let took = terms.takes symbols l.0 l.1 in
+      let same : (items.Terms l.0.0, l.0.1) ≡ x = cc (l.2) in
+      subst (λ (y : Items × List Symbol). Took IsItems symbols y) same (record { used = took.used; parts = took.parts; spelled = took.spelled })
 ]
 
 items-again : (used rest : List Symbol) (i : Items) → IsItems used i → Avoids (f.Comma ∷ []) rest → items_at (used ++ rest) ≡ Some (i, rest)
@@ -183,17 +183,17 @@ guard-takes : (word : Fixed) (aggregates : Bool) (symbols : List Symbol) (x : Op
 unfolding guard_at
 guard-takes word aggregates symbols x e = elim (chosen (eaten word symbols) _ _ x e) [
   | inl w ↦
-    let c = bind_some (cond_at aggregates 100 w.0) _ x w.2 in
-    let took = (cond_reader aggregates 100).takes w.0 c.0 c.1 in
-    let same : (Some c.0.0, c.0.1) ≡ x = cc (c.2) in
-    subst (λ (y : Option Cond × List Symbol). Took (IsGuard word aggregates) symbols y) same (record {
-      used = fixed word ∷ took.used;
-      parts = eaten-some word symbols w.0 w.1 ∙ ap (λ (ss : List Symbol). fixed word ∷ ss) took.parts;
-      spelled = (took.used, refl, took.spelled);
-    })
+      let c = bind_some (cond_at aggregates 100 w.0) _ x w.2 in
+      let took = (cond_reader aggregates 100).takes w.0 c.0 c.1 in
+      let same : (Some c.0.0, c.0.1) ≡ x = cc (c.2) in
+      subst (λ (y : Option Cond × List Symbol). Took (IsGuard word aggregates) symbols y) same (record {
+        used = fixed word ∷ took.used;
+        parts = eaten-some word symbols w.0 w.1 ∙ ap (λ (ss : List Symbol). fixed word ∷ ss) took.parts;
+        spelled = (took.used, refl, took.spelled);
+      })
   | inr w ↦
-    let same : (None, symbols) ≡ x = cc (w.1) in
-    subst (λ (y : Option Cond × List Symbol). Took (IsGuard word aggregates) symbols y) same (record { used = []; parts = refl; spelled = refl })
+      let same : (None, symbols) ≡ x = cc (w.1) in
+      subst (λ (y : Option Cond × List Symbol). Took (IsGuard word aggregates) symbols y) same (record { used = []; parts = refl; spelled = refl })
 ]
 
 guard-again : (word : Fixed) (aggregates : Bool) (used rest : List Symbol) (c : Option Cond) → IsGuard word aggregates used c → Avoids (word ∷ f.Or ∷ f.And ∷ []) rest → guard_at word aggregates (used ++ rest) ≡ Some (c, rest)

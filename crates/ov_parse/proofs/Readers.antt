@@ -73,16 +73,16 @@ module _ {A : Type 0} (between : Fixed) (words : List Fixed) (R : List Symbol �
   more-takes zero symbols x e = let same : ([], symbols) ≡ x = cc in subst (λ (y : List A × List Symbol). Took (Tail between R) symbols y) same (record { used = []; parts = refl; spelled = refl })
   more-takes (suc n) symbols x e = elim (chosen (eaten between symbols) _ _ x e) [
     | inl go ↦
-      let i = bind_some (at go.0) _ x go.2 in
-      let m = bind_some (more_at between at n i.0.1) _ x i.2 in
-      let took = item.takes go.0 i.0 i.1 in
-      let rest = more-takes n i.0.1 m.0 m.1 in
-      let same : (i.0.0 ∷ m.0.0, m.0.1) ≡ x = cc (m.2) in
-      subst (λ (y : List A × List Symbol). Took (Tail between R) symbols y) same (record {
-        used = fixed between ∷ (took.used ++ rest.used);
-        parts = eaten-some between symbols go.0 go.1 ∙ ap (λ (ss : List Symbol). fixed between ∷ ss) (took.parts ∙ (ap (λ (ss : List Symbol). took.used ++ ss) rest.parts ∙ sym (append_assoc took.used rest.used m.0.1)));
-        spelled = (took.used, rest.used, refl, took.spelled, rest.spelled);
-      })
+        let i = bind_some (at go.0) _ x go.2 in
+        let m = bind_some (more_at between at n i.0.1) _ x i.2 in
+        let took = item.takes go.0 i.0 i.1 in
+        let rest = more-takes n i.0.1 m.0 m.1 in
+        let same : (i.0.0 ∷ m.0.0, m.0.1) ≡ x = cc (m.2) in
+        subst (λ (y : List A × List Symbol). Took (Tail between R) symbols y) same (record {
+          used = fixed between ∷ (took.used ++ rest.used);
+          parts = eaten-some between symbols go.0 go.1 ∙ ap (λ (ss : List Symbol). fixed between ∷ ss) (took.parts ∙ (ap (λ (ss : List Symbol). took.used ++ ss) rest.parts ∙ sym (append_assoc took.used rest.used m.0.1)));
+          spelled = (took.used, rest.used, refl, took.spelled, rest.spelled);
+        })
     | inr stop ↦ let same : ([], symbols) ≡ x = cc (stop.1) in subst (λ (y : List A × List Symbol). Took (Tail between R) symbols y) same (record { used = []; parts = refl; spelled = refl })
   ]
 

@@ -184,7 +184,7 @@ all-takes symbols inside rest x e star o s h =
     let c = bind_some (eaten f.Close rest) _ x h in
     let same : (term.CountAll, c.0) ≡ x = cc (c.2) in
     let whole : symbols ≡ fixed f.Count ∷ fixed f.Open ∷ fixed f.Star ∷ fixed f.Close ∷ c.0 =
-      eaten-some f.Count symbols inside e ∙ ap (λ (ss : List Symbol). fixed f.Count ∷ ss) (eaten-some f.Open inside star o ∙ ap (λ (ss : List Symbol). fixed f.Open ∷ ss) (eaten-some f.Star star rest s ∙ ap (λ (ss : List Symbol). fixed f.Star ∷ ss) (eaten-some f.Close rest c.0 c.1))) in
+    eaten-some f.Count symbols inside e ∙ ap (λ (ss : List Symbol). fixed f.Count ∷ ss) (eaten-some f.Open inside star o ∙ ap (λ (ss : List Symbol). fixed f.Open ∷ ss) (eaten-some f.Star star rest s ∙ ap (λ (ss : List Symbol). fixed f.Star ∷ ss) (eaten-some f.Close rest c.0 c.1))) in
     subst (λ (y : Term × List Symbol). Took IsTerm symbols y) same (record { used = fixed f.Count ∷ fixed f.Open ∷ fixed f.Star ∷ fixed f.Close ∷ []; parts = whole; spelled = refl })
 
 counted-takes : (symbols inside : List Symbol) (x : Term × List Symbol) → eaten f.Count symbols ≡ Some inside → counted_at inside ≡ Some x → Took IsTerm symbols x

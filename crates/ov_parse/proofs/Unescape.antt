@@ -30,7 +30,7 @@ plain b bytes [] other e = absurd cc
 plain b bytes (o ∷ os) other e = elim (cases_Bool (o == 39)) [
   | inl t ↦ let same : b ∷ bytes ≡ 39 ∷ 39 ∷ flat_map escaped os = rw t at e in let first : b ≡ 39 = cc in absurd (other first)
   | inr t ↦ let same : b ∷ bytes ≡ o ∷ flat_map escaped os = rw t at e in let first : o ≡ b = cc in let more : bytes ≡ flat_map escaped os = cc in
-    record { more = os; others_are = ap (λ (x : ℕ). x ∷ os) first; bytes_are = more }
+      record { more = os; others_are = ap (λ (x : ℕ). x ∷ os) first; bytes_are = more }
 ]
 
 pub left_more : (inner text rest : List ℕ) (at : ℕ) → Left inner text rest at → at < length rest → (get_or rest at 0 ≡ 39 → ⊥) → Left inner text rest (at + 1)
@@ -49,7 +49,7 @@ pair : (b : ℕ) (bytes others : List ℕ) → b ≡ 39 → b ∷ bytes ≡ flat
 pair b bytes [] quote e = absurd cc
 pair b bytes (o ∷ os) quote e = elim (cases_Bool (o == 39)) [
   | inl t ↦ let same : b ∷ bytes ≡ 39 ∷ 39 ∷ flat_map escaped os = rw t at e in let more : bytes ≡ 39 ∷ flat_map escaped os = cc in
-    record { more = os; others_are = ap (λ (x : ℕ). x ∷ os) (eqb-true o 39 t); bytes_are = more }
+      record { more = os; others_are = ap (λ (x : ℕ). x ∷ os) (eqb-true o 39 t); bytes_are = more }
   | inr t ↦ let same : b ∷ bytes ≡ o ∷ flat_map escaped os = rw t at e in let first : o ≡ 39 = cc in let is : (o == 39) ≡ true = rw first refl in absurd cc
 ]
 

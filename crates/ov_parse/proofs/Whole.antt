@@ -87,8 +87,8 @@ unfolding grouping_at
 grouping-takes symbols x e = elim (chosen (eaten f.Group symbols) grouped_at _ x e) [
   | inl g ↦ grouped-takes symbols g.0 x g.1 g.2
   | inr g ↦
-    let same : (([], None), symbols) ≡ x = cc (g.1) in
-    subst (λ (y : (List Col × Option Cond) × List Symbol). Took IsGroupingPair symbols y) same (record { used = []; parts = refl; spelled = (refl, refl) })
+      let same : (([], None), symbols) ≡ x = cc (g.1) in
+      subst (λ (y : (List Col × Option Cond) × List Symbol). Took IsGroupingPair symbols y) same (record { used = []; parts = refl; spelled = (refl, refl) })
 ]
 
 comma_no_having : same_word f.Comma f.Having ≡ false
@@ -171,16 +171,16 @@ order-takes : (symbols : List Symbol) (x : List Key × List Symbol) → order_at
 unfolding order_at ordered_at
 order-takes symbols x e = elim (chosen (eaten f.Order symbols) ordered_at _ x e) [
   | inl o ↦
-    let b = bind_some (eaten f.By o.0) _ x o.2 in
-    let took = keys.takes b.0 x b.2 in
-    record {
-      used = fixed f.Order ∷ fixed f.By ∷ took.used;
-      parts = eaten-some f.Order symbols o.0 o.1 ∙ ap (λ (ss : List Symbol). fixed f.Order ∷ ss) (eaten-some f.By o.0 b.0 b.1 ∙ ap (λ (ss : List Symbol). fixed f.By ∷ ss) took.parts);
-      spelled = order-some _ took.used x.0 refl took.spelled;
-    }
+      let b = bind_some (eaten f.By o.0) _ x o.2 in
+      let took = keys.takes b.0 x b.2 in
+      record {
+        used = fixed f.Order ∷ fixed f.By ∷ took.used;
+        parts = eaten-some f.Order symbols o.0 o.1 ∙ ap (λ (ss : List Symbol). fixed f.Order ∷ ss) (eaten-some f.By o.0 b.0 b.1 ∙ ap (λ (ss : List Symbol). fixed f.By ∷ ss) took.parts);
+        spelled = order-some _ took.used x.0 refl took.spelled;
+      }
   | inr o ↦
-    let same : ([], symbols) ≡ x = cc (o.1) in
-    subst (λ (y : List Key × List Symbol). Took IsOrder symbols y) same (record { used = []; parts = refl; spelled = refl })
+      let same : ([], symbols) ≡ x = cc (o.1) in
+      subst (λ (y : List Key × List Symbol). Took IsOrder symbols y) same (record { used = []; parts = refl; spelled = refl })
 ]
 
 order-again : (used rest : List Symbol) (ks : List Key) → IsOrder used ks → Avoids (f.Order ∷ f.Comma ∷ f.Desc ∷ f.Asc ∷ []) rest → order_at (used ++ rest) ≡ Some (ks, rest)
@@ -194,17 +194,17 @@ limit-takes : (symbols : List Symbol) (x : Option ℕ × List Symbol) → limit_
 unfolding limit_at
 limit-takes symbols x e = elim (chosen (eaten f.Limit symbols) _ _ x e) [
   | inl l ↦
-    let n = bind_some (count_at l.0) _ x l.2 in
-    let took = count_reader.takes l.0 n.0 n.1 in
-    let same : (Some n.0.0, n.0.1) ≡ x = cc (n.2) in
-    subst (λ (y : Option ℕ × List Symbol). Took IsLimit symbols y) same (record {
-      used = fixed f.Limit ∷ Number (pos n.0.0) false ∷ [];
-      parts = eaten-some f.Limit symbols l.0 l.1 ∙ ap (λ (ss : List Symbol). fixed f.Limit ∷ ss) (took.parts ∙ ap (λ (ss : List Symbol). ss ++ n.0.1) took.spelled);
-      spelled = refl;
-    })
+      let n = bind_some (count_at l.0) _ x l.2 in
+      let took = count_reader.takes l.0 n.0 n.1 in
+      let same : (Some n.0.0, n.0.1) ≡ x = cc (n.2) in
+      subst (λ (y : Option ℕ × List Symbol). Took IsLimit symbols y) same (record {
+        used = fixed f.Limit ∷ Number (pos n.0.0) false ∷ [];
+        parts = eaten-some f.Limit symbols l.0 l.1 ∙ ap (λ (ss : List Symbol). fixed f.Limit ∷ ss) (took.parts ∙ ap (λ (ss : List Symbol). ss ++ n.0.1) took.spelled);
+        spelled = refl;
+      })
   | inr l ↦
-    let same : (None, symbols) ≡ x = cc (l.1) in
-    subst (λ (y : Option ℕ × List Symbol). Took IsLimit symbols y) same (record { used = []; parts = refl; spelled = refl })
+      let same : (None, symbols) ≡ x = cc (l.1) in
+      subst (λ (y : Option ℕ × List Symbol). Took IsLimit symbols y) same (record { used = []; parts = refl; spelled = refl })
 ]
 
 limit-again : (used rest : List Symbol) (n : Option ℕ) → IsLimit used n → eaten f.Limit rest ≡ None → limit_at (used ++ rest) ≡ Some (n, rest)
@@ -291,8 +291,8 @@ query-again symbols q h =
     let tail : List Symbol = h.ordered ++ (h.limited ++ h.ended) in
     let head = head-again h.shown h.read (h.kept ++ (h.grouped ++ (h.ordered ++ (h.limited ++ h.ended)))) q.items q.source h.items_are h.source_is in
     let kept = kept-again h.kept h.grouped (h.ordered ++ (h.limited ++ h.ended)) q.filter q.groups q.having h.filter_is h.grouping_is
-      (after_filter_all h.grouped h.ordered h.limited h.ended q.groups q.having q.order q.limit h.grouping_is h.order_is h.limit_is h.end_is)
-      (after_groups_all h.ordered h.limited h.ended q.order q.limit h.order_is h.limit_is h.end_is) in
+    (after_filter_all h.grouped h.ordered h.limited h.ended q.groups q.having q.order q.limit h.grouping_is h.order_is h.limit_is h.end_is)
+    (after_groups_all h.ordered h.limited h.ended q.order q.limit h.order_is h.limit_is h.end_is) in
     rw (h.symbols_are, head, kept, tail-again h.ordered h.limited h.ended q.order q.limit h.order_is h.limit_is h.end_is) refl
 
 pub record TookTail (symbols : List Symbol) (x : List Key × Option ℕ) : Type 0 where
@@ -313,9 +313,13 @@ tail-takes symbols x e =
     let took = order-takes symbols o.0 o.1 in
     let limit = limit-takes o.0.1 l.0 l.1 in
     subst (λ (y : List Key × Option ℕ). TookTail symbols y) k.1 (record {
-      ordered = took.used; limited = limit.used; ended = l.0.1;
+      ordered = took.used;
+      limited = limit.used;
+      ended = l.0.1;
       parts = took.parts ∙ ap (λ (ss : List Symbol). took.used ++ ss) limit.parts;
-      order_is = took.spelled; limit_is = limit.spelled; end_is = end-takes l.0.1 k.0;
+      order_is = took.spelled;
+      limit_is = limit.spelled;
+      end_is = end-takes l.0.1 k.0;
     })
 
 pub record TookHead (symbols : List Symbol) (x : (Items × Src) × List Symbol) : Type 0 where
@@ -336,9 +340,11 @@ head-takes symbols x e =
     let read = source_reader.takes m.0 r.0 r.1 in
     let same : ((i.0.0, r.0.0), r.0.1) ≡ x = cc (r.2) in
     subst (λ (y : (Items × Src) × List Symbol). TookHead symbols y) same (record {
-      shown = shown.used; read = read.used;
+      shown = shown.used;
+      read = read.used;
       parts = eaten-some f.Select symbols s.0 s.1 ∙ ap (λ (ss : List Symbol). fixed f.Select ∷ ss) (shown.parts ∙ ap (λ (ss : List Symbol). shown.used ++ ss) (eaten-some f.From i.0.1 m.0 m.1 ∙ ap (λ (ss : List Symbol). fixed f.From ∷ ss) read.parts));
-      items_are = shown.spelled; source_is = read.spelled;
+      items_are = shown.spelled;
+      source_is = read.spelled;
     })
 
 pub record TookKept (symbols : List Symbol) (x : (Option Cond × (List Col × Option Cond)) × List Symbol) : Type 0 where
@@ -357,9 +363,11 @@ kept-takes symbols x e =
     let grouped = grouping-takes w.0.1 g.0 g.1 in
     let same : ((w.0.0, g.0.0), g.0.1) ≡ x = cc (g.2) in
     subst (λ (y : (Option Cond × (List Col × Option Cond)) × List Symbol). TookKept symbols y) same (record {
-      kept = kept.used; grouped = grouped.used;
+      kept = kept.used;
+      grouped = grouped.used;
       parts = kept.parts ∙ ap (λ (ss : List Symbol). kept.used ++ ss) grouped.parts;
-      filter_is = kept.spelled; grouping_is = grouped.spelled;
+      filter_is = kept.spelled;
+      grouping_is = grouped.spelled;
     })
 
 pub query-takes : (symbols : List Symbol) (q : Query) → query_of symbols ≡ Some q → SpellsQuery symbols q
@@ -373,7 +381,19 @@ query-takes symbols q e =
     let tail = tail-takes k.0.1 t.0 t.1 in
     let same : made_of h.0.0 k.0.0 t.0 ≡ q = cc (t.2) in
     subst (λ (r : Query). SpellsQuery symbols r) same (record {
-      shown = head.shown; read = head.read; kept = kept.kept; grouped = kept.grouped; ordered = tail.ordered; limited = tail.limited; ended = tail.ended;
+      shown = head.shown;
+      read = head.read;
+      kept = kept.kept;
+      grouped = kept.grouped;
+      ordered = tail.ordered;
+      limited = tail.limited;
+      ended = tail.ended;
       symbols_are = head.parts ∙ ap (λ (ss : List Symbol). fixed f.Select ∷ (head.shown ++ fixed f.From ∷ (head.read ++ ss))) (kept.parts ∙ ap (λ (ss : List Symbol). kept.kept ++ (kept.grouped ++ ss)) tail.parts);
-      items_are = head.items_are; source_is = head.source_is; filter_is = kept.filter_is; grouping_is = kept.grouping_is; order_is = tail.order_is; limit_is = tail.limit_is; end_is = tail.end_is;
+      items_are = head.items_are;
+      source_is = head.source_is;
+      filter_is = kept.filter_is;
+      grouping_is = kept.grouping_is;
+      order_is = tail.order_is;
+      limit_is = tail.limit_is;
+      end_is = tail.end_is;
     })

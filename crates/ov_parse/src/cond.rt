@@ -35,7 +35,12 @@ fn null(tested: Operand, symbols: &[Symbol]) -> Result<(Cond, &[Symbol]), Stop>
 
 /// What stands behind the left side of a comparison.
 #[tactic(auto, unfolding(crate::specs::Reading::comparison_at))]
-fn comparison(alloc: Global, aggregates: bool, left: Operand, symbols: &[Symbol]) -> Result<(Cond, &[Symbol]), Stop>
+fn comparison(
+    alloc: Global,
+    aggregates: bool,
+    left: Operand,
+    symbols: &[Symbol],
+) -> Result<(Cond, &[Symbol]), Stop>
     ensures { Gives (λ x. (x.0, x.1.now)) result (comparison_at aggregates left symbols.now) }
 {
     let (by, rest) = sign(symbols)?;
@@ -44,7 +49,11 @@ fn comparison(alloc: Global, aggregates: bool, left: Operand, symbols: &[Symbol]
 }
 
 #[tactic(auto, unfolding(crate::specs::Reading::operand_test_at))]
-fn operand_test(alloc: Global, aggregates: bool, symbols: &[Symbol]) -> Result<(Cond, &[Symbol]), Stop>
+fn operand_test(
+    alloc: Global,
+    aggregates: bool,
+    symbols: &[Symbol],
+) -> Result<(Cond, &[Symbol]), Stop>
     ensures { Gives (λ x. (x.0, x.1.now)) result (operand_test_at aggregates symbols.now) }
 {
     let (left, rest) = operand(alloc, aggregates, symbols)?;
@@ -102,7 +111,11 @@ fn any(members: Items<Cond>) -> Cond
 const MAX_DEPTH: u8 = 100;
 
 /// A condition in which aggregates may stand or not, and what stands behind it.
-pub(crate) fn condition(alloc: Global, aggregates: bool, symbols: &[Symbol]) -> Result<(Cond, &[Symbol]), Stop>
+pub(crate) fn condition(
+    alloc: Global,
+    aggregates: bool,
+    symbols: &[Symbol],
+) -> Result<(Cond, &[Symbol]), Stop>
     ensures { Gives (λ x. (x.0, x.1.now)) result (cond_at aggregates 100 symbols.now) }
 {
     disj(alloc, aggregates, MAX_DEPTH, symbols)
@@ -111,7 +124,12 @@ pub(crate) fn condition(alloc: Global, aggregates: bool, symbols: &[Symbol]) -> 
 /// Members with OR between each two.
 #[cycle(conditions)]
 #[tactic(auto, unfolding(crate::specs::Reading::cond_at, crate::specs::Reading::disj_at))]
-fn disj(alloc: Global, aggregates: bool, depth: u8, symbols: &[Symbol]) -> Result<(Cond, &[Symbol]), Stop>
+fn disj(
+    alloc: Global,
+    aggregates: bool,
+    depth: u8,
+    symbols: &[Symbol],
+) -> Result<(Cond, &[Symbol]), Stop>
     ensures { Gives (λ x. (x.0, x.1.now)) result (cond_at aggregates depth symbols.now) }
 {
     let (members, rest) = conjs(alloc, aggregates, depth, symbols)?;
@@ -120,7 +138,12 @@ fn disj(alloc: Global, aggregates: bool, depth: u8, symbols: &[Symbol]) -> Resul
 
 #[cycle(conditions)]
 #[tactic(auto, unfolding(crate::specs::Reading::list_at))]
-fn conjs(alloc: Global, aggregates: bool, depth: u8, symbols: &[Symbol]) -> Result<(Items<Cond>, &[Symbol]), Stop>
+fn conjs(
+    alloc: Global,
+    aggregates: bool,
+    depth: u8,
+    symbols: &[Symbol],
+) -> Result<(Items<Cond>, &[Symbol]), Stop>
     ensures { Gives (λ x. (x.0, x.1.now)) result (list_at f.Or (conj_at (unit_at aggregates depth)) symbols.now) }
 {
     let (first, start) = conj(alloc, aggregates, depth, symbols)?;
@@ -141,7 +164,12 @@ fn conjs(alloc: Global, aggregates: bool, depth: u8, symbols: &[Symbol]) -> Resu
 /// Members with AND between each two.
 #[cycle(conditions)]
 #[tactic(auto, unfolding(crate::specs::Reading::conj_at))]
-fn conj(alloc: Global, aggregates: bool, depth: u8, symbols: &[Symbol]) -> Result<(Cond, &[Symbol]), Stop>
+fn conj(
+    alloc: Global,
+    aggregates: bool,
+    depth: u8,
+    symbols: &[Symbol],
+) -> Result<(Cond, &[Symbol]), Stop>
     ensures { Gives (λ x. (x.0, x.1.now)) result (conj_at (unit_at aggregates depth) symbols.now) }
 {
     let (members, rest) = units(alloc, aggregates, depth, symbols)?;
@@ -150,7 +178,12 @@ fn conj(alloc: Global, aggregates: bool, depth: u8, symbols: &[Symbol]) -> Resul
 
 #[cycle(conditions)]
 #[tactic(auto, unfolding(crate::specs::Reading::list_at))]
-fn units(alloc: Global, aggregates: bool, depth: u8, symbols: &[Symbol]) -> Result<(Items<Cond>, &[Symbol]), Stop>
+fn units(
+    alloc: Global,
+    aggregates: bool,
+    depth: u8,
+    symbols: &[Symbol],
+) -> Result<(Items<Cond>, &[Symbol]), Stop>
     ensures { Gives (λ x. (x.0, x.1.now)) result (list_at f.And (unit_at aggregates depth) symbols.now) }
 {
     let (first, start) = unit(alloc, aggregates, depth, symbols)?;
@@ -171,7 +204,12 @@ fn units(alloc: Global, aggregates: bool, depth: u8, symbols: &[Symbol]) -> Resu
 /// A test, or NOT and a unit, or a condition in parentheses.
 #[cycle(conditions)]
 #[tactic(auto, unfolding(crate::specs::Reading::unit_at))]
-fn unit(alloc: Global, aggregates: bool, depth: u8, symbols: &[Symbol]) -> Result<(Cond, &[Symbol]), Stop>
+fn unit(
+    alloc: Global,
+    aggregates: bool,
+    depth: u8,
+    symbols: &[Symbol],
+) -> Result<(Cond, &[Symbol]), Stop>
     ensures { Gives (λ x. (x.0, x.1.now)) result (unit_at aggregates depth symbols.now) }
 {
     if depth == 0 {
@@ -190,7 +228,12 @@ fn unit(alloc: Global, aggregates: bool, depth: u8, symbols: &[Symbol]) -> Resul
 /// A condition and the parenthesis behind it.
 #[cycle(conditions)]
 #[tactic(auto, unfolding(crate::specs::Reading::closed_at, crate::specs::Reading::cond_at))]
-fn closed(alloc: Global, aggregates: bool, depth: u8, symbols: &[Symbol]) -> Result<(Cond, &[Symbol]), Stop>
+fn closed(
+    alloc: Global,
+    aggregates: bool,
+    depth: u8,
+    symbols: &[Symbol],
+) -> Result<(Cond, &[Symbol]), Stop>
     ensures { Gives (λ x. (x.0, x.1.now)) result (closed_at (disj_at (conj_at (unit_at aggregates depth))) symbols.now) }
 {
     let (cond, rest) = disj(alloc, aggregates, depth, symbols)?;

@@ -14,7 +14,10 @@ use std::alloc::Global;
 
 /// Items with a comma between each two, at least one, and what stands behind them.
 #[tactic(auto, unfolding(crate::specs::Reading::list_at))]
-pub(crate) fn listed<T: Part>(alloc: Global, symbols: &[Symbol]) -> Result<(Items<T>, &[Symbol]), Stop>
+pub(crate) fn listed<T: Part>(
+    alloc: Global,
+    symbols: &[Symbol],
+) -> Result<(Items<T>, &[Symbol]), Stop>
     ensures { Gives (λ x. (x.0, x.1.now)) result (list_at f.Comma T.at symbols.now) }
 {
     let (first, rest) = T::read(alloc, symbols)?;

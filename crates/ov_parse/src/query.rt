@@ -68,7 +68,12 @@ fn source(alloc: Global, symbols: &[Symbol]) -> Result<(Src, &[Symbol]), Stop>
 
 /// A condition behind this keyword, if it stands here.
 #[tactic(auto, unfolding(crate::specs::Reading::guard_at))]
-fn guard(alloc: Global, word: Fixed, aggregates: bool, symbols: &[Symbol]) -> Result<(Option<Cond>, &[Symbol]), Stop>
+fn guard(
+    alloc: Global,
+    word: Fixed,
+    aggregates: bool,
+    symbols: &[Symbol],
+) -> Result<(Option<Cond>, &[Symbol]), Stop>
     ensures { Gives (λ x. (x.0, x.1.now)) result (guard_at word aggregates symbols.now) }
 {
     match eaten(word, symbols) {

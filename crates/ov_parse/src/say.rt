@@ -15,7 +15,11 @@ use ov_value::Txt;
 use std::alloc::{AllocError, Global};
 
 /// What each token says.
-pub(crate) fn symbols(alloc: Global, text: &str, tokens: &[Token]) -> Result<Vec<Symbol>, AllocError>
+pub(crate) fn symbols(
+    alloc: Global,
+    text: &str,
+    tokens: &[Token],
+) -> Result<Vec<Symbol>, AllocError>
     requires { All (Stands text.now) tokens.now }
     ensures { IfOk result (λ said. AllSay text.now tokens.now said.items) }
 {

@@ -31,9 +31,7 @@ pub(crate) fn eaten(word: Fixed, symbols: &[Symbol]) -> Option<&[Symbol]>
 {
     match symbols {
         [] => None,
-        [first, rest @ ..] => {
-            if is(word, first) { Some(rest) } else { None }
-        }
+        [first, rest @ ..] => { if is(word, first) { Some(rest) } else { None } }
     }
 }
 

@@ -16,7 +16,11 @@ fn col_of(alloc: Global, symbol: &Symbol) -> Result<Col, Stop>
 {
     match symbol {
         Symbol::Fixed(word) => {
-            if same(Fixed::Vid, *word) { Ok(Col::Vid) } else { Err(Stop::Unspelled) }
+            if same(Fixed::Vid, *word) {
+                Ok(Col::Vid)
+            } else {
+                Err(Stop::Unspelled)
+            }
         }
         Symbol::Name(name) => Ok(Col::Name(name.copy(alloc)?)),
         _ => Err(Stop::Unspelled),
@@ -130,7 +134,11 @@ fn may_stand(aggregates: bool, term: &Term) -> bool
 }
 
 #[tactic(auto, unfolding(crate::specs::Reading::standing_at))]
-fn standing(alloc: Global, aggregates: bool, symbols: &[Symbol]) -> Result<(Operand, &[Symbol]), Stop>
+fn standing(
+    alloc: Global,
+    aggregates: bool,
+    symbols: &[Symbol],
+) -> Result<(Operand, &[Symbol]), Stop>
     ensures { Gives (λ x. (x.0, x.1.now)) result (standing_at aggregates symbols.now) }
 {
     let (term, rest) = Term::read(alloc, symbols)?;
@@ -142,7 +150,11 @@ fn standing(alloc: Global, aggregates: bool, symbols: &[Symbol]) -> Result<(Oper
 
 /// A side of a comparison, in which aggregates may stand or not.
 #[tactic(auto, unfolding(crate::specs::Reading::operand_at))]
-pub(crate) fn operand(alloc: Global, aggregates: bool, symbols: &[Symbol]) -> Result<(Operand, &[Symbol]), Stop>
+pub(crate) fn operand(
+    alloc: Global,
+    aggregates: bool,
+    symbols: &[Symbol],
+) -> Result<(Operand, &[Symbol]), Stop>
     ensures { Gives (λ x. (x.0, x.1.now)) result (operand_at aggregates symbols.now) }
 {
     match symbols {
@@ -210,7 +222,10 @@ fn kind(symbols: &[Symbol]) -> Result<(LineageKind, &[Symbol]), Stop>
 
 /// A lineage: its kind and the number of its version.
 #[tactic(auto, unfolding(crate::specs::Reading::lineage_at))]
-pub(crate) fn lineage(alloc: Global, symbols: &[Symbol]) -> Result<((LineageKind, u64), &[Symbol]), Stop>
+pub(crate) fn lineage(
+    alloc: Global,
+    symbols: &[Symbol],
+) -> Result<((LineageKind, u64), &[Symbol]), Stop>
     ensures { Gives (λ x. (x.0, x.1.now)) result (lineage_at symbols.now) }
 {
     let (kind, rest) = kind(symbols)?;

@@ -26,6 +26,6 @@ pub loop-at-preserved : goal.loop-at-preserved
 loop-at-preserved c =
     let other : get_or c.loop-at.rest.now c.loop-at.at 0 ≡ 39 → ⊥ = rw c.as_bytes.ensures.value at c.if-as_bytes-at-eq39.false in
     record {
-  utf8 = c.loop-at.invariant.utf8;
-  left = left_more c.args.inner.now (string_bytes c.loop-at.text) c.loop-at.rest.now c.loop-at.at c.loop-at.invariant.left c.loop-at-test.true other;
-}
+      utf8 = c.loop-at.invariant.utf8;
+      left = left_more c.args.inner.now (string_bytes c.loop-at.text) c.loop-at.rest.now c.loop-at.at c.loop-at.invariant.left c.loop-at-test.true other;
+    }
