@@ -4,7 +4,7 @@
 --     IsCond aggregates symbols cond      the symbols spell this condition; aggregates may stand in it, or not
 --     SpellsQuery symbols query      the symbols spell this query
 --     Spells text tokens query      the tokens of the text spell this query
-use Rattle.std.specs.Prelude.{◌≡◌, ℕ, zero, suc, ◌⊎◌, Bool, true, false, if◌then◌else◌, pos, List, [], ◌∷◌, ◌++◌, map, codes, nat_eq, Option, Some, None}
+use Rattle.std.specs.Prelude.{◌≡◌, ℕ, zero, suc, ◌⊎◌, Bool, true, false, ◌==◌, ◌&&◌, if◌then◌else◌, ℤ, pos, List, [], ◌∷◌, ◌++◌, map, codes, nat_eq, Option, Some, None}
 use Rattle.std.specs.Cmp.Lexicographic.{pointwise}
 use Rattle.std.specs.Char.{to_ascii_lowercase}
 use Rattle.std.specs.Str.Parse.{starts_with_minus}
@@ -41,15 +41,28 @@ use Rattle.ov_model.specs.declared.query.Symbol.TheVariants.{Fixed as fixed, Nam
 -- ---- what a token says
 
 -- the keywords, as their letters are in lower case
-abbrev pub keywords : List (List ℕ × Fixed)
-keywords =
+abbrev pub clause_words : List (List ℕ × Fixed)
+clause_words =
     (codes "select", f.Select) ∷ (codes "from", f.From) ∷ (codes "version", f.Version) ∷ (codes "of", f.Of) ∷ (codes "cvd", f.Cvd)
-    ∷ (codes "where", f.Where) ∷ (codes "group", f.Group) ∷ (codes "by", f.By) ∷ (codes "having", f.Having) ∷ (codes "order", f.Order)
-    ∷ (codes "limit", f.Limit) ∷ (codes "asc", f.Asc) ∷ (codes "desc", f.Desc) ∷ (codes "and", f.And) ∷ (codes "or", f.Or)
-    ∷ (codes "not", f.Not) ∷ (codes "count", f.Count) ∷ (codes "sum", f.Sum) ∷ (codes "min", f.Min) ∷ (codes "max", f.Max)
-    ∷ (codes "true", f.True) ∷ (codes "false", f.False) ∷ (codes "vid", f.Vid) ∷ (codes "is", f.Is) ∷ (codes "null", f.Null)
-    ∷ (codes "join", f.Join) ∷ (codes "on", f.On) ∷ (codes "left", f.Left) ∷ (codes "right", f.Right) ∷ (codes "parents", f.Parents)
+    ∷ (codes "where", f.Where) ∷ (codes "group", f.Group) ∷ (codes "by", f.By) ∷ []
+
+abbrev pub order_words : List (List ℕ × Fixed)
+order_words =
+    (codes "having", f.Having) ∷ (codes "order", f.Order) ∷ (codes "limit", f.Limit) ∷ (codes "asc", f.Asc) ∷ (codes "desc", f.Desc)
+    ∷ (codes "and", f.And) ∷ (codes "or", f.Or) ∷ (codes "not", f.Not) ∷ []
+
+abbrev pub value_words : List (List ℕ × Fixed)
+value_words =
+    (codes "count", f.Count) ∷ (codes "sum", f.Sum) ∷ (codes "min", f.Min) ∷ (codes "max", f.Max) ∷ (codes "true", f.True)
+    ∷ (codes "false", f.False) ∷ (codes "vid", f.Vid) ∷ (codes "is", f.Is) ∷ (codes "null", f.Null) ∷ []
+
+abbrev pub relation_words : List (List ℕ × Fixed)
+relation_words =
+    (codes "join", f.Join) ∷ (codes "on", f.On) ∷ (codes "left", f.Left) ∷ (codes "right", f.Right) ∷ (codes "parents", f.Parents)
     ∷ (codes "ancestors", f.Ancestors) ∷ (codes "descendants", f.Descendants) ∷ (codes "in", f.In) ∷ []
+
+abbrev pub keywords : List (List ℕ × Fixed)
+keywords = clause_words ++ (order_words ++ (value_words ++ relation_words))
 
 abbrev pub signs : List (List ℕ × Fixed)
 signs =
@@ -60,7 +73,7 @@ signs =
 -- the first one that is spelled so
 unfoldable pub found_in : List (List ℕ × Fixed) → List ℕ → Option Fixed
 found_in [] bytes = None
-found_in (entry ∷ entries) bytes = if pointwise nat_eq entry.0 bytes then Some entry.1 else found_in entries bytes
+found_in (entry ∷ entries) bytes = if pointwise nat_eq bytes entry.0 then Some entry.1 else found_in entries bytes
 
 -- a keyword in any case of letters
 unfoldable pub keyword_of : List ℕ → Option Fixed

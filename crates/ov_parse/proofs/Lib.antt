@@ -1,0 +1,16 @@
+pub mod Conds
+pub mod Found
+pub mod Loop
+pub mod Operands
+pub mod Queries
+pub mod Readers
+pub mod Terms
+pub mod Comparisons
+pub mod Words
+pub mod Whole
+pub mod Parsed
+pub mod Said
+pub mod Slices
+pub mod Unescape
+pub mod Signs
+pub mod Deciding

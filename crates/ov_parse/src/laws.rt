@@ -1,0 +1,11 @@
+//! A law about queries. It is the contract of a function that does nothing.
+
+ghost use Rattle.std.specs.Prelude.{◌≡◌, ℕ, List};
+ghost use Rattle.ov_lex.specs.declared.token.Token.{Token as AToken};
+ghost use Rattle.ov_model.specs.declared.query.Query.{Query as AQuery};
+ghost use Rattle.ov_model.specs.Grammar.{Spells};
+
+/// Tokens spell one query at most.
+pub fn one_query()
+    ensures { (text : List ℕ) (tokens : List AToken) (p q : AQuery) → Spells text tokens p → Spells text tokens q → p ≡ q }
+{}
