@@ -1,10 +1,9 @@
 -- Where the text of a line may be cut.
-use Rattle.std.proofs.Common.{◌≡◌, ◌<◌, ◌≤◌, ◌+◌, ◌⊎◌, ℕ, zero, suc, Bool, true, false, not, ◌||◌, ◌==◌, cond, List, [], ◌∷◌, ◌++◌, length, take, drop, get_or, refl, sym, ◌∙◌, ap, subst, inl, inr, arith, rules, append_assoc, drop-cons}
-use Rattle.std.specs.List.{position_or_len, prefix_len}
+use Rattle.std.proofs.Common.{◌≡◌, ◌<◌, ◌≤◌, ◌+◌, ◌⊎◌, ℕ, suc, Bool, true, false, not, ◌||◌, ◌==◌, cond, List, [], ◌∷◌, ◌++◌, length, take, drop, get_or, refl, sym, ◌∙◌, ap, subst, inl, inr, arith, rules, append_assoc, drop-cons}
+use Rattle.std.specs.List.{position_or_len}
 use Rattle.std.specs.Str.{IsUtf8, IsCharBoundary, IsAscii}
-use Rattle.std.proofs.lemmas.Bool.{cases_Bool, eqb-true}
+use Rattle.std.proofs.lemmas.Bool.{eqb-true}
 use Rattle.std.proofs.lemmas.Str.{IsUtf8-append, IsUtf8-take, IsUtf8-drop, IsUtf8-from_ascii, IsCharBoundary-end, IsCharBoundary-before_ascii, IsCharBoundary-after_ascii, IsCharBoundary-from_drop}
-use Rattle.std.proofs.lemmas.Grind.{common_steps}
 use Rattle.ov_model.specs.Words.{Next, NoWord, Word, Unclosed, is_blank, is_no_blank, quoted}
 
 on_bool : (t : Bool) (P : Bool → Type 0) → (t ≡ true → P true) → (t ≡ false → P false) → P t

@@ -1,6 +1,6 @@
 -- Numbers of up to 18 digits.
-use Rattle.std.proofs.Common.{◌≡◌, ◌<◌, ◌≤◌, ◌^◌, ℕ, Bool, true, false, ◌&&◌, List, length, refl, sym, ◌∙◌, ap, arith, rules}
-use Rattle.std.specs.Prelude.{Result, Ok, Err, Some, None, nat_le}
+use Rattle.std.proofs.Common.{◌≡◌, ◌<◌, ◌≤◌, ℕ, Bool, true, ◌&&◌, List, length, refl, sym, ◌∙◌, ap, arith, rules}
+use Rattle.std.specs.Prelude.{Result, Some, None, nat_le}
 use Rattle.std.specs.Result.{result_ok}
 use Rattle.std.specs.Char.{is_ascii_digit}
 use Rattle.std.specs.List.{list_all}

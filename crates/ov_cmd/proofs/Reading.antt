@@ -1,6 +1,6 @@
 -- Options that are read one after another.
 use Rattle.std.proofs.Common.{◌≡◌, ◌≤◌, ◌+◌, ◌-◌, take, ℕ, List, [], ◌∷◌, length, drop, get_or, refl, sym, ◌∙◌, ap, arith}
-use Rattle.std.specs.Prelude.{Result, Ok, Err}
+use Rattle.std.specs.Prelude.{Ok, Err}
 use Rattle.ov_model.specs.declared.given.Given.{Given}
 use Rattle.ov_model.specs.declared.refusal.Refusal.{Refusal}
 use Rattle.ov_model.specs.Forms.{Choice}

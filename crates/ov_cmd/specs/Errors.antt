@@ -1,6 +1,6 @@
 -- The errors of reading a line, as refusals.
 --     refusal_of e      the refusal; want of memory is none, and has a place here alone
-use Rattle.std.specs.Prelude.{◌≡◌, ◌≢◌, Result, Ok, Err}
+use Rattle.std.specs.Prelude.{◌≡◌, ◌≢◌, Result, Err}
 use Rattle.ov_value.specs.declared.schema_err.SchemaErr.{SchemaErr}
 use Rattle.ov_value.specs.declared.schema_err.SchemaErr.TheVariants as bad
 use Rattle.ov_model.specs.declared.refusal.Refusal.{Refusal}

@@ -1,7 +1,7 @@
 -- The next word of a text, as the code has it.
 --     next_of n      that of the definition
 --     IsCut n      what stands behind a word is text
-use Rattle.std.specs.Prelude.{ℕ, List, IsUtf8}
+use Rattle.std.specs.Prelude.{IsUtf8}
 use Rattle.ov_model.specs.Words as line
 use Rattle.ov_cmd.specs.declared.next.Next.{Next}
 use Rattle.ov_cmd.specs.declared.next.Next.TheVariants as next

@@ -1,9 +1,8 @@
 -- The values of a line, as the code has them.
 --     values_of v      those of the definition
 --     no_value choices options nth letter      what a line's last word in an option's place comes to
-use Rattle.std.specs.Prelude.{ℕ, List, Result, Err}
+use Rattle.std.specs.Prelude.{ℕ, List, Err}
 use Rattle.ov_model.specs.declared.given.Given.{Given}
-use Rattle.ov_model.specs.declared.refusal.Refusal.{Refusal}
 use Rattle.ov_model.specs.declared.refusal.Refusal.TheVariants.{Missing}
 use Rattle.ov_model.specs.Forms as model
 use Rattle.ov_model.specs.Line.{Read, and_then, option_at}

@@ -2,7 +2,6 @@
 --     kept_text k      the text of a word
 --     next_of n      the next word and what stands behind it, as the definition has them
 use Rattle.std.specs.Prelude.{ℕ, List}
-use Rattle.ov_model.specs.Words as line
 use Rattle.ov_cmd.specs.declared.word.Kept.{Kept}
 use Rattle.ov_cmd.specs.declared.word.Kept.TheVariants as kept
 

@@ -1,6 +1,6 @@
 -- The code's table of forms, as the definition has them.
 --     form_of f      its form, of which what the values make is `make_of f.maker`
-use Rattle.std.specs.Prelude.{ℕ, List, map, Option, Some, None, Result, Ok, Err, codes}
+use Rattle.std.specs.Prelude.{map, Result, Ok}
 use Rattle.std.specs.Option.{option_map}
 use Rattle.ov_model.specs.declared.command.Command.{Command}
 use Rattle.ov_model.specs.declared.command.Command.TheVariants as asks

@@ -1,4 +1,3 @@
-use Rattle.std.proofs.Common.{ap, sym, ◌∙◌, get_or, length, subst, ◌<◌, ◌≡◌}
 use Rattle.ov_cmd.proofs.Boundaries.{behind_quote, closed_text}
 use Rattle.ov_cmd.proofs.next.quoted.Goals as goal
 
