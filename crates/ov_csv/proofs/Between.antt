@@ -1,7 +1,7 @@
 -- After a record no other has begun, a record takes a byte or more, and so the records of a text are found one by one.
-use Rattle.std.proofs.Common.{◌≡◌, ◌<◌, ◌≤◌, ◌+◌, ◌-◌, ◌++◌, add-one, ◌==◌, ◌||◌, ◌∷◌, ◌∙◌, [], ℕ, List, Bool, Option, Some, None, refl, sym, ap, subst, true, false, length, suc, zero, inl, inr, arith, if◌then◌else◌, rules}
+use Rattle.std.proofs.Common.{◌≡◌, ◌<◌, ◌≤◌, ◌+◌, ◌-◌, add-one, ◌==◌, ◌||◌, ◌∷◌, [], ℕ, List, Bool, Option, Some, None, refl, ap, subst, true, false, length, suc, zero, inl, inr, arith, if◌then◌else◌}
 use Rattle.std.proofs.lemmas.Bool.{cases_Bool}
-use Rattle.csv.specs.Machine.{Read, next_record, step, in_field, start_field, start_record, is_end, ends_at_end, fields_after, field_after}
+use Rattle.csv.specs.Machine.{Read, next_record, step, in_field, start_field, start_record, is_end, ends_at_end}
 use Rattle.csv.specs.Reading.{default_config, records_from, records_next}
 use Rattle.csv.specs.declared.parser.State.{State}
 use Rattle.csv.specs.declared.parser.State.TheVariants as st

@@ -1,5 +1,5 @@
 -- A writer that takes records of any length writes each as the default writer does.
-use Rattle.std.proofs.Common.{◌≡◌, ◌≢◌, ◌++◌, ◌==◌, ◌∷◌, ◌∙◌, [], ℕ, List, Option, Some, refl, ap, true, length}
+use Rattle.std.proofs.Common.{◌≡◌, ◌≢◌, ◌++◌, ◌==◌, ◌∷◌, [], ℕ, List, Some, refl, ap, true, length}
 use Rattle.std.specs.Prelude.{if◌then◌else◌, Result, Ok, Err, OnOk, IsOk}
 use Rattle.std.specs.List.{list_any}
 use Rattle.csv.specs.declared.writer.QuoteStyle.TheVariants as style

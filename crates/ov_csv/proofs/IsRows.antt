@@ -1,11 +1,11 @@
 -- What a text has as rows are rows of the schema, and none is long.
-use Rattle.std.proofs.Common.{◌≡◌, ◌≢◌, ◌<◌, ◌≤◌, ◌+◌, ◌^◌, ◌++◌, ◌&&◌, ◌||◌, ◌==◌, ◌∷◌, ◌∙◌, [], ℕ, List, Bool, Option, Some, None, refl, zero, suc, true, false, length, get_or, arith, sym, ap, subst, inl, inr, length-append, lit<}
-use Rattle.std.specs.Prelude.{Result, Ok, Err, nat_eq, nat_lt, not, if◌then◌else◌, slice_index_or, IsUtf8}
+use Rattle.std.proofs.Common.{◌≡◌, ◌≢◌, ◌<◌, ◌≤◌, ◌+◌, ◌&&◌, ◌||◌, ◌==◌, ◌∷◌, [], ℕ, List, Bool, Option, Some, None, refl, zero, suc, true, false, length, get_or, arith, subst, inl, inr, length-append, lit<}
+use Rattle.std.specs.Prelude.{Result, Ok, Err, nat_eq, nat_lt, not, if◌then◌else◌}
 use Rattle.std.specs.Cmp.Lexicographic.{pointwise}
 use Rattle.std.specs.List.{All, AllByRecursion, flat_map, list_all, list_any}
 use Rattle.std.specs.Option.{option_or}
-use Rattle.std.specs.Str.{is_utf8, IsAscii}
-use Rattle.std.specs.Str.Parse.{without_leading_sign, signed_digits_value}
+use Rattle.std.specs.Str.{is_utf8}
+use Rattle.std.specs.Str.Parse.{signed_digits_value}
 use Rattle.std.proofs.lemmas.Bool.{cases_Bool, eqb-true, eq-eqb, ltb-false}
 use Rattle.std.proofs.lemmas.Str.{IsUtf8-from_is_utf8, IsUtf8-from_ascii}
 use Rattle.csv.specs.Reading.{default_config, records, strip_bom}
@@ -14,13 +14,13 @@ use Rattle.ov_value.specs.declared.column.Kind.{Kind}
 use Rattle.ov_value.specs.declared.column.Kind.TheVariants as kind
 use Rattle.ov_value.specs.declared.value.Value.{Value}
 use Rattle.ov_value.specs.declared.value.Value.TheVariants.{Int, Text, Flag, Null}
-use Rattle.ov_value.specs.Rows.{Fits, HasKinds, IsOfKind, is_null, value_at}
+use Rattle.ov_value.specs.Rows.{HasKinds, IsOfKind, is_null, value_at}
 use Rattle.ov_value.specs.Shapes.{IsSound, Shape, names}
-use Rattle.ov_value.specs.Spelling.{IsRow, IsShort, IsTyped, mark_bytes, row_spelling, value_bytes, kept}
+use Rattle.ov_value.specs.Spelling.{IsRow, IsShort, IsTyped, row_spelling, value_bytes}
 use Rattle.ov_model.specs.Book.{Row}
-use Rattle.ov_model.specs.Csv.{begins_with_mark, field_value, flag_value, int_value, is_64_bits, is_null_mark, is_numeral, long_row, null_key, onto, or_null, row_in, row_refusal, rows_from, rows_of, table_of, text_value, unless_refused}
+use Rattle.ov_model.specs.Csv.{begins_with_mark, field_value, flag_value, int_value, is_64_bits, is_null_mark, long_row, null_key, onto, or_null, row_in, row_refusal, rows_from, rows_of, table_of, text_value, unless_refused}
 use Rattle.ov_model.specs.declared.refusal.Refusal.{Refusal}
-use Rattle.ov_model.specs.declared.refusal.Refusal.TheVariants.{BadHeader, LongFile, LongRow, NotText, NullKey, Width}
+use Rattle.ov_model.specs.declared.refusal.Refusal.TheVariants.{BadHeader, LongFile, NullKey}
 use Rattle.ov_csv.proofs.Spelled.{bits-fit}
 use Rattle.ov_csv.proofs.Rows.{row_in-length}
 

@@ -1,14 +1,11 @@
 -- The fields of a record by their places, and a test of all of them from a place on.
-use Rattle.std.proofs.Common.{◌≡◌, ◌<◌, ◌≤◌, ◌+◌, ◌&&◌, ◌∷◌, ◌∙◌, [], ℕ, List, Bool, Option, Some, None, refl, zero, suc, true, false, length, drop, get_or, arith, add-one, drop-cons, sym, ap, inl, inr}
-use Rattle.std.specs.Prelude.{slice_index_or, nat_eq}
-use Rattle.std.specs.Cmp.Lexicographic.{pointwise}
+use Rattle.std.proofs.Common.{◌≡◌, ◌<◌, ◌≤◌, ◌+◌, ◌∷◌, [], ℕ, List, Bool, Option, Some, None, refl, zero, suc, true, false, length, drop, get_or, arith, add-one, drop-cons, inl, inr}
+use Rattle.std.specs.Prelude.{slice_index_or}
 use Rattle.std.specs.List.{list_all}
 use Rattle.std.specs.Str.{IsUtf8, is_utf8}
 use Rattle.std.proofs.lemmas.Bool.{cases_Bool}
 use Rattle.std.proofs.lemmas.Str.{IsUtf8-from_is_utf8}
 use Rattle.csv.specs.Records.{field_at}
-use Rattle.ov_value.specs.declared.column.Column.{Column}
-use Rattle.ov_value.specs.Shapes.{names}
 
 abbrev pub or_none : Option (List ℕ) → List ℕ
 or_none None = []

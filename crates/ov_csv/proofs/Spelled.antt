@@ -1,16 +1,15 @@
 -- What the fields of each kind spell, from what std says of parsing.
-use Rattle.std.proofs.Common.{◌≡◌, ◌≢◌, ◌<◌, ◌≤◌, ◌+◌, ◌^◌, ◌++◌, ◌==◌, ◌&&◌, ◌∷◌, ◌∙◌, [], ℕ, List, Bool, Option, Some, None, refl, sym, ap, subst, true, false, length, inl, inr, arith, rules, w64}
-use Rattle.std.specs.Prelude.{ℤ, pos, negsuc, nat_lt, nat_le, Result, Ok, Err, if◌then◌else◌, codes}
+use Rattle.std.proofs.Common.{◌≡◌, ◌≢◌, ◌^◌, ◌++◌, ◌==◌, ◌&&◌, ◌∷◌, ◌∙◌, [], ℕ, List, Bool, Option, Some, None, refl, ap, true, false, length, inl, inr, arith, rules, w64}
+use Rattle.std.specs.Prelude.{ℤ, pos, negsuc, nat_lt}
 use Rattle.std.specs.Char.{digit_value}
 use Rattle.std.specs.Int.RustNames.{FitsSigned}
 use Rattle.std.specs.List.{list_all}
-use Rattle.std.specs.Result.{OkIff}
 use Rattle.std.specs.Str.Parse.{AllDigits, IsNumeral, without_leading_sign, signed_digits_value}
 use Rattle.std.proofs.lemmas.Bool.{cases_Bool, eqb-true, ltb-true, lt-ltb, leb-true}
 use Rattle.std.proofs.lemmas.Int.{to_z-of_z}
 use mir.Val.{to_z, of_z}
 use Rattle.ov_value.specs.declared.value.Value.{Value}
-use Rattle.ov_value.specs.declared.value.Value.TheVariants.{Int, Text, Null}
+use Rattle.ov_value.specs.declared.value.Value.TheVariants.{Int, Text}
 use Rattle.ov_model.specs.Csv.{is_numeral, is_64_bits, int_value, is_null_mark, text_value}
 
 and-left : (a b : Bool) → (a && b) ≡ true → a ≡ true

@@ -1,12 +1,10 @@
 -- A read of a record, seen as a step down the list of records that are left.
-use Rattle.std.proofs.Common.{◌≡◌, ◌∷◌, ◌∙◌, [], ℕ, List, Bool, Option, Some, None, refl, sym, ap, subst, true, false, inl}
-use Rattle.std.specs.Prelude.{IsSome, if◌then◌else◌, not}
+use Rattle.std.proofs.Common.{◌≡◌, ◌∷◌, ◌∙◌, [], ℕ, List, Bool, Option, Some, None, refl, true, false, inl}
+use Rattle.std.specs.Prelude.{IsSome, not}
 use Rattle.csv.specs.Machine.{Read, next_record}
-use Rattle.csv.specs.Reading.{default_config, has_failed, pending_of, reader_config, reader_state, reader_trim, source_of, took_first, NextIs, ReadRecord, ReadsNext, Ready}
-use Rattle.csv.specs.declared.parser.Config.{Config}
+use Rattle.csv.specs.Reading.{default_config, has_failed, pending_of, reader_state, source_of, took_first, NextIs, ReadRecord, ReadsNext}
 use Rattle.csv.specs.declared.parser.State.{State}
 use Rattle.csv.specs.declared.reader.Reader.{Reader}
-use Rattle.csv.specs.declared.reader.Trim.TheVariants as trim
 use Rattle.ov_csv.specs.Lines.{is_between, left_of, records_after, Reads}
 use Rattle.ov_csv.specs.Taking.{Takes}
 use Rattle.ov_csv.proofs.Between.{record-shorter, records_after-next, records_after-none}

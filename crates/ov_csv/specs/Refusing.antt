@@ -1,7 +1,7 @@
 -- The refusals of a command that the errors of reading stand for.
 --     refusal_of schema why      the refusal; want of memory stands for none
 --     StandsFor schema why answer      the answer is this refusal
-use Rattle.std.specs.Prelude.{◌≡◌, ℕ, Bool, not, ◌==◌, if◌then◌else◌, List, length, Option, Some, None, IfSome}
+use Rattle.std.specs.Prelude.{◌≡◌, ℕ, not, if◌then◌else◌, List, length, Option, Some, None, IfSome}
 use Rattle.std.specs.List.{list_all}
 use Rattle.std.specs.Str.{is_utf8}
 use Rattle.ov_csv.specs.declared.csv_err.CsvErr.{CsvErr}

@@ -1,5 +1,5 @@
 -- Comparisons, tests for NULL and tests for lineages: reading and the grammar.
-use Rattle.std.proofs.Common.{◌≡◌, ◌⊎◌, inl, inr, ℕ, Bool, true, false, List, [], ◌∷◌, ◌++◌, Option, Some, None, refl, sym, ap, subst, ◌∙◌, append_assoc}
+use Rattle.std.proofs.Common.{◌≡◌, inl, inr, Bool, true, false, List, [], ◌∷◌, ◌++◌, Option, Some, None, refl, ap, subst, ◌∙◌, append_assoc}
 use Rattle.ov_value.specs.declared.value.Value.TheVariants as value
 use Rattle.ov_model.specs.declared.query.Col.TheVariants as col
 use Rattle.ov_model.specs.declared.query.Term.TheVariants as term
@@ -12,10 +12,10 @@ use Rattle.ov_model.specs.declared.query.Cond.TheVariants as cond
 use Rattle.ov_model.specs.declared.query.Fixed.{Fixed}
 use Rattle.ov_model.specs.declared.query.Fixed.TheVariants as f
 use Rattle.ov_model.specs.declared.query.Symbol.{Symbol}
-use Rattle.ov_model.specs.declared.query.Symbol.TheVariants.{Fixed as fixed, Name, Number, Text}
+use Rattle.ov_model.specs.declared.query.Symbol.TheVariants.{Fixed as fixed}
 use Rattle.ov_model.specs.Grammar.{IsOperand, sign_word, not_word, IsComparison, IsNullTest, IsLineageTest, IsTest}
-use Rattle.ov_parse.specs.Reading.{◌>>=◌, or_else, same_word, eaten, not_at, vid_in, null_at, comparison_at, operand_test_at, lineage_test_at, test_at, operand_at, sign_at, lineage_at}
-use Rattle.ov_parse.proofs.Words.{eaten-some, eaten-there, eaten-other}
+use Rattle.ov_parse.specs.Reading.{or_else, same_word, eaten, not_at, vid_in, null_at, comparison_at, operand_test_at, lineage_test_at, test_at, operand_at, sign_at, lineage_at}
+use Rattle.ov_parse.proofs.Words.{eaten-some, eaten-there}
 use Rattle.ov_parse.proofs.Readers.{bind_some, chosen, Took, Avoids, IsReader}
 use Rattle.ov_parse.proofs.Terms.{sign_reader}
 use Rattle.ov_parse.proofs.Operands.{operand_reader, lineage_reader}

@@ -1,13 +1,12 @@
 -- Conditions: reading and the grammar.
-use Rattle.std.proofs.Common.{◌≡◌, ◌⊎◌, inl, inr, ℕ, zero, suc, Bool, List, [], ◌∷◌, ◌++◌, Option, Some, None, refl, sym, ap, subst, ◌∙◌, append_assoc}
+use Rattle.std.proofs.Common.{◌≡◌, inl, inr, ℕ, zero, suc, Bool, List, [], ◌∷◌, ◌++◌, Some, None, refl, sym, ap, subst, ◌∙◌, append_assoc}
 use Rattle.ov_model.specs.declared.query.Cond.{Cond}
 use Rattle.ov_model.specs.declared.query.Cond.TheVariants as cond
-use Rattle.ov_model.specs.declared.query.Fixed.{Fixed}
 use Rattle.ov_model.specs.declared.query.Fixed.TheVariants as f
 use Rattle.ov_model.specs.declared.query.Symbol.{Symbol}
 use Rattle.ov_model.specs.declared.query.Symbol.TheVariants.{Fixed as fixed}
-use Rattle.ov_model.specs.Grammar.{Joined, every, any, IsConj, IsDisj, IsNegation, IsInParentheses, IsUnit, IsTest}
-use Rattle.ov_parse.specs.Reading.{◌>>=◌, Reading, or_else, made_at, same_word, eaten, list_at, conj_at, disj_at, closed_at, unit_at, cond_at, test_at}
+use Rattle.ov_model.specs.Grammar.{Joined, every, any, IsConj, IsDisj, IsNegation, IsInParentheses, IsUnit}
+use Rattle.ov_parse.specs.Reading.{Reading, made_at, same_word, eaten, list_at, conj_at, disj_at, closed_at, unit_at, cond_at}
 use Rattle.ov_parse.proofs.Words.{eaten-some, eaten-there}
 use Rattle.ov_parse.proofs.Readers.{bind_some, chosen, Took, Avoids, IsReader, MayFollow, list_reader}
 use Rattle.ov_parse.proofs.Comparisons.{test_reader, test-first}

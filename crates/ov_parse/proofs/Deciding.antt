@@ -1,18 +1,18 @@
 -- Tokens say one list of symbols, and spell one query.
-use Rattle.std.proofs.Common.{◌≡◌, inl, inr, ℕ, zero, suc, Bool, true, false, ◌==◌, List, [], ◌∷◌, ◌++◌, length, Option, Some, None, refl, sym, ap, subst, ◌∙◌, arith}
+use Rattle.std.proofs.Common.{◌≡◌, inl, inr, ℕ, true, ◌==◌, List, [], ◌∷◌, ◌++◌, Some, None, refl, sym, ap, ◌∙◌}
 use Rattle.std.specs.List.{flat_map}
 use Rattle.std.proofs.lemmas.Bool.{cases_Bool, eqb-true}
 use Rattle.std.proofs.lemmas.List.{append_cancel_right}
 use Rattle.ov_lex.specs.declared.token.Token.{Token}
 use Rattle.ov_lex.specs.declared.token.TokenKind.{TokenKind}
 use Rattle.ov_lex.specs.declared.token.TokenKind.TheVariants as token
-use Rattle.ov_lex.specs.Spellings.{escaped, text_spelling}
+use Rattle.ov_lex.specs.Spellings.{escaped}
 use Rattle.ov_lex.specs.Texts.{spelling_of}
 use Rattle.ov_model.specs.declared.query.Query.{Query}
 use Rattle.ov_model.specs.declared.query.Fixed.{Fixed}
 use Rattle.ov_model.specs.declared.query.Symbol.{Symbol}
-use Rattle.ov_model.specs.declared.query.Symbol.TheVariants.{Fixed as fixed, Name, Number, Text}
-use Rattle.ov_model.specs.Grammar.{found_in, signs, SpellingSays, Says, AllSay, Spells}
+use Rattle.ov_model.specs.declared.query.Symbol.TheVariants.{Fixed as fixed, Name, Text}
+use Rattle.ov_model.specs.Grammar.{found_in, signs, SpellingSays, AllSay, Spells}
 use Rattle.ov_parse.specs.Reading.{query_of}
 use Rattle.ov_parse.proofs.Whole.{query-takes, query-again}
 

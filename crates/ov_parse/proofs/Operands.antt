@@ -1,6 +1,5 @@
 -- Operands and lineages: reading and the grammar.
-use Rattle.std.proofs.Common.{◌≡◌, ◌⊎◌, inl, inr, ℕ, Bool, true, false, cond, ◌||◌, ℤ, pos, List, [], ◌∷◌, ◌++◌, Option, Some, None, refl, sym, ap, subst, ◌∙◌, append_assoc}
-use Rattle.std.proofs.lemmas.Bool.{cases_Bool, false≢true, or_cases}
+use Rattle.std.proofs.Common.{◌≡◌, inl, inr, ℕ, Bool, true, false, pos, List, [], ◌∷◌, ◌++◌, Some, None, refl, sym, ap, subst, ◌∙◌}
 use Rattle.ov_value.specs.declared.value.Value.{Value}
 use Rattle.ov_value.specs.declared.value.Value.TheVariants as value
 use Rattle.ov_model.specs.declared.query.LineageKind.{LineageKind}
@@ -15,7 +14,7 @@ use Rattle.ov_model.specs.declared.query.Fixed.TheVariants as f
 use Rattle.ov_model.specs.declared.query.Symbol.{Symbol}
 use Rattle.ov_model.specs.declared.query.Symbol.TheVariants.{Fixed as fixed, Name, Number, Text}
 use Rattle.ov_model.specs.Grammar.{IsTerm, IsLiteral, flag_word, MayStand, IsOperand, lineage_word, IsLineage}
-use Rattle.ov_parse.specs.Reading.{◌>>=◌, or_else, same_word, eaten, is_literal, literal_of, may_stand, standing_at, term_at, operand_at, kind_at, count_of, count_at, lineage_at}
+use Rattle.ov_parse.specs.Reading.{same_word, eaten, is_literal, literal_of, may_stand, standing_at, term_at, operand_at, kind_at, count_of, count_at, lineage_at}
 use Rattle.ov_parse.proofs.Words.{same_word-true, eaten-some}
 use Rattle.ov_parse.proofs.Readers.{bind_some, chosen, guard_kept, Took, Avoids, IsReader}
 use Rattle.ov_parse.proofs.Terms.{either_way, term-takes, term_reader, count_reader}

@@ -1,5 +1,5 @@
 -- A number in range is parsed.
-use Rattle.std.proofs.Common.{◌≡◌, ℕ, List, Result, Ok, Err, ℤ, FitsSigned, refl}
+use Rattle.std.proofs.Common.{ℕ, List, Result, Ok, Err, ℤ, FitsSigned, refl}
 use Rattle.std.specs.Int.{w64}
 use Rattle.std.specs.Result.{OkIff, IsOk}
 use Rattle.std.specs.Str.Parse.{IsNumeral, without_leading_sign, signed_digits_value}

@@ -1,28 +1,24 @@
 -- Queries: reading and the grammar.
-use Rattle.std.proofs.Common.{◌≡◌, ◌⊎◌, inl, inr, ℕ, pos, Bool, true, false, List, [], ◌∷◌, ◌++◌, Option, Some, None, refl, sym, ap, subst, ◌∙◌, append_assoc}
-use Rattle.std.proofs.lemmas.Bool.{false≢true}
-use Rattle.ov_model.specs.declared.query.Query.{Query}
+use Rattle.std.proofs.Common.{◌≡◌, inl, inr, ℕ, pos, Bool, false, List, [], ◌∷◌, ◌++◌, Option, Some, None, refl, sym, ap, subst, ◌∙◌, append_assoc}
 use Rattle.ov_model.specs.declared.query.Items.{Items}
 use Rattle.ov_model.specs.declared.query.Items.TheVariants as items
 use Rattle.ov_model.specs.declared.query.Src.{Src}
 use Rattle.ov_model.specs.declared.query.Src.TheVariants as source
 use Rattle.ov_model.specs.declared.query.LineageKind.{LineageKind}
 use Rattle.ov_model.specs.declared.query.LineageKind.TheVariants as lineage
-use Rattle.ov_model.specs.declared.query.Col.{Col}
 use Rattle.ov_model.specs.declared.query.Col.TheVariants as col
 use Rattle.ov_model.specs.declared.query.Term.{Term}
 use Rattle.ov_model.specs.declared.query.Term.TheVariants as term
-use Rattle.ov_model.specs.declared.query.Key.{Key}
 use Rattle.ov_model.specs.declared.query.Cond.{Cond}
 use Rattle.ov_model.specs.declared.query.Fixed.{Fixed}
 use Rattle.ov_model.specs.declared.query.Fixed.TheVariants as f
 use Rattle.ov_model.specs.declared.query.Symbol.{Symbol}
 use Rattle.ov_model.specs.declared.query.Symbol.TheVariants.{Fixed as fixed, Name, Number}
-use Rattle.ov_model.specs.Grammar.{Joined, IsCol, IsTerm, IsCount, IsLineage, lineage_word, IsItems, of_cvd, IsListed, IsOfLineage, IsSource, IsGuard, IsGrouped, IsGrouping, IsDirection, IsKey, IsOrder, IsLimit, IsEnd, SpellsQuery}
-use Rattle.ov_parse.specs.Reading.{◌>>=◌, Reading, or_else, made_at, same_word, eaten, list_at, term_at, count_at, name_at, name_of, col_at, lineage_at, kind_at, cond_at, items_at, of_cvd_at, listed_at, of_lineage_at, source_at, guard_at, grouped_at, grouping_at, direction_at, key_at, ordered_at, order_at, limit_at, is_nothing, is_end, tail_at, head_at, kept_at, made_of, query_of}
-use Rattle.ov_parse.proofs.Words.{eaten-some, eaten-there, eaten-other}
-use Rattle.ov_parse.proofs.Readers.{bind_some, chosen, guard_kept, Took, Avoids, IsReader, MayFollow, list_reader, HasTail, joined-tail}
-use Rattle.ov_parse.proofs.Terms.{col_reader, count_reader, name_reader, term_reader}
+use Rattle.ov_model.specs.Grammar.{Joined, IsTerm, IsCount, IsLineage, lineage_word, IsItems, of_cvd, IsSource, IsGuard}
+use Rattle.ov_parse.specs.Reading.{made_at, same_word, eaten, list_at, term_at, count_at, name_at, name_of, lineage_at, cond_at, items_at, of_cvd_at, listed_at, of_lineage_at, source_at, guard_at}
+use Rattle.ov_parse.proofs.Words.{eaten-some, eaten-there}
+use Rattle.ov_parse.proofs.Readers.{bind_some, chosen, Took, Avoids, IsReader, MayFollow, list_reader, joined-tail}
+use Rattle.ov_parse.proofs.Terms.{count_reader, name_reader, term_reader}
 use Rattle.ov_parse.proofs.Operands.{lineage_reader}
 use Rattle.ov_parse.proofs.Conds.{cond_reader}
 

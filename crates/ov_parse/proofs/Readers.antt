@@ -1,13 +1,12 @@
 -- Reading and the grammar: what is read is spelled so, and what is spelled so is read, whatever may follow it.
-use Rattle.std.proofs.Common.{◌≡◌, ◌⊎◌, inl, inr, ℕ, zero, suc, ◌+◌, ◌<◌, ◌≤◌, Bool, true, false, cond, List, [], ◌∷◌, ◌++◌, length, Option, Some, None, refl, sym, ap, subst, ◌∙◌, append_assoc, arith}
-use Rattle.std.proofs.lemmas.Bool.{cases_Bool, false≢true}
+use Rattle.std.proofs.Common.{◌≡◌, ◌⊎◌, inl, inr, ℕ, zero, suc, ◌≤◌, Bool, true, false, cond, List, [], ◌∷◌, ◌++◌, length, Option, Some, None, refl, sym, ap, subst, ◌∙◌, append_assoc, arith}
 use Rattle.std.proofs.lemmas.List.{append-nil, length-append}
 use Rattle.ov_model.specs.declared.query.Fixed.{Fixed}
 use Rattle.ov_model.specs.declared.query.Symbol.{Symbol}
-use Rattle.ov_model.specs.declared.query.Symbol.TheVariants.{Fixed as fixed, Name, Number, Text}
+use Rattle.ov_model.specs.declared.query.Symbol.TheVariants.{Fixed as fixed}
 use Rattle.ov_model.specs.Grammar.{Joined}
-use Rattle.ov_parse.specs.Reading.{◌>>=◌, Reading, or_else, made_at, eaten, more_at, with_front, list_at, first_by}
-use Rattle.ov_parse.proofs.Words.{eaten-some, eaten-there, eaten-other}
+use Rattle.ov_parse.specs.Reading.{◌>>=◌, Reading, or_else, eaten, more_at, list_at}
+use Rattle.ov_parse.proofs.Words.{eaten-some, eaten-there}
 
 -- the value of a step that did not fail
 pub bind_some : {A B : Type 0} (r : Option A) (g : A → Option B) (y : B) → (r >>= g) ≡ Some y → (x : A) × (r ≡ Some x) × (g x ≡ Some y)

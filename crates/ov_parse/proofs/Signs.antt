@@ -1,5 +1,5 @@
 -- Each sign is in the table.
-use Rattle.std.proofs.Common.{◌≡◌, inl, inr, ℕ, nat_eq, Bool, true, ◌&&◌, ◌||◌, ◌==◌, List, [], ◌∷◌, refl, sym, subst, codes}
+use Rattle.std.proofs.Common.{◌≡◌, inl, inr, ℕ, nat_eq, true, ◌&&◌, ◌==◌, List, [], ◌∷◌, refl, sym, subst, codes}
 use Rattle.std.specs.Option.{IsSome}
 use Rattle.std.specs.List.{list_any, AllByRecursion}
 use Rattle.std.proofs.lemmas.Bool.{or_cases, and_parts, eqb-true, false≢true}

@@ -1,15 +1,15 @@
 -- Where a text may be cut: a token begins and ends with an ASCII byte.
-use Rattle.std.proofs.Common.{◌≡◌, ◌⊎◌, inl, inr, ℕ, zero, suc, ◌+◌, ◌-◌, ◌<◌, ◌≤◌, Bool, true, false, ◌==◌, List, [], ◌∷◌, ◌++◌, length, take, drop, get_or, refl, sym, ap, subst, ◌∙◌, arith}
+use Rattle.std.proofs.Common.{◌≡◌, ℕ, zero, suc, ◌+◌, ◌-◌, ◌<◌, ◌≤◌, true, List, [], ◌∷◌, ◌++◌, length, take, drop, get_or, refl, sym, ap, subst, ◌∙◌, arith}
 use Rattle.std.specs.List.{list_all, flat_map}
 use Rattle.std.specs.Str.{IsUtf8, IsCharBoundary, IsAscii}
 use Rattle.std.proofs.lemmas.Bool.{and_parts}
 use Rattle.std.proofs.lemmas.Bool.Decides.{nat_tests}
 use Rattle.std.proofs.lemmas.List.{get_or-take, get_or-drop, get_or_at, length-take-le, length-drop, length-append, drop-take, take_at}
-use Rattle.std.proofs.lemmas.Str.{IsCharBoundary-after_ascii, IsUtf8-take, IsUtf8-drop}
+use Rattle.std.proofs.lemmas.Str.{IsCharBoundary-after_ascii, IsUtf8-take}
 use Rattle.ov_lex.specs.declared.token.Token.{Token}
 use Rattle.ov_lex.specs.declared.token.TokenKind.{TokenKind}
 use Rattle.ov_lex.specs.declared.token.TokenKind.TheVariants.{Word, Quoted, Number, Text, Sign}
-use Rattle.ov_lex.specs.Spellings.{begins_word, continues_word, IsWord, IsSign, is_short_sign, is_long_sign, IsSpelling, IsInRange, escaped}
+use Rattle.ov_lex.specs.Spellings.{begins_word, continues_word, IsWord, IsSign, is_short_sign, is_long_sign, IsSpelling, escaped}
 use Rattle.ov_lex.specs.Texts.{Stands, spelling_of}
 use Rattle.ov_lex.proofs.Numbers.{is_ascii}
 use Rattle.ov_parse.specs.Unquoting.{Between}

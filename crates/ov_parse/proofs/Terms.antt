@@ -1,25 +1,18 @@
 -- Columns, terms, operands, counts, names and lineages: reading and the grammar.
-use Rattle.std.proofs.Common.{◌≡◌, ◌⊎◌, inl, inr, ℕ, zero, suc, Bool, true, false, cond, ◌||◌, ℤ, pos, negsuc, List, [], ◌∷◌, ◌++◌, Option, Some, None, refl, sym, ap, subst, ◌∙◌, append_assoc}
-use Rattle.std.proofs.lemmas.Bool.{cases_Bool, false≢true, or_cases}
-use Rattle.ov_value.specs.declared.value.Value.{Value}
-use Rattle.ov_value.specs.declared.value.Value.TheVariants as value
-use Rattle.ov_model.specs.declared.query.LineageKind.{LineageKind}
-use Rattle.ov_model.specs.declared.query.LineageKind.TheVariants as lineage
+use Rattle.std.proofs.Common.{◌≡◌, ◌⊎◌, inl, inr, ℕ, Bool, true, false, cond, pos, negsuc, List, [], ◌∷◌, ◌++◌, Option, Some, None, refl, sym, ap, subst, ◌∙◌, append_assoc}
 use Rattle.ov_model.specs.declared.query.Col.{Col}
 use Rattle.ov_model.specs.declared.query.Col.TheVariants as col
 use Rattle.ov_model.specs.declared.query.Term.{Term}
 use Rattle.ov_model.specs.declared.query.Term.TheVariants as term
-use Rattle.ov_model.specs.declared.query.Operand.{Operand}
-use Rattle.ov_model.specs.declared.query.Operand.TheVariants as operand
 use Rattle.ov_model.specs.declared.query.Sign.{Sign}
 use Rattle.ov_model.specs.declared.query.Sign.TheVariants as sign
 use Rattle.ov_model.specs.declared.query.Fixed.{Fixed}
 use Rattle.ov_model.specs.declared.query.Fixed.TheVariants as f
 use Rattle.ov_model.specs.declared.query.Symbol.{Symbol}
 use Rattle.ov_model.specs.declared.query.Symbol.TheVariants.{Fixed as fixed, Name, Number, Text}
-use Rattle.ov_model.specs.Grammar.{IsCol, IsCall, IsTerm, IsLiteral, flag_word, MayStand, IsOperand, IsCount, lineage_word, IsLineage, sign_word}
-use Rattle.ov_parse.specs.Reading.{◌>>=◌, Reading, or_else, made_at, same_word, eaten, first_by, col_of, col_at, inner_at, all_at, counted_at, term_at, is_literal, literal_of, may_stand, standing_at, operand_at, from_zero, count_of, count_at, name_of, name_at, kind_at, lineage_at, sign_of, sign_by, sign_at}
-use Rattle.ov_parse.proofs.Words.{same_word-true, same_word-refl, eaten-some}
+use Rattle.ov_model.specs.Grammar.{IsCol, IsCall, IsTerm, IsCount, sign_word}
+use Rattle.ov_parse.specs.Reading.{made_at, same_word, eaten, first_by, col_of, col_at, inner_at, all_at, counted_at, term_at, count_of, count_at, name_of, name_at, sign_of, sign_by, sign_at}
+use Rattle.ov_parse.proofs.Words.{same_word-true, eaten-some}
 use Rattle.ov_parse.proofs.Readers.{bind_some, chosen, guard_kept, Took, Avoids, IsReader}
 
 -- ---- parts of one symbol

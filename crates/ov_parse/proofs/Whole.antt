@@ -6,15 +6,14 @@ use Rattle.ov_model.specs.declared.query.Query.{Query}
 use Rattle.ov_model.specs.declared.query.Items.{Items}
 use Rattle.ov_model.specs.declared.query.Src.{Src}
 use Rattle.ov_model.specs.declared.query.Col.{Col}
-use Rattle.ov_model.specs.declared.query.Term.{Term}
 use Rattle.ov_model.specs.declared.query.Key.{Key}
 use Rattle.ov_model.specs.declared.query.Cond.{Cond}
 use Rattle.ov_model.specs.declared.query.Fixed.{Fixed}
 use Rattle.ov_model.specs.declared.query.Fixed.TheVariants as f
 use Rattle.ov_model.specs.declared.query.Symbol.{Symbol}
 use Rattle.ov_model.specs.declared.query.Symbol.TheVariants.{Fixed as fixed, Number}
-use Rattle.ov_model.specs.Grammar.{Joined, IsCol, IsTerm, IsItems, IsSource, IsGuard, IsGrouped, IsGrouping, IsDirection, IsKey, IsOrder, IsLimit, IsEnd, SpellsQuery}
-use Rattle.ov_parse.specs.Reading.{◌>>=◌, or_else, same_word, eaten, list_at, term_at, count_at, col_at, items_at, source_at, guard_at, grouped_at, grouping_at, direction_at, key_at, ordered_at, order_at, limit_at, is_nothing, is_end, tail_at, head_at, kept_at, made_of, query_of}
+use Rattle.ov_model.specs.Grammar.{Joined, IsCol, IsItems, IsSource, IsGuard, IsGrouped, IsGrouping, IsDirection, IsKey, IsOrder, IsLimit, IsEnd, SpellsQuery}
+use Rattle.ov_parse.specs.Reading.{or_else, same_word, eaten, list_at, term_at, count_at, col_at, items_at, source_at, guard_at, grouped_at, grouping_at, direction_at, key_at, ordered_at, order_at, limit_at, is_nothing, is_end, tail_at, head_at, kept_at, made_of, query_of}
 use Rattle.ov_parse.proofs.Words.{eaten-some, eaten-there, eaten-other}
 use Rattle.ov_parse.proofs.Readers.{bind_some, chosen, guard_kept, Took, Avoids, IsReader, MayFollow, list_reader}
 use Rattle.ov_parse.proofs.Terms.{col_reader, count_reader, term_reader}

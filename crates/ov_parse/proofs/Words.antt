@@ -1,13 +1,12 @@
 -- Keywords and signs at the front of symbols.
-use Rattle.std.proofs.Common.{rules, ◌≡◌, inl, inr, ℕ, Bool, true, false, List, [], ◌∷◌, ◌++◌, Option, Some, None, refl, sym, ap, subst, ◌∙◌}
-use denote.Enum.Bare.{sameb, same_true, same_false, true_same, false_same}
-use Rattle.std.proofs.lemmas.Bool.{cases_Bool, both_ways, false≢true}
+use Rattle.std.proofs.Common.{rules, ◌≡◌, inl, inr, true, false, List, [], ◌∷◌, Some, None, refl, sym, ap}
+use denote.Enum.Bare.{same_true, true_same}
+use Rattle.std.proofs.lemmas.Bool.{cases_Bool, false≢true}
 use Rattle.ov_model.specs.declared.query.Fixed.{Fixed}
 use Rattle.ov_model.specs.contracts.query.Fixed.{the_type}
-use Rattle.ov_model.specs.declared.query.Fixed.TheVariants as f
 use Rattle.ov_model.specs.declared.query.Symbol.{Symbol}
 use Rattle.ov_model.specs.declared.query.Symbol.TheVariants.{Fixed as fixed, Name, Number, Text}
-use Rattle.ov_parse.specs.Reading.{◌>>=◌, same_word, is_fixed, eaten}
+use Rattle.ov_parse.specs.Reading.{same_word, is_fixed, eaten}
 
 pub same_word-true : (a b : Fixed) → same_word a b ≡ true → a ≡ b
 unfolding same_word

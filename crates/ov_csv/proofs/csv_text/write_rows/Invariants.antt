@@ -1,8 +1,5 @@
-use Rattle.std.proofs.Common.{◌≡◌, ◌++◌, take}
+use Rattle.std.proofs.Common.{◌≡◌, take}
 use Rattle.std.specs.Prelude.{Some}
-use Rattle.std.specs.List.{flat_map}
-use Rattle.csv.specs.Writing.{default_writer, row_text}
-use Rattle.ov_value.specs.Shapes.{names}
 use Rattle.ov_model.specs.Csv.{text_of}
 use Rattle.ov_csv.proofs.csv_text.write_rows.Given as goal
 

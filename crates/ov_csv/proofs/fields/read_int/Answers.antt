@@ -1,5 +1,5 @@
 -- Digits behind a sign, in 64 bits, and nothing else.
-use Rattle.std.proofs.Common.{◌≢◌, length, rules, arith, ◌≡◌, ◌<◌}
+use Rattle.std.proofs.Common.{rules}
 use Rattle.ov_csv.proofs.Spelled.{int-read, int-refused}
 use Rattle.ov_csv.proofs.fields.read_int.Goals as goal
 

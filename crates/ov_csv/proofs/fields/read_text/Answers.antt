@@ -1,5 +1,5 @@
 -- A text with no backslash in front is itself.
-use Rattle.std.proofs.Common.{arith, lit<, rules}
+use Rattle.std.proofs.Common.{lit<}
 use Rattle.std.proofs.lemmas.Str.Pattern.{strip_prefix_char}
 use Rattle.ov_csv.proofs.Spelled.{text-plain}
 use Rattle.ov_csv.proofs.fields.read_text.Goals as goal

@@ -1,5 +1,5 @@
 -- A row more, a refusal or the end, at the record that was read.
-use Rattle.std.proofs.Common.{◌≡◌, ◌+◌, length, rules, arith}
+use Rattle.std.proofs.Common.{◌≡◌, ◌+◌, length, arith}
 use Rattle.std.proofs.lemmas.Result.{err_from_is_err_and}
 use Rattle.ov_csv.proofs.Lists.{answer-row, answer-refused, answer-end}
 use Rattle.ov_csv.proofs.reading.read_rows.Goals as goal

@@ -1,8 +1,4 @@
-use Rattle.std.proofs.Common.{◌≡◌, ◌++◌, drop}
-use Rattle.std.specs.List.{list_all}
-use Rattle.std.specs.Str.{is_utf8}
 use Rattle.csv.specs.Records.{fields_of}
-use Rattle.ov_model.specs.Csv.{bad_field, row_in}
 use Rattle.ov_csv.proofs.Rows.{SoFar}
 use Rattle.ov_csv.proofs.records.read_values.Given as goal
 

@@ -1,4 +1,4 @@
-use Rattle.std.proofs.Common.{sym, ◌∙◌}
+use Rattle.std.proofs.Common.{sym}
 use Rattle.ov_parse.proofs.Found.{in_clauses, in_orders, in_values, in_relations}
 use Rattle.ov_parse.proofs.keywords.keyword.Goals as goal
 

@@ -1,4 +1,3 @@
-use Rattle.std.proofs.Common.{sym, subst}
 use Rattle.ov_parse.proofs.Signs.{is_known}
 use Rattle.ov_parse.proofs.say.said_by.Goals as goal
 

@@ -1,5 +1,4 @@
 use Rattle.std.proofs.Common.{sym, subst, List, ℕ}
-use Rattle.std.proofs.lemmas.Str.{IsUtf8-had}
 use Rattle.ov_lex.specs.Spellings.{IsSpelling, IsInRange}
 use Rattle.ov_parse.proofs.Slices.{cut_end, cut_at, cut_is}
 use Rattle.ov_parse.proofs.say.spelling.Goals as goal

@@ -1,4 +1,4 @@
-use Rattle.std.proofs.Common.{◌≡◌, ◌++◌, ◌+◌, take, drop, get_or, string_bytes, sym, ap, ◌∙◌}
+use Rattle.std.proofs.Common.{◌≡◌, ◌++◌, ◌+◌, take, drop, get_or, string_bytes, ap, ◌∙◌}
 use Rattle.ov_parse.proofs.Unescape.{left_more, left_pair, after_pair, cut_pair, behind_utf8}
 use Rattle.ov_parse.proofs.say.unescaped.Goals as goal
 
