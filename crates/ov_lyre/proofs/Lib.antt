@@ -11,3 +11,4 @@ pub mod ChoiceFacts
 pub mod StateFacts
 pub mod LawFacts
 pub mod DivisionFacts
+pub mod Worked

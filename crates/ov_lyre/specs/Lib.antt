@@ -3,3 +3,4 @@ pub mod Sums
 pub mod Candidates
 pub mod Runs
 pub mod Orders
+pub mod Examples

@@ -7,7 +7,8 @@ ghost use Rattle.ov_graph.specs.Trees.{IsSound};
 use crate::{Split, split};
 use ov_graph::{Graph, Node, Tree};
 use std::alloc::{AllocError, Global};
-use std::test::Fail;
+use std::test::*;
+use std::time::Instant;
 
 /// Whether a tree is sound and not empty.
 fn is_sound(tree: &Tree) -> bool
@@ -244,6 +245,170 @@ fn small_trees_are_divided_by_the_rule(rt: HostRuntime) -> Result<(), Fail> {
             cuts: &[3, 5, 7, 8],
             depth: 3,
         },
+        // A chain of 24 versions.
+        Case {
+            nodes: &[
+                (5, 0, 0),
+                (11, 1, 0),
+                (6, 2, 0),
+                (9, 3, 6),
+                (9, 4, 7),
+                (12, 5, 6),
+                (14, 6, 3),
+                (3, 7, 3),
+                (2, 8, 1),
+                (8, 9, 2),
+                (14, 10, 0),
+                (13, 11, 7),
+                (6, 12, 5),
+                (14, 13, 1),
+                (11, 14, 1),
+                (7, 15, 0),
+                (2, 16, 0),
+                (12, 17, 2),
+                (2, 18, 1),
+                (12, 19, 0),
+                (8, 20, 0),
+                (10, 21, 3),
+                (14, 22, 7),
+                (9, 23, 8),
+            ],
+            p: 2,
+            q: 5,
+            parts: &[
+                1, 2, 0, 3, 0, 4, 5, 6, 0, 7, 8, 9, 0, 10, 11, 12, 0, 13, 14, 0, 15, 0, 16, 17, 0,
+                18, 0, 19, 20, 0, 21, 0, 22, 23, 24, 0,
+            ],
+            cuts: &[3, 4, 7, 10, 13, 15, 16, 18, 19, 21, 22],
+            depth: 4,
+        },
+        // A star of 24 versions.
+        Case {
+            nodes: &[
+                (3, 0, 0),
+                (3, 1, 0),
+                (7, 1, 1),
+                (13, 1, 2),
+                (6, 1, 1),
+                (11, 1, 0),
+                (11, 1, 1),
+                (8, 1, 3),
+                (14, 1, 2),
+                (10, 1, 3),
+                (10, 1, 2),
+                (2, 1, 0),
+                (7, 1, 3),
+                (7, 1, 3),
+                (8, 1, 1),
+                (10, 1, 1),
+                (5, 1, 1),
+                (2, 1, 0),
+                (7, 1, 1),
+                (4, 1, 2),
+                (10, 1, 1),
+                (9, 1, 3),
+                (13, 1, 2),
+                (14, 1, 2),
+            ],
+            p: 1,
+            q: 6,
+            parts: &[
+                1, 2, 12, 13, 14, 17, 18, 20, 0, 3, 0, 4, 0, 5, 0, 6, 0, 7, 0, 8, 0, 9, 0, 10, 0,
+                11, 0, 15, 0, 16, 0, 19, 0, 21, 0, 22, 0, 23, 0, 24, 0,
+            ],
+            cuts: &[3, 4, 5, 6, 7, 8, 9, 10, 11, 15, 16, 19, 21, 22, 23, 24],
+            depth: 16,
+        },
+        // A random tree of 32 versions.
+        Case {
+            nodes: &[
+                (6, 0, 0),
+                (7, 1, 4),
+                (12, 2, 1),
+                (2, 3, 1),
+                (10, 3, 3),
+                (13, 2, 7),
+                (10, 5, 7),
+                (12, 4, 0),
+                (12, 4, 0),
+                (8, 9, 0),
+                (4, 2, 4),
+                (6, 1, 6),
+                (6, 1, 3),
+                (13, 10, 6),
+                (14, 12, 3),
+                (13, 7, 9),
+                (4, 15, 2),
+                (2, 4, 0),
+                (5, 16, 2),
+                (14, 14, 10),
+                (8, 10, 8),
+                (11, 13, 2),
+                (11, 18, 1),
+                (5, 19, 2),
+                (2, 22, 1),
+                (12, 20, 11),
+                (13, 6, 13),
+                (10, 11, 4),
+                (3, 19, 1),
+                (11, 21, 4),
+                (3, 10, 0),
+                (12, 16, 7),
+            ],
+            p: 1,
+            q: 3,
+            parts: &[
+                1, 13, 0, 2, 6, 11, 27, 28, 0, 3, 5, 7, 0, 4, 8, 9, 0, 10, 21, 30, 31, 0, 12, 15,
+                17, 0, 14, 20, 26, 0, 16, 32, 0, 18, 23, 0, 19, 24, 29, 0, 22, 25, 0,
+            ],
+            cuts: &[2, 3, 4, 10, 12, 14, 16, 18, 19, 22],
+            depth: 5,
+        },
+        // A random tree of 32 versions, into few parts.
+        Case {
+            nodes: &[
+                (6, 0, 0),
+                (3, 1, 3),
+                (4, 2, 0),
+                (2, 1, 1),
+                (14, 3, 0),
+                (10, 2, 2),
+                (14, 3, 1),
+                (3, 7, 2),
+                (2, 4, 2),
+                (14, 5, 4),
+                (4, 4, 1),
+                (12, 5, 11),
+                (3, 6, 2),
+                (8, 11, 4),
+                (4, 4, 0),
+                (6, 8, 0),
+                (2, 10, 1),
+                (14, 10, 8),
+                (8, 7, 6),
+                (8, 10, 7),
+                (5, 6, 2),
+                (14, 9, 0),
+                (2, 3, 1),
+                (6, 21, 4),
+                (12, 18, 7),
+                (7, 23, 0),
+                (5, 22, 0),
+                (5, 14, 5),
+                (9, 21, 2),
+                (7, 6, 6),
+                (11, 24, 2),
+                (10, 21, 1),
+            ],
+            p: 1,
+            q: 8,
+            parts: &[
+                1, 4, 9, 11, 14, 15, 22, 27, 28, 0, 2, 6, 13, 21, 24, 29, 30, 31, 32, 0, 3, 7, 8,
+                16, 19, 23, 26, 0, 5, 10, 12, 17, 18, 20, 25, 0,
+            ],
+            cuts: &[2, 3, 5],
+            depth: 2,
+        },
     ];
     for case in &cases {
         let tree = tree_of(alloc, case.nodes)?;
@@ -277,36 +442,61 @@ fn the_reduced_tree_of_a_graph_is_divided(rt: HostRuntime) -> Result<(), Fail> {
     Ok(())
 }
 
-/// A tree of versions that share nothing, so that at the threshold 1/1 each edge is cut; `spread` versions hang on each.
-fn spread_tree(alloc: Global, count: u32, spread: u32) -> Result<Tree, AllocError> {
+#[derive(Clone, Copy)]
+enum Shape {
+    Chain,
+    Binary,
+    Random,
+    Star,
+}
+
+/// A tree of versions that share nothing, so that at the threshold 1/1 each edge is cut.
+fn shaped_tree(alloc: Global, shape: Shape, count: u32) -> Result<Tree, AllocError> {
     let mut nodes = Vec::new(alloc);
-    for vid in 1..=count {
+    nodes.push(Node {
+        records: 1,
+        parent: 0,
+        weight: 0,
+    })?;
+    let mut random = 1u32;
+    for before in 1..count {
+        random = random.wrapping_mul(1_103_515_245).wrapping_add(12_345);
+        let parent = match shape {
+            Shape::Chain => before,
+            Shape::Binary => (before - 1) / 2 + 1,
+            Shape::Random => (random >> 8) % before + 1,
+            Shape::Star => 1,
+        };
         nodes.push(Node {
             records: 1,
-            parent: if vid == 1 {
-                0
-            } else {
-                (vid - 2) / spread.max(1) + 1
-            },
+            parent,
             weight: 0,
         })?;
     }
     Ok(Tree { nodes })
 }
 
-// A chain and a binary tree of as many versions as there may be, and the worst case: a star, each cut of which takes a
-// single version from its part.
+// Trees of as many versions as there may be; and the worst case, a star, each cut of which takes a single version from its
+// part. Each prints its time.
 #[test]
 fn large_trees_are_divided(rt: HostRuntime) -> Result<(), Fail> {
     let alloc = rt.alloc();
-    let cases = [(65_535, 1, 16), (65_535, 2, 18), (2_000, 2_000, 1_999)];
-    for (count, spread, depth) in cases {
-        let tree = spread_tree(alloc, count, spread)?;
+    let cases = [
+        ("a chain", Shape::Chain, 65_535, 16),
+        ("a binary tree", Shape::Binary, 65_535, 18),
+        ("a random tree", Shape::Random, 65_535, 23),
+        ("a star", Shape::Star, 4_000, 3_999),
+    ];
+    for (name, shape, count, depth) in cases {
+        let tree = shaped_tree(alloc, shape, count)?;
         assert!(rt; is_sound(&tree));
+        let start = Instant::now(&rt)?;
         let split = split(alloc, &tree, 1, 1)?;
+        let taken = start.elapsed(&rt)?.as_millis();
         assert_eq!(rt; split.parts.len(), count as usize);
         assert_eq!(rt; split.cuts.len() + 1, count as usize);
         assert_eq!(rt; split.depth, depth);
+        println!(rt; "{name} of {count} versions: {taken} ms")?;
     }
     Ok(())
 }
