@@ -1,0 +1,6 @@
+pub mod Filling
+pub mod Showing
+pub mod Good
+pub mod Moving
+pub mod Covering
+pub mod Standing

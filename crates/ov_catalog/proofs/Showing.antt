@@ -1,0 +1,245 @@
+-- What a World shows, as a version comes: what was shown stays, and the new version and its records come to it.
+use Rattle.std.proofs.Common.{◌≡◌, ◌≤◌, ℕ, zero, suc, ◌+◌, Bool, true, false, ◌==◌, List, [], ◌∷◌, ◌++◌, length, map, refl, sym, ◌∙◌, ap, subst, arith}
+use Rattle.std.specs.Prelude.{if◌then◌else◌, Option, Some, None, codes}
+use Rattle.std.proofs.lemmas.List.{map-append, length-map, length-append, append-nil}
+use Rattle.std.proofs.lemmas.Bool.{cases_Bool}
+use Rattle.ov_place.specs.declared.place_facts.Place.{Place}
+use Rattle.ov_place.specs.declared.place_facts.Place.TheVariants.{Own, Join}
+use Rattle.ov_value.specs.Shapes.{Shape}
+use Rattle.ov_value.specs.Spelling.{row_spelling}
+use Rattle.ov_model.specs.Book.{Row, Version}
+use Rattle.ov_model.specs.Lists.{IsIn, AreIn, AllAreIn, joined}
+use Rattle.ov_model.specs.Moves as moves
+use Rattle.ov_model.specs.Moves.{piece_of, placed_at, next_with}
+use Rattle.ov_model.specs.Placed.{id_times}
+use Rattle.ov_model.specs.Records.{Rec, recs, records_of, record_of, fresh_in, order_of, rid_in, weights, lacking}
+use Rattle.ov_model.specs.World.{Part, Plan, Dataset, held}
+use Rattle.ov_model.proofs.Growing.{order_of_more, rid_more, length_recs}
+use Rattle.ov_model.proofs.Origins.{all_known}
+use Rattle.ov_catalog.specs.Numbers.{VersionNumbers, PartNumbers, SetNumbers}
+use Rattle.ov_catalog.specs.Events as events
+use Rattle.ov_catalog.specs.Shown.{Rids, Records, sorted_by, list_of, kept_as, segment_of, shown_version, shown_versions, shown_part, shown_plan, shown_set, held_by, added_to}
+
+-- ---- what is known keeps its rid
+
+rids_same : (all more rs : List Rec) → AreIn rs all → map (rid_in (all ++ more)) rs ≡ map (rid_in all) rs
+rids_same all more [] are = refl
+rids_same all more (r ∷ rs) are = λ i. rid_more all more r are.0 i ∷ rids_same all more rs are.1 i
+
+list_same : (all more rs : List Rec) → AreIn rs all → list_of (all ++ more) rs ≡ list_of all rs
+list_same all more rs are = ap (sorted_by (λ rid. rid)) (rids_same all more rs are)
+
+kept_same : (all more rs : List Rec) → AreIn rs all → map (kept_as (all ++ more)) rs ≡ map (kept_as all) rs
+kept_same all more [] are = refl
+kept_same all more (r ∷ rs) are = λ i. (rid_more all more r are.0 i, row_spelling r.row) ∷ kept_same all more rs are.1 i
+
+segments_same : (all more : List Rec) (pieces : List (List Rec)) → AllAreIn pieces all → map (segment_of (all ++ more)) pieces ≡ map (segment_of all) pieces
+segments_same all more [] are = refl
+segments_same all more (piece ∷ pieces) are = λ i. sorted_by (λ kept. kept.0) (kept_same all more piece are.0 i) ∷ segments_same all more pieces are.1 i
+
+-- the pieces of partitions have known records alone
+abbrev pub PiecesAreIn : List Rec → List Part → Type 0
+PiecesAreIn all [] = Unit {0}
+PiecesAreIn all (part ∷ parts) = AllAreIn part.pieces all × PiecesAreIn all parts
+
+part_same : (all more : List Rec) (part : Part) → AllAreIn part.pieces all → shown_part (all ++ more) part ≡ shown_part all part
+part_same all more part are = λ i. record {
+  id = part.id;
+  versions = part.versions;
+  holds = part.holds;
+  records = length (held part);
+  segments = segments_same all more part.pieces are i;
+}
+
+parts_same : (all more : List Rec) (parts : List Part) → PiecesAreIn all parts → map (shown_part (all ++ more)) parts ≡ map (shown_part all) parts
+parts_same all more [] are = refl
+parts_same all more (part ∷ parts) are = λ i. part_same all more part are.0 i ∷ parts_same all more parts are.1 i
+
+-- ---- versions
+
+before_in : (done : List (List Rec)) (l all : List Rec) → AllAreIn (done ++ l ∷ []) all → AllAreIn done all × AreIn l all
+before_in [] l all are = (tt, are.0)
+before_in (x ∷ done) l all are = ((are.0, (before_in done l all are.1).0), (before_in done l all are.1).1)
+
+done_in : (vs : List Version) (done : List (List Rec)) (all : List Rec) → AllAreIn (recs vs done) all → AllAreIn done all
+done_in [] done all are = are
+done_in (v ∷ vs) done all are = (before_in done (records_of v done) all (done_in vs (done ++ records_of v done ∷ []) all are)).0
+
+versions_same : (all more : List Rec) (done : List (List Rec)) (vs : List Version) → AllAreIn (recs vs done) all → shown_versions (all ++ more) done vs ≡ shown_versions all done vs
+versions_same all more done [] are = refl
+versions_same all more done (v ∷ vs) are =
+    let rs : List Rec = records_of v done
+    in let ours : AreIn rs all = (before_in done rs all (done_in vs (done ++ rs ∷ []) all are)).1
+    in λ i. events.version_of (weights v.parents rs done) v.message (length v.rows) (length (fresh_in rs (length done + 1))) (list_same all more rs ours i)
+    ∷ versions_same all more (done ++ rs ∷ []) vs are i
+
+versions_more : (all : List Rec) (done : List (List Rec)) (vs : List Version) (v : Version) → shown_versions all done (vs ++ v ∷ []) ≡ shown_versions all done vs ++ shown_version all (recs vs done) v ∷ []
+versions_more all done [] v = refl
+versions_more all done (w ∷ vs) v = ap (λ ws. shown_version all done w ∷ ws) (versions_more all (done ++ records_of w done ∷ []) vs v)
+
+versions_long : (all : List Rec) (done : List (List Rec)) (vs : List Version) → length (shown_versions all done vs) ≡ length vs
+versions_long all done [] = refl
+versions_long all done (v ∷ vs) = ap (λ n. suc n) (versions_long all (done ++ records_of v done ∷ []) vs)
+
+-- ---- partitions
+
+pub piece_all : (rs : List Rec) → joined (piece_of rs) ≡ rs
+piece_all [] = refl
+piece_all (r ∷ rs) = append-nil (r ∷ rs)
+
+joined_long : (a b : List (List Rec)) → length (joined (a ++ b)) ≡ length (joined a) + length (joined b)
+joined_long [] b = omega arith
+joined_long (x ∷ a) b = omega (arith, length-append x (joined (a ++ b)), length-append x (joined a), joined_long a b)
+
+joined_shown : (all more : List Rec) (vid : ℕ) (rs : List Rec) (part : Part) → AllAreIn part.pieces all
+    → shown_part (all ++ more) (moves.with_joined vid rs part)
+    ≡ events.with_joined vid (length (lacking rs (held part))) (map (segment_of (all ++ more)) (piece_of (lacking rs (held part)))) (shown_part all part)
+joined_shown all more vid rs part are = λ i. record {
+  id = part.id;
+  versions = part.versions ++ vid ∷ [];
+  holds = part.holds ++ vid ∷ [];
+  records = long i;
+  segments = same i;
+}
+  where
+    long : length (held (moves.with_joined vid rs part)) ≡ length (held part) + length (lacking rs (held part))
+    long = joined_long part.pieces (piece_of (lacking rs (held part))) ∙ ap (λ xs. length (held part) + length xs) (piece_all (lacking rs (held part)))
+    same : map (segment_of (all ++ more)) (part.pieces ++ piece_of (lacking rs (held part))) ≡ map (segment_of all) part.pieces ++ map (segment_of (all ++ more)) (piece_of (lacking rs (held part)))
+    same = map-append (segment_of (all ++ more)) part.pieces (piece_of (lacking rs (held part)))
+        ∙ ap (λ ss. ss ++ map (segment_of (all ++ more)) (piece_of (lacking rs (held part)))) (segments_same all more part.pieces are)
+
+-- where none has the number
+unjoined : (all more : List Rec) (id vid : ℕ) (rs : List Rec) (parts : List Part) → PiecesAreIn all parts → id_times parts id ≡ 0
+    → map (shown_part (all ++ more)) (map (λ part. if part.id == id then moves.with_joined vid rs part else part) parts) ≡ map (shown_part all) parts
+unjoined all more id vid rs [] are none = refl
+unjoined all more id vid rs (part ∷ parts) are none = by (part.id == id) none (unjoined all more id vid rs parts are.1)
+  where
+    by : (b : Bool) → (if b then 1 else 0) + id_times parts id ≡ 0
+        → (id_times parts id ≡ 0 → map (shown_part (all ++ more)) (map (λ part. if part.id == id then moves.with_joined vid rs part else part) parts) ≡ map (shown_part all) parts)
+        → shown_part (all ++ more) (if b then moves.with_joined vid rs part else part) ∷ map (shown_part (all ++ more)) (map (λ part. if part.id == id then moves.with_joined vid rs part else part) parts)
+        ≡ shown_part all part ∷ map (shown_part all) parts
+    by true none rest = absurd (omega (arith, none))
+    by false none rest = λ i. part_same all more part are.0 i ∷ rest (omega (arith, none)) i
+
+join_shown : (all more : List Rec) (id vid : ℕ) (rs : List Rec) (parts : List Part) → PiecesAreIn all parts → id_times parts id ≤ 1
+    → map (shown_part (all ++ more)) (map (λ part. if part.id == id then moves.with_joined vid rs part else part) parts)
+    ≡ events.join_at id vid (length (lacking rs (held_by parts id))) (map (segment_of (all ++ more)) (piece_of (lacking rs (held_by parts id)))) (map (shown_part all) parts)
+join_shown all more id vid rs [] are once = refl
+join_shown all more id vid rs (part ∷ parts) are once = by (part.id == id) once (join_shown all more id vid rs parts are.1)
+  where
+    by : (b : Bool) → (if b then 1 else 0) + id_times parts id ≤ 1
+        → (id_times parts id ≤ 1 → map (shown_part (all ++ more)) (map (λ part. if part.id == id then moves.with_joined vid rs part else part) parts)
+        ≡ events.join_at id vid (length (lacking rs (held_by parts id))) (map (segment_of (all ++ more)) (piece_of (lacking rs (held_by parts id)))) (map (shown_part all) parts))
+        → shown_part (all ++ more) (if b then moves.with_joined vid rs part else part) ∷ map (shown_part (all ++ more)) (map (λ part. if part.id == id then moves.with_joined vid rs part else part) parts)
+        ≡ (if b
+        then events.with_joined vid (length (lacking rs (if b then held part else held_by parts id))) (map (segment_of (all ++ more)) (piece_of (lacking rs (if b then held part else held_by parts id)))) (shown_part all part) ∷ map (shown_part all) parts
+        else shown_part all part ∷ events.join_at id vid (length (lacking rs (if b then held part else held_by parts id))) (map (segment_of (all ++ more)) (piece_of (lacking rs (if b then held part else held_by parts id)))) (map (shown_part all) parts))
+    by true once rest = λ i. joined_shown all more vid rs part are.0 i ∷ unjoined all more id vid rs parts are.1 (omega (arith, once)) i
+    by false once rest = λ i. part_same all more part are.0 i ∷ rest (omega (arith, once)) i
+
+own_shown : (all : List Rec) (id vid : ℕ) (rs : List Rec) → shown_part all (moves.own_part id vid rs) ≡ events.own_part id vid (length rs) (map (segment_of all) (piece_of rs))
+own_shown all id vid rs = λ i. record {
+  id = id;
+  versions = vid ∷ [];
+  holds = vid ∷ [];
+  records = length (piece_all rs i);
+  segments = map (segment_of all) (piece_of rs);
+}
+
+placed_shown : (all more : List Rec) (place : Place) (next vid : ℕ) (rs : List Rec) (parts : List Part) → PiecesAreIn all parts → ((id : ℕ) → id_times parts id ≤ 1)
+    → map (shown_part (all ++ more)) (moves.parts_with place next vid rs parts)
+    ≡ events.parts_with place next vid (length (added_to place parts rs)) (map (segment_of (all ++ more)) (piece_of (added_to place parts rs))) (map (shown_part all) parts)
+placed_shown all more Own next vid rs parts are once =
+    map-append (shown_part (all ++ more)) parts (moves.own_part next vid rs ∷ [])
+    ∙ (λ i. parts_same all more parts are i ++ own_shown (all ++ more) next vid rs i ∷ [])
+placed_shown all more (Join id) next vid rs parts are once = join_shown all more id vid rs parts are (once id)
+
+-- ---- a version more
+
+plan_same : (d e : Dataset) (plan : Option Plan) → plan ≡ None → shown_plan d plan ≡ shown_plan e plan
+plan_same d e plan none = subst (λ p. shown_plan d p ≡ shown_plan e p) (sym none) refl
+
+pub version_shown : (d : Dataset) (v : Version) → PiecesAreIn (order_of d.cvd.versions) d.parts → ((id : ℕ) → id_times d.parts id ≤ 1) → d.plan ≡ None
+    → shown_set (moves.with_version v d)
+    ≡ events.with_version (shown_version (order_of (d.cvd.versions ++ v ∷ [])) (recs d.cvd.versions []) v) (placed_at d v)
+    (length (added_to (placed_at d v) d.parts (records_of v (recs d.cvd.versions []))))
+    (map (segment_of (order_of (d.cvd.versions ++ v ∷ []))) (piece_of (added_to (placed_at d v) d.parts (records_of v (recs d.cvd.versions [])))))
+    (shown_set d)
+version_shown d v are once none = λ i. record {
+  number = d.cvd.number;
+  name = d.cvd.name;
+  schema = d.cvd.schema;
+  versions = versions i;
+  parts = parts i;
+  next_part = next_with (placed_at d v) d.next_part;
+  threshold = d.threshold;
+  plan = plan_same (moves.with_version v d) d d.plan none i;
+  records = records i;
+}
+  where
+    vs : List Version
+    vs = d.cvd.versions
+    rs : List Rec
+    rs = records_of v (recs d.cvd.versions [])
+    more : List Rec
+    more = fresh_in (records_of v (recs d.cvd.versions [])) (1 + length (recs d.cvd.versions []))
+    grown : order_of (d.cvd.versions ++ v ∷ []) ≡ order_of d.cvd.versions ++ more
+    grown = order_of_more d.cvd.versions v
+    versions : shown_versions (order_of (d.cvd.versions ++ v ∷ [])) [] (d.cvd.versions ++ v ∷ [])
+        ≡ shown_versions (order_of d.cvd.versions) [] d.cvd.versions ++ shown_version (order_of (d.cvd.versions ++ v ∷ [])) (recs d.cvd.versions []) v ∷ []
+    versions = versions_more (order_of (d.cvd.versions ++ v ∷ [])) [] d.cvd.versions v
+        ∙ ap (λ ws. ws ++ shown_version (order_of (d.cvd.versions ++ v ∷ [])) (recs d.cvd.versions []) v ∷ [])
+        (ap (λ all. shown_versions all [] d.cvd.versions) grown ∙ versions_same (order_of d.cvd.versions) more [] d.cvd.versions (all_known d.cvd.versions))
+    parts : map (shown_part (order_of (d.cvd.versions ++ v ∷ []))) (moves.parts_with (placed_at d v) d.next_part (length d.cvd.versions + 1) rs d.parts)
+        ≡ events.parts_with (placed_at d v) d.next_part (length (shown_versions (order_of d.cvd.versions) [] d.cvd.versions) + 1) (length (added_to (placed_at d v) d.parts rs))
+        (map (segment_of (order_of (d.cvd.versions ++ v ∷ []))) (piece_of (added_to (placed_at d v) d.parts rs))) (map (shown_part (order_of d.cvd.versions)) d.parts)
+    parts =
+        subst (λ all. map (shown_part all) (moves.parts_with (placed_at d v) d.next_part (length d.cvd.versions + 1) rs d.parts)
+        ≡ events.parts_with (placed_at d v) d.next_part (length (shown_versions (order_of d.cvd.versions) [] d.cvd.versions) + 1) (length (added_to (placed_at d v) d.parts rs))
+        (map (segment_of all) (piece_of (added_to (placed_at d v) d.parts rs))) (map (shown_part (order_of d.cvd.versions)) d.parts)) (sym grown)
+        (placed_shown (order_of d.cvd.versions) more (placed_at d v) d.next_part (length d.cvd.versions + 1) rs d.parts are once
+        ∙ ap (λ n. events.parts_with (placed_at d v) d.next_part (n + 1) (length (added_to (placed_at d v) d.parts rs))
+        (map (segment_of (order_of d.cvd.versions ++ more)) (piece_of (added_to (placed_at d v) d.parts rs))) (map (shown_part (order_of d.cvd.versions)) d.parts))
+        (sym (versions_long (order_of d.cvd.versions) [] d.cvd.versions)))
+    records : length (order_of (d.cvd.versions ++ v ∷ [])) ≡ length (order_of d.cvd.versions) + length (fresh_in rs (length (recs d.cvd.versions []) + 1))
+    records =
+        let swap : 1 + length (recs d.cvd.versions []) ≡ length (recs d.cvd.versions []) + 1 = omega arith
+        in ap length grown ∙ length-append (order_of d.cvd.versions) more ∙ ap (λ n. length (order_of d.cvd.versions) + length (fresh_in rs n)) swap
+
+-- ---- a dataset as an Init makes it
+
+all_fresh : (rows : List Row) → fresh_in (map (record_of [] []) rows) 1 ≡ map (record_of [] []) rows
+all_fresh [] = refl
+all_fresh (row ∷ rows) = ap (λ rs. record_of [] [] row ∷ rs) (all_fresh rows)
+
+fresh_long : (rows : List Row) → length (fresh_in (map (record_of [] []) rows) 1) ≡ length rows
+fresh_long rows = ap length (all_fresh rows) ∙ length-map rows (record_of [] [])
+
+pub new_shown : (number : ℕ) (name : List ℕ) (schema : Shape) (rows : List Row) (v : Version) → v ≡ moves.version_of [] (codes "init") rows
+    → shown_set (moves.new_set number name schema rows)
+    ≡ events.new_set number name schema (length v.rows) (list_of (order_of (v ∷ [])) (records_of v []))
+    (map (segment_of (order_of (v ∷ []))) (piece_of (records_of v [])))
+new_shown number name schema rows v is =
+    subst (λ w. shown_set (moves.new_set number name schema rows)
+    ≡ events.new_set number name schema (length w.rows) (list_of (order_of (w ∷ [])) (records_of w []))
+    (map (segment_of (order_of (w ∷ []))) (piece_of (records_of w [])))) (sym is)
+    (λ i. record {
+      number = number;
+      name = name;
+      schema = schema;
+      versions = events.version_of [] (codes "init") (length rows) (fresh_long rows i) (list_of (order_of (first ∷ [])) (records_of first [])) ∷ [];
+      parts = parts i ∷ [];
+      next_part = 2;
+      threshold = None;
+      plan = None;
+      records = records i;
+    })
+  where
+    first : Version
+    first = moves.version_of [] (codes "init") rows
+    parts : shown_part (order_of (moves.version_of [] (codes "init") rows ∷ [])) (moves.own_part 1 1 (map (record_of [] []) rows))
+        ≡ events.own_part 1 1 (length rows) (map (segment_of (order_of (moves.version_of [] (codes "init") rows ∷ []))) (piece_of (map (record_of [] []) rows)))
+    parts = own_shown (order_of (moves.version_of [] (codes "init") rows ∷ [])) 1 1 (map (record_of [] []) rows)
+        ∙ ap (λ n. events.own_part 1 1 n (map (segment_of (order_of (moves.version_of [] (codes "init") rows ∷ []))) (piece_of (map (record_of [] []) rows)))) (length-map rows (record_of [] []))
+    records : length (order_of (moves.version_of [] (codes "init") rows ∷ [])) ≡ length rows
+    records = ap length (append-nil (fresh_in (map (record_of [] []) rows) 1)) ∙ fresh_long rows

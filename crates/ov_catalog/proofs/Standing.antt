@@ -1,0 +1,127 @@
+-- The laws of what events and readings stand for.
+use Rattle.std.proofs.Common.{◌≡◌, ◌≤◌, ◌<◌, ℕ, zero, suc, ◌+◌, List, [], ◌∷◌, ◌++◌, map, refl, sym, ◌∙◌, ap, subst, inl, inr, arith}
+use Rattle.std.specs.Prelude.{Option, Some, None}
+use Rattle.std.specs.List.{flat_map}
+use Rattle.std.proofs.lemmas.List.{map-append}
+use Rattle.ov_host.specs.declared.area.Extent.{Extent}
+use Rattle.ov_model.specs.Lists.{IsIn}
+use Rattle.ov_model.specs.Moves.{Move, moved}
+use Rattle.ov_model.specs.World.{World, empty_world}
+use Rattle.ov_catalog.specs.Numbers.{VersionNumbers, PartNumbers, PlanNumbers, SetNumbers, Numbers, each_version, each_part, each_plan, each_set, each, nothing_yet}
+use Rattle.ov_catalog.specs.Events.{Event, each_event, applied, replayed}
+use Rattle.ov_catalog.specs.Extents.{of_plan, of_set, live, brought, covers, AreApart}
+use Rattle.ov_catalog.specs.Reached.{Fits, Reached}
+use Rattle.ov_catalog.specs.Shown.{Rids, Records, shown, event_of}
+use Rattle.ov_catalog.specs.Stands.{Readings, seen, asked, seen_event, asked_event, StandsFor, ReadSame, IsMove}
+use Rattle.ov_catalog.proofs.Covering.{live_applied}
+use Rattle.ov_catalog.proofs.Filling.{applied_each, replayed_more}
+use Rattle.ov_catalog.proofs.Good.{good, reached_more}
+use Rattle.ov_catalog.proofs.Moving.{events_are_moves}
+
+-- ---- the same is read
+
+ext_left : (xs ys : List Extent) (e : Extent) → IsIn xs e → IsIn (xs ++ ys) e
+ext_left [] ys e is = absurd is
+ext_left (x ∷ xs) ys e (inl same) = inl same
+ext_left (x ∷ xs) ys e (inr later) = inr (ext_left xs ys e later)
+
+ext_right : (xs ys : List Extent) (e : Extent) → IsIn ys e → IsIn (xs ++ ys) e
+ext_right [] ys e is = is
+ext_right (x ∷ xs) ys e is = inr (ext_right xs ys e is)
+
+module _ (old new : Readings) where
+  abbrev SameLists : List Extent → Type 0
+  SameLists es = (e : Extent) → IsIn es e → new.list e ≡ old.list e
+
+  abbrev SameSegments : List Extent → Type 0
+  SameSegments es = (e : Extent) → IsIn es e → new.segment e ≡ old.segment e
+
+  versions_same : (vs : List (VersionNumbers Extent)) → SameLists (map (λ v. v.list) vs) → map (each_version new.list) vs ≡ map (each_version old.list) vs
+  versions_same [] same = refl
+  versions_same (v ∷ vs) same = λ i.
+      record { parents = v.parents; message = v.message; rows = v.rows; fresh = v.fresh; list = same v.list (inl refl) i }
+      ∷ versions_same vs (λ e is. same e (inr is)) i
+
+  segments_same : (es : List Extent) → SameSegments es → map new.segment es ≡ map old.segment es
+  segments_same [] same = refl
+  segments_same (e ∷ es) same = λ i. same e (inl refl) i ∷ segments_same es (λ x is. same x (inr is)) i
+
+  parts_same : (parts : List (PartNumbers Extent)) → SameSegments (flat_map (λ p. p.segments) parts) → map (each_part new.segment) parts ≡ map (each_part old.segment) parts
+  parts_same [] same = refl
+  parts_same (part ∷ parts) same = λ i.
+      record {
+        id = part.id;
+        versions = part.versions;
+        holds = part.holds;
+        records = part.records;
+        segments = segments_same part.segments (λ e is. same e (ext_left part.segments (flat_map (λ p. p.segments) parts) e is)) i;
+      }
+      ∷ parts_same parts (λ e is. same e (ext_right part.segments (flat_map (λ p. p.segments) parts) e is)) i
+
+  plan_same : (plan : Option (PlanNumbers Extent)) → SameSegments (of_plan plan) → each_plan new.segment plan ≡ each_plan old.segment plan
+  plan_same None same = refl
+  plan_same (Some plan) same = λ i. Some (record { p = plan.p; q = plan.q; targets = plan.targets; at = plan.at; copied = plan.copied; segments = segments_same plan.segments same i })
+
+  set_same : (d : SetNumbers Extent Extent) → SameLists (of_set d) → SameSegments (of_set d) → each_set new.list new.segment d ≡ each_set old.list old.segment d
+  set_same d lists segments = λ i. record {
+    number = d.number;
+    name = d.name;
+    schema = d.schema;
+    versions = versions_same d.versions (λ e is. lists e (ext_left (map (λ v. v.list) d.versions) rest e is)) i;
+    parts = parts_same d.parts (λ e is. segments e (ext_right (map (λ v. v.list) d.versions) rest e (ext_left (flat_map (λ p. p.segments) d.parts) (of_plan d.plan) e is))) i;
+    next_part = d.next_part;
+    threshold = d.threshold;
+    plan = plan_same d.plan (λ e is. segments e (ext_right (map (λ v. v.list) d.versions) rest e (ext_right (flat_map (λ p. p.segments) d.parts) (of_plan d.plan) e is))) i;
+    records = d.records;
+  }
+    where
+      rest : List Extent
+      rest = flat_map (λ p. p.segments) d.parts ++ of_plan d.plan
+
+  sets_same : (sets : List (SetNumbers Extent Extent)) → SameLists (flat_map of_set sets) → SameSegments (flat_map of_set sets) → map (each_set new.list new.segment) sets ≡ map (each_set old.list old.segment) sets
+  sets_same [] lists segments = refl
+  sets_same (d ∷ sets) lists segments = λ i.
+      set_same d (λ e is. lists e (ext_left (of_set d) (flat_map of_set sets) e is)) (λ e is. segments e (ext_left (of_set d) (flat_map of_set sets) e is)) i
+      ∷ sets_same sets (λ e is. lists e (ext_right (of_set d) (flat_map of_set sets) e is)) (λ e is. segments e (ext_right (of_set d) (flat_map of_set sets) e is)) i
+
+pub same_readings : (events : List (Event Extent Extent)) (old new : Readings) (w : World) → StandsFor events old w → ReadSame (live (replayed events nothing_yet)) old new → StandsFor events new w
+same_readings events old new w stands same =
+    let n : Numbers Extent Extent = replayed events nothing_yet
+    in record {
+      reached = stands.reached;
+      shows = (λ i. record { next = n.next; sets = sets_same old new n.sets same.lists same.segments i }) ∙ stands.shows;
+      apart = record { once = stands.apart.once; inside = same.there };
+    }
+
+-- ---- one event more
+
+pub one_more : (events : List (Event Extent Extent)) (r : Readings) (w : World) (e : Event Extent Extent) (m : Move)
+    → StandsFor events r w → IsMove e m w (replayed events nothing_yet) r → StandsFor (events ++ e ∷ []) r (moved m w)
+one_more events r w e m stands is =
+    let n : Numbers Extent Extent = replayed events nothing_yet
+    in let more : replayed (events ++ e ∷ []) nothing_yet ≡ applied e n = replayed_more events e nothing_yet
+    in record {
+      reached = reached_more m w stands.reached is.fits;
+      shows = ap (seen r) more
+          ∙ applied_each r.list r.segment e n
+          ∙ ap (λ f. applied f (seen r n)) is.spells
+          ∙ ap (applied (asked_event m w)) stands.shows
+          ∙ sym (applied_each Some Some (event_of m w) (shown w))
+          ∙ ap (each Some Some) (sym (events_are_moves m w is.fits (good w stands.reached)));
+      apart = subst (λ k. AreApart (live k) r.pages) (sym more) (record {
+        once = λ page. omega (arith, live_applied page e n, is.apart page);
+        inside = λ page some. inside page (covers (brought e) page) (covers (live n) page) (covers (live (applied e n)) page) (live_applied page e n) some (is.inside page) (stands.apart.inside page);
+      });
+    }
+  where
+    inside : (page a b c : ℕ) → c ≤ a + b → 1 ≤ c → (1 ≤ a → page < r.pages) → (1 ≤ b → page < r.pages) → page < r.pages
+    inside page zero b c most some new old = old (omega (arith, most, some))
+    inside page (suc a) b c most some new old = new (omega arith)
+
+-- no event, and any readings
+pub nothing_stands : (r : Readings) → StandsFor [] r empty_world
+nothing_stands r = record {
+  reached = ([], refl);
+  shows = refl;
+  apart = record { once = λ page. omega arith; inside = λ page some. absurd (omega (arith, some)) };
+}

@@ -1,0 +1,6 @@
+pub mod Numbers
+pub mod Events
+pub mod Extents
+pub mod Shown
+pub mod Reached
+pub mod Stands

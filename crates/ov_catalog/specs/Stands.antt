@@ -1,0 +1,51 @@
+-- What events, with what is read of their lists and segments, stand for.
+--     StandsFor events r w      they stand for the World
+--     IsMove e m w n r      one more event, which is that of a move of the World
+use Rattle.std.specs.Prelude.{◌≡◌, ◌≤◌, ◌<◌, ◌+◌, ℕ, List, Option, Some, None}
+use Rattle.ov_host.specs.declared.area.Extent.{Extent}
+use Rattle.ov_model.specs.Lists.{IsIn}
+use Rattle.ov_model.specs.Moves.{Move}
+use Rattle.ov_model.specs.World.{World}
+use Rattle.ov_catalog.specs.Numbers.{Numbers, each, nothing_yet}
+use Rattle.ov_catalog.specs.Events.{Event, each_event, replayed}
+use Rattle.ov_catalog.specs.Extents.{AreApart, brought, covers, live}
+use Rattle.ov_catalog.specs.Reached.{Fits, Reached}
+use Rattle.ov_catalog.specs.Shown.{Rids, Records, shown, event_of}
+
+-- What the extents have, as read: the rids of a list, the records of a segment; None where the bytes spell none. And how many
+-- pages there are to read.
+pub record Readings : Type 0 where
+  pub list : Extent → Option Rids
+  pub segment : Extent → Option Records
+  pub pages : ℕ
+
+-- numbers and events with what is read in their holes, and as a World has it
+abbrev pub seen : Readings → Numbers Extent Extent → Numbers (Option Rids) (Option Records)
+seen r n = each r.list r.segment n
+
+abbrev pub asked : World → Numbers (Option Rids) (Option Records)
+asked w = each Some Some (shown w)
+
+abbrev pub seen_event : Readings → Event Extent Extent → Event (Option Rids) (Option Records)
+seen_event r e = each_event r.list r.segment e
+
+abbrev pub asked_event : Move → World → Event (Option Rids) (Option Records)
+asked_event m w = each_event Some Some (event_of m w)
+
+pub record StandsFor (events : List (Event Extent Extent)) (r : Readings) (w : World) : Type 0 where
+  pub reached : Reached w
+  pub shows : seen r (replayed events nothing_yet) ≡ asked w
+  pub apart : AreApart (live (replayed events nothing_yet)) r.pages
+
+-- on these extents both read the same
+pub record ReadSame (es : List Extent) (old new : Readings) : Type 0 where
+  pub lists : (e : Extent) → IsIn es e → new.list e ≡ old.list e
+  pub segments : (e : Extent) → IsIn es e → new.segment e ≡ old.segment e
+  pub there : (page : ℕ) → 1 ≤ covers es page → page < new.pages
+
+-- the event of a move that fits, whose new extents lie off the live ones and off each other and have what the World asks for
+pub record IsMove (e : Event Extent Extent) (m : Move) (w : World) (n : Numbers Extent Extent) (r : Readings) : Type 0 where
+  pub fits : Fits m w
+  pub spells : seen_event r e ≡ asked_event m w
+  pub apart : (page : ℕ) → covers (brought e) page + covers (live n) page ≤ 1
+  pub inside : (page : ℕ) → 1 ≤ covers (brought e) page → page < r.pages

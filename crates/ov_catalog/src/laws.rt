@@ -1,0 +1,34 @@
+//! Laws of what events and readings stand for, each the contract of a function that does nothing.
+
+ghost use Rattle.std.specs.Prelude.{◌≡◌, List, [], ◌∷◌, ◌++◌};
+ghost use Rattle.ov_host.specs.declared.area.Extent.{Extent};
+ghost use Rattle.ov_model.specs.Moves.{Move, moved};
+ghost use Rattle.ov_model.specs.World.{World, empty_world};
+ghost use Rattle.ov_catalog.specs.Events.{Event, applied, replayed};
+ghost use Rattle.ov_catalog.specs.Extents.{live};
+ghost use Rattle.ov_catalog.specs.Numbers.{nothing_yet};
+ghost use Rattle.ov_catalog.specs.Reached.{Fits, Reached};
+ghost use Rattle.ov_catalog.specs.Shown.{shown, event_of};
+ghost use Rattle.ov_catalog.specs.Stands.{Readings, StandsFor, ReadSame, IsMove};
+
+/// The event of a move makes of a World's numbers those of the World after it.
+pub fn events_are_moves()
+    ensures { (m : Move) (w : World) → Reached w → Fits m w → shown (moved m w) ≡ applied (event_of m w) (shown w) }
+{}
+
+/// No event stands for the empty World, whatever the pages have.
+pub fn nothing_stands_for_the_empty_world()
+    ensures { (r : Readings) → StandsFor [] r empty_world }
+{}
+
+/// Only what is read of the live extents counts.
+pub fn only_live_extents_matter()
+    ensures { (events : List (Event Extent Extent)) (old new : Readings) (w : World) → StandsFor events old w
+        → ReadSame (live (replayed events nothing_yet)) old new → StandsFor events new w }
+{}
+
+/// One event more, that of a move, stands for the World after the move.
+pub fn one_more_event()
+    ensures { (events : List (Event Extent Extent)) (r : Readings) (w : World) (e : Event Extent Extent) (m : Move) → StandsFor events r w
+        → IsMove e m w (replayed events nothing_yet) r → StandsFor (events ++ e ∷ []) r (moved m w) }
+{}
