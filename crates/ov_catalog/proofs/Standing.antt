@@ -8,7 +8,10 @@ use Rattle.ov_model.specs.Lists.{IsIn}
 use Rattle.ov_model.specs.Moves.{Move, moved}
 use Rattle.ov_model.specs.World.{World, empty_world}
 use Rattle.ov_catalog.specs.Numbers.{VersionNumbers, PartNumbers, PlanNumbers, SetNumbers, Numbers, each_version, each_part, each_plan, each_set, each, nothing_yet}
-use Rattle.ov_catalog.specs.Events.{Event, each_event, applied, replayed}
+use Rattle.ov_catalog.specs.Events.{each_event, applied, replayed}
+use Rattle.ov_event.specs.declared.event.Event as raw
+use Rattle.ov_catalog.specs.Applying.{AllApply, first_off}
+use Rattle.ov_catalog.specs.Raw.{event_in, numbers_in}
 use Rattle.ov_catalog.specs.Extents.{of_plan, of_set, live, brought, covers, AreApart}
 use Rattle.ov_catalog.specs.Reached.{Fits, Reached}
 use Rattle.ov_catalog.specs.Shown.{Rids, Records, shown, event_of}
@@ -84,33 +87,47 @@ module _ (old new : Readings) where
       set_same d (λ e is. lists e (ext_left (of_set d) (flat_map of_set sets) e is)) (λ e is. segments e (ext_left (of_set d) (flat_map of_set sets) e is)) i
       ∷ sets_same sets (λ e is. lists e (ext_right (of_set d) (flat_map of_set sets) e is)) (λ e is. segments e (ext_right (of_set d) (flat_map of_set sets) e is)) i
 
-pub same_readings : (events : List (Event Extent Extent)) (old new : Readings) (w : World) → StandsFor events old w → ReadSame (live (replayed events nothing_yet)) old new → StandsFor events new w
+-- events one after another, and one more
+mapped_more : (es : List raw.Event) (e : raw.Event) → map event_in (es ++ e ∷ []) ≡ map event_in es ++ event_in e ∷ []
+mapped_more es e = map-append event_in es (e ∷ [])
+
+numbers_more : (es : List raw.Event) (e : raw.Event) → numbers_in (es ++ e ∷ []) ≡ applied (event_in e) (numbers_in es)
+numbers_more es e = ap (λ xs. replayed xs nothing_yet) (mapped_more es e) ∙ replayed_more (map event_in es) (event_in e) nothing_yet
+
+apply_more : (es : List raw.Event) (e : raw.Event) (n : Numbers Extent Extent) → AllApply es n → first_off e (replayed (map event_in es) n) ≡ None → AllApply (es ++ e ∷ []) n
+apply_more [] e n all is = (is, tt)
+apply_more (x ∷ es) e n all is = (all.0, apply_more es e (applied (event_in x) n) all.1 is)
+
+pub same_readings : (events : List raw.Event) (old new : Readings) (w : World) → StandsFor events old w → ReadSame (live (numbers_in events)) old new → StandsFor events new w
 same_readings events old new w stands same =
-    let n : Numbers Extent Extent = replayed events nothing_yet
+    let n : Numbers Extent Extent = numbers_in events
     in record {
       reached = stands.reached;
+      applies = stands.applies;
       shows = (λ i. record { next = n.next; sets = sets_same old new n.sets same.lists same.segments i }) ∙ stands.shows;
       apart = record { once = stands.apart.once; inside = same.there };
     }
 
 -- ---- one event more
 
-pub one_more : (events : List (Event Extent Extent)) (r : Readings) (w : World) (e : Event Extent Extent) (m : Move)
-    → StandsFor events r w → IsMove e m w (replayed events nothing_yet) r → StandsFor (events ++ e ∷ []) r (moved m w)
+pub one_more : (events : List raw.Event) (r : Readings) (w : World) (e : raw.Event) (m : Move)
+    → StandsFor events r w → IsMove e m w (numbers_in events) r → StandsFor (events ++ e ∷ []) r (moved m w)
 one_more events r w e m stands is =
-    let n : Numbers Extent Extent = replayed events nothing_yet
-    in let more : replayed (events ++ e ∷ []) nothing_yet ≡ applied e n = replayed_more events e nothing_yet
+    let n : Numbers Extent Extent = numbers_in events
+    in let more : numbers_in (events ++ e ∷ []) ≡ applied (event_in e) n = numbers_more events e
     in record {
       reached = reached_more m w stands.reached is.fits;
+      applies = apply_more events e nothing_yet stands.applies is.applies;
       shows = ap (seen r) more
-          ∙ applied_each r.list r.segment e n
+          ∙ applied_each r.list r.segment (event_in e) n
           ∙ ap (λ f. applied f (seen r n)) is.spells
           ∙ ap (applied (asked_event m w)) stands.shows
           ∙ sym (applied_each Some Some (event_of m w) (shown w))
           ∙ ap (each Some Some) (sym (events_are_moves m w is.fits (good w stands.reached)));
       apart = subst (λ k. AreApart (live k) r.pages) (sym more) (record {
-        once = λ page. omega (arith, live_applied page e n, is.apart page);
-        inside = λ page some. inside page (covers (brought e) page) (covers (live n) page) (covers (live (applied e n)) page) (live_applied page e n) some (is.inside page) (stands.apart.inside page);
+        once = λ page. omega (arith, live_applied page (event_in e) n, is.apart page);
+        inside = λ page some. inside page (covers (brought (event_in e)) page) (covers (live n) page) (covers (live (applied (event_in e) n)) page)
+            (live_applied page (event_in e) n) some (is.inside page) (stands.apart.inside page);
       });
     }
   where
@@ -122,6 +139,7 @@ one_more events r w e m stands is =
 pub nothing_stands : (r : Readings) → StandsFor [] r empty_world
 nothing_stands r = record {
   reached = ([], refl);
+  applies = tt;
   shows = refl;
   apart = record { once = λ page. omega arith; inside = λ page some. absurd (omega (arith, some)) };
 }

@@ -6,9 +6,12 @@ use Rattle.ov_host.specs.declared.area.Extent.{Extent}
 use Rattle.ov_model.specs.Lists.{IsIn}
 use Rattle.ov_model.specs.Moves.{Move}
 use Rattle.ov_model.specs.World.{World}
+use Rattle.ov_event.specs.declared.event.Event as raw
 use Rattle.ov_catalog.specs.Numbers.{Numbers, each, nothing_yet}
-use Rattle.ov_catalog.specs.Events.{Event, each_event, replayed}
+use Rattle.ov_catalog.specs.Events.{Event, each_event}
+use Rattle.ov_catalog.specs.Applying.{AllApply, first_off}
 use Rattle.ov_catalog.specs.Extents.{AreApart, brought, covers, live}
+use Rattle.ov_catalog.specs.Raw.{event_in, numbers_in}
 use Rattle.ov_catalog.specs.Reached.{Fits, Reached}
 use Rattle.ov_catalog.specs.Shown.{Rids, Records, shown, event_of}
 
@@ -26,16 +29,17 @@ seen r n = each r.list r.segment n
 abbrev pub asked : World → Numbers (Option Rids) (Option Records)
 asked w = each Some Some (shown w)
 
-abbrev pub seen_event : Readings → Event Extent Extent → Event (Option Rids) (Option Records)
-seen_event r e = each_event r.list r.segment e
+abbrev pub seen_event : Readings → raw.Event → Event (Option Rids) (Option Records)
+seen_event r e = each_event r.list r.segment (event_in e)
 
 abbrev pub asked_event : Move → World → Event (Option Rids) (Option Records)
 asked_event m w = each_event Some Some (event_of m w)
 
-pub record StandsFor (events : List (Event Extent Extent)) (r : Readings) (w : World) : Type 0 where
+pub record StandsFor (events : List raw.Event) (r : Readings) (w : World) : Type 0 where
   pub reached : Reached w
-  pub shows : seen r (replayed events nothing_yet) ≡ asked w
-  pub apart : AreApart (live (replayed events nothing_yet)) r.pages
+  pub applies : AllApply events nothing_yet
+  pub shows : seen r (numbers_in events) ≡ asked w
+  pub apart : AreApart (live (numbers_in events)) r.pages
 
 -- on these extents both read the same
 pub record ReadSame (es : List Extent) (old new : Readings) : Type 0 where
@@ -44,8 +48,9 @@ pub record ReadSame (es : List Extent) (old new : Readings) : Type 0 where
   pub there : (page : ℕ) → 1 ≤ covers es page → page < new.pages
 
 -- the event of a move that fits, whose new extents lie off the live ones and off each other and have what the World asks for
-pub record IsMove (e : Event Extent Extent) (m : Move) (w : World) (n : Numbers Extent Extent) (r : Readings) : Type 0 where
+pub record IsMove (e : raw.Event) (m : Move) (w : World) (n : Numbers Extent Extent) (r : Readings) : Type 0 where
   pub fits : Fits m w
+  pub applies : first_off e n ≡ None
   pub spells : seen_event r e ≡ asked_event m w
-  pub apart : (page : ℕ) → covers (brought e) page + covers (live n) page ≤ 1
-  pub inside : (page : ℕ) → 1 ≤ covers (brought e) page → page < r.pages
+  pub apart : (page : ℕ) → covers (brought (event_in e)) page + covers (live n) page ≤ 1
+  pub inside : (page : ℕ) → 1 ≤ covers (brought (event_in e)) page → page < r.pages

@@ -1,12 +1,12 @@
 //! Laws of what events and readings stand for, each the contract of a function that does nothing.
 
 ghost use Rattle.std.specs.Prelude.{◌≡◌, List, [], ◌∷◌, ◌++◌};
-ghost use Rattle.ov_host.specs.declared.area.Extent.{Extent};
+ghost use Rattle.ov_event.specs.declared.event.Event as raw;
 ghost use Rattle.ov_model.specs.Moves.{Move, moved};
 ghost use Rattle.ov_model.specs.World.{World, empty_world};
-ghost use Rattle.ov_catalog.specs.Events.{Event, applied, replayed};
+ghost use Rattle.ov_catalog.specs.Events.{applied};
 ghost use Rattle.ov_catalog.specs.Extents.{live};
-ghost use Rattle.ov_catalog.specs.Numbers.{nothing_yet};
+ghost use Rattle.ov_catalog.specs.Raw.{numbers_in};
 ghost use Rattle.ov_catalog.specs.Reached.{Fits, Reached};
 ghost use Rattle.ov_catalog.specs.Shown.{shown, event_of};
 ghost use Rattle.ov_catalog.specs.Stands.{Readings, StandsFor, ReadSame, IsMove};
@@ -23,12 +23,12 @@ pub fn nothing_stands_for_the_empty_world()
 
 /// Only what is read of the live extents counts.
 pub fn only_live_extents_matter()
-    ensures { (events : List (Event Extent Extent)) (old new : Readings) (w : World) → StandsFor events old w
-        → ReadSame (live (replayed events nothing_yet)) old new → StandsFor events new w }
+    ensures { (events : List raw.Event) (old new : Readings) (w : World) → StandsFor events old w
+        → ReadSame (live (numbers_in events)) old new → StandsFor events new w }
 {}
 
 /// One event more, that of a move, stands for the World after the move.
 pub fn one_more_event()
-    ensures { (events : List (Event Extent Extent)) (r : Readings) (w : World) (e : Event Extent Extent) (m : Move) → StandsFor events r w
-        → IsMove e m w (replayed events nothing_yet) r → StandsFor (events ++ e ∷ []) r (moved m w) }
+    ensures { (events : List raw.Event) (r : Readings) (w : World) (e : raw.Event) (m : Move) → StandsFor events r w
+        → IsMove e m w (numbers_in events) r → StandsFor (events ++ e ∷ []) r (moved m w) }
 {}
