@@ -1,23 +1,29 @@
 -- What holds of each World that moves reach: its datasets' numbers differ and are given out in order, the pieces of partitions
 -- have known records alone, each version is in one partition, and no plan runs.
 use Rattle.std.proofs.Common.{◌≡◌, ◌≤◌, ◌<◌, ℕ, ◌+◌, Bool, true, false, ◌==◌, List, [], ◌∷◌, ◌++◌, length, map, filter, refl, sym, ◌∙◌, ap, subst, arith}
+use Rattle.std.specs.List.{All}
+use Rattle.std.specs.declared.cmp.Ordering.{Ordering}
 use Rattle.std.specs.Prelude.{◌≢◌, not, if◌then◌else◌, Option, Some, None, unwrap_or, codes}
 use Rattle.std.proofs.lemmas.Bool.{cases_Bool, eqb-true, eq-eqb}
 use Rattle.std.proofs.lemmas.List.{append-nil}
 use Rattle.ov_place.specs.declared.place_facts.Place.{Place}
 use Rattle.ov_place.specs.declared.place_facts.Place.TheVariants.{Own, Join}
 use Rattle.ov_value.specs.declared.column.Column.{Column}
+use Rattle.ov_value.specs.Rows.{key_cmp}
 use Rattle.ov_value.specs.Shapes.{Shape}
+use Rattle.ov_value.specs.Spelling.{IsRow}
 use Rattle.ov_model.specs.Book.{Row, Version}
-use Rattle.ov_model.specs.Lists.{IsIn, AreIn, AllAreIn}
+use Rattle.ov_model.specs.Holding.{AreHeld}
+use Rattle.ov_model.specs.Lists.{IsIn, AreIn, AllAreIn, IsBelow, Rises}
 use Rattle.ov_model.specs.Moves.{Move, Init, Commit, BeginPlan, Copy, Flip, Drop, Checkpoint, moved, change, numbered, committed, with_version, version_of, placed_at, parts_with, with_joined, own_part, piece_of, new_set}
 use Rattle.ov_model.specs.Placed.{IsPlaced, ArePlaced, HasParents, AllHaveParents, NamesParents}
-use Rattle.ov_model.specs.Records.{Rec, recs, records_of, fresh_in, order_of, is_among, lacking}
+use Rattle.ov_model.specs.Records.{Rec, recs, records_of, record_of, fresh_in, order_of, is_among, lacking}
 use Rattle.ov_model.specs.World.{Part, Dataset, World, held, first_set, empty_world}
 use Rattle.ov_model.proofs.Growing.{recs_more, order_of_more}
 use Rattle.ov_model.proofs.Origins.{all_known, are_more}
+use Rattle.ov_model.proofs.Holds.{moved_held}
 use Rattle.ov_model.proofs.Placing.{moved_placed}
-use Rattle.ov_catalog.specs.Reached.{Fits, IfThere, CommitFits, Leads, Reached}
+use Rattle.ov_catalog.specs.Reached.{AreRows, Fits, IfThere, CommitFits, Leads, Reached}
 use Rattle.ov_catalog.proofs.Showing.{PiecesAreIn}
 
 -- none of these datasets has the number
@@ -42,11 +48,38 @@ abbrev pub AreKnown : List Dataset → Type 0
 AreKnown [] = Unit {0}
 AreKnown (d ∷ sets) = IsKnown d × AreKnown sets
 
+-- two records by the keys of their rows
+abbrev pub rec_cmp : Shape → Rec → Rec → Ordering
+rec_cmp schema a b = key_cmp schema a.row b.row
+
+abbrev pub PiecesRise : Shape → List (List Rec) → Type 0
+PiecesRise schema [] = Unit {0}
+PiecesRise schema (piece ∷ pieces) = Rises (rec_cmp schema) piece × PiecesRise schema pieces
+
+abbrev pub PartsRise : Shape → List Part → Type 0
+PartsRise schema [] = Unit {0}
+PartsRise schema (part ∷ parts) = PiecesRise schema part.pieces × PartsRise schema parts
+
+abbrev pub HaveRows : Shape → List Version → Type 0
+HaveRows schema [] = Unit {0}
+HaveRows schema (v ∷ vs) = (Rises (key_cmp schema) v.rows × All (IsRow schema) v.rows) × HaveRows schema vs
+
+-- the rows of a dataset's versions are rows of its schema, and they and the pieces of its partitions stand in key order
+pub record IsRowed (d : Dataset) : Type 0 where
+  pub rows : HaveRows d.cvd.schema d.cvd.versions
+  pub pieces : PartsRise d.cvd.schema d.parts
+
+abbrev pub AreRowed : List Dataset → Type 0
+AreRowed [] = Unit {0}
+AreRowed (d ∷ sets) = IsRowed d × AreRowed sets
+
 pub record IsGood (w : World) : Type 0 where
   pub distinct : Distinct w.sets
   pub below : AreBelow w.next w.sets
   pub known : AreKnown w.sets
   pub placed : ArePlaced w.sets
+  pub held : AreHeld w.sets
+  pub rowed : AreRowed w.sets
 
 -- ---- the dataset of a number
 
@@ -250,6 +283,99 @@ below_filter next test (d ∷ sets) below = by (test d) (below_filter next test 
     by true rest = (below.0, rest)
     by false rest = rest
 
+-- ---- rows and pieces in key order
+
+map_below : (schema : Shape) (f : Row → Rec) → ((row : Row) → (f row).row ≡ row) → (x : Row) (rows : List Row) → IsBelow (key_cmp schema) x rows → IsBelow (rec_cmp schema) (f x) (map f rows)
+map_below schema f is x [] below = tt
+map_below schema f is x (row ∷ rows) below = ((λ i. key_cmp schema (is x i) (is row i)) ∙ below.0, map_below schema f is x rows below.1)
+
+map_rises : (schema : Shape) (f : Row → Rec) → ((row : Row) → (f row).row ≡ row) → (rows : List Row) → Rises (key_cmp schema) rows → Rises (rec_cmp schema) (map f rows)
+map_rises schema f is [] rises = tt
+map_rises schema f is (row ∷ rows) rises = (map_below schema f is row rows rises.0, map_rises schema f is rows rises.1)
+
+lacking_below : (schema : Shape) (x : Rec) (rs others : List Rec) → IsBelow (rec_cmp schema) x rs → IsBelow (rec_cmp schema) x (lacking rs others)
+lacking_below schema x [] others below = tt
+lacking_below schema x (r ∷ rs) others below = by (not (is_among others r)) (lacking_below schema x rs others below.1)
+  where
+    by : (b : Bool) → IsBelow (rec_cmp schema) x (lacking rs others) → IsBelow (rec_cmp schema) x (if b then r ∷ lacking rs others else lacking rs others)
+    by true rest = (below.0, rest)
+    by false rest = rest
+
+lacking_rises : (schema : Shape) (rs others : List Rec) → Rises (rec_cmp schema) rs → Rises (rec_cmp schema) (lacking rs others)
+lacking_rises schema [] others rises = tt
+lacking_rises schema (r ∷ rs) others rises = by (not (is_among others r)) (lacking_rises schema rs others rises.1)
+  where
+    by : (b : Bool) → Rises (rec_cmp schema) (lacking rs others) → Rises (rec_cmp schema) (if b then r ∷ lacking rs others else lacking rs others)
+    by true rest = (lacking_below schema r rs others rises.0, rest)
+    by false rest = rest
+
+piece_rises : (schema : Shape) (rs : List Rec) → Rises (rec_cmp schema) rs → PiecesRise schema (piece_of rs)
+piece_rises schema [] rises = tt
+piece_rises schema (r ∷ rs) rises = (rises, tt)
+
+pieces_rise_append : (schema : Shape) (a b : List (List Rec)) → PiecesRise schema a → PiecesRise schema b → PiecesRise schema (a ++ b)
+pieces_rise_append schema [] b rise more = more
+pieces_rise_append schema (piece ∷ a) b rise more = (rise.0, pieces_rise_append schema a b rise.1 more)
+
+parts_rise_append : (schema : Shape) (a b : List Part) → PartsRise schema a → PartsRise schema b → PartsRise schema (a ++ b)
+parts_rise_append schema [] b rise more = more
+parts_rise_append schema (part ∷ a) b rise more = (rise.0, parts_rise_append schema a b rise.1 more)
+
+join_rises : (schema : Shape) (id vid : ℕ) (rs : List Rec) (parts : List Part) → Rises (rec_cmp schema) rs → PartsRise schema parts → PartsRise schema (map (λ part. if part.id == id then with_joined vid rs part else part) parts)
+join_rises schema id vid rs [] ours rise = tt
+join_rises schema id vid rs (part ∷ parts) ours rise = (by (part.id == id), join_rises schema id vid rs parts ours rise.1)
+  where
+    by : (b : Bool) → PiecesRise schema (if b then with_joined vid rs part else part).pieces
+    by true = pieces_rise_append schema part.pieces (piece_of (lacking rs (held part))) rise.0 (piece_rises schema (lacking rs (held part)) (lacking_rises schema rs (held part) ours))
+    by false = rise.0
+
+placed_rises : (schema : Shape) (place : Place) (next vid : ℕ) (rs : List Rec) (parts : List Part) → Rises (rec_cmp schema) rs → PartsRise schema parts → PartsRise schema (parts_with place next vid rs parts)
+placed_rises schema Own next vid rs parts ours rise = parts_rise_append schema parts (own_part next vid rs ∷ []) rise (piece_rises schema rs ours, tt)
+placed_rises schema (Join id) next vid rs parts ours rise = join_rises schema id vid rs parts ours rise
+
+rows_append : (schema : Shape) (a b : List Version) → HaveRows schema a → HaveRows schema b → HaveRows schema (a ++ b)
+rows_append schema [] b have more = more
+rows_append schema (v ∷ a) b have more = (have.0, rows_append schema a b have.1 more)
+
+version_rowed : (v : Version) (d : Dataset) → AreRows d.cvd.schema v.rows → IsRowed d → IsRowed (with_version v d)
+version_rowed v d are is = record {
+  rows = rows_append d.cvd.schema d.cvd.versions (v ∷ []) is.rows ((are.rise, are.fit), tt);
+  pieces = placed_rises d.cvd.schema (placed_at d v) d.next_part (length d.cvd.versions + 1) (records_of v (recs d.cvd.versions [])) d.parts
+      (map_rises d.cvd.schema (record_of v.parents (recs d.cvd.versions [])) (λ row. refl) v.rows are.rise) is.pieces;
+}
+
+new_rowed : (number : ℕ) (name : List ℕ) (schema : Shape) (rows : List Row) → AreRows schema rows → IsRowed (new_set number name schema rows)
+new_rowed number name schema rows are = record {
+  rows = ((are.rise, are.fit), tt);
+  pieces = (piece_rises schema (records_of (version_of [] (codes "init") rows) []) (map_rises schema (record_of [] []) (λ row. refl) rows are.rise), tt);
+}
+
+rowed_append : (a b : List Dataset) → AreRowed a → AreRowed b → AreRowed (a ++ b)
+rowed_append [] b are more = more
+rowed_append (d ∷ a) b are more = (are.0, rowed_append a b are.1 more)
+
+rowed_filter : (test : Dataset → Bool) (sets : List Dataset) → AreRowed sets → AreRowed (filter test sets)
+rowed_filter test [] are = tt
+rowed_filter test (d ∷ sets) are = by (test d) (rowed_filter test sets are.1)
+  where
+    by : (b : Bool) → AreRowed (filter test sets) → AreRowed (if b then d ∷ filter test sets else filter test sets)
+    by true rest = (are.0, rest)
+    by false rest = rest
+
+rowed_change : (number : ℕ) (f : Dataset → Dataset) (found : Dataset) (sets : List Dataset) → IsOnly number found sets → (IsRowed found → IsRowed (f found)) → AreRowed sets → AreRowed (change number f sets)
+rowed_change number f found [] only keeps are = tt
+rowed_change number f found (d ∷ sets) only keeps are = (by (d.cvd.number == number) (λ t. eqb-true d.cvd.number number t), rowed_change number f found sets only.1 keeps are.1)
+  where
+    by : (b : Bool) → (b ≡ true → d.cvd.number ≡ number) → IsRowed (if b then f d else d)
+    by true is = subst (λ x. IsRowed (f x)) (sym (only.0 (is refl))) (keeps (subst IsRowed (only.0 (is refl)) are.0))
+    by false is = are.0
+
+rowed_commit : (cvd : ℕ) (parents message : List ℕ) (rows : List Row) (sets : List Dataset) (found : Option Dataset) → Distinct sets → first_set (numbered cvd) sets ≡ found
+    → IfThere (λ d. CommitFits d (version_of parents message rows)) found → AreRowed sets → AreRowed (change cvd (committed parents message [] rows) sets)
+rowed_commit cvd parents message rows sets None distinct e fits are = absurd fits
+rowed_commit cvd parents message rows sets (Some d) distinct e fits are =
+    rowed_change cvd (committed parents message [] rows) d sets (found_only cvd d sets distinct e) (version_rowed (version_of parents message rows) d fits.rows) are
+
 -- ---- moves
 
 parents_of : (cvd : ℕ) (parents : List ℕ) (found : Dataset) (sets : List Dataset) → IsOnly cvd found sets → HasParents parents found → AllHaveParents cvd parents sets
@@ -266,6 +392,8 @@ good_moved (Init name schema rows) w fits is = record {
   below = below_append (w.next + 1) w.sets (new_set w.next name schema rows ∷ []) (below_more w.next w.sets is.below) (omega arith, tt);
   known = known_append w.sets (new_set w.next name schema rows ∷ []) is.known (new_known w.next name schema rows, tt);
   placed = moved_placed (Init name schema rows) w tt is.placed;
+  held = moved_held (Init name schema rows) w tt is.placed is.held;
+  rowed = rowed_append w.sets (new_set w.next name schema rows ∷ []) is.rowed (new_rowed w.next name schema rows fits.sorted, tt);
 }
 good_moved (Commit cvd parents message [] rows) w fits is = record {
   distinct = distinct_change cvd (committed parents message [] rows) w.sets (λ d. refl) is.distinct;
@@ -273,6 +401,8 @@ good_moved (Commit cvd parents message [] rows) w fits is = record {
   known = known_change cvd (committed parents message [] rows) w.sets (λ d known. version_known (version_of parents message rows) d known) is.known;
   placed = moved_placed (Commit cvd parents message [] rows) w
       (has_parents cvd (version_of parents message rows) w.sets (first_set (numbered cvd) w.sets) is.distinct refl fits) is.placed;
+  held = moved_held (Commit cvd parents message [] rows) w tt is.placed is.held;
+  rowed = rowed_commit cvd parents message rows w.sets (first_set (numbered cvd) w.sets) is.distinct refl fits is.rowed;
 }
 good_moved (Commit cvd parents message (column ∷ added) rows) w fits is = absurd fits
 good_moved (BeginPlan cvd p q) w fits is = absurd fits
@@ -283,6 +413,8 @@ good_moved (Drop cvd) w fits is = record {
   below = below_filter w.next (λ d. not (numbered cvd d)) w.sets is.below;
   known = known_filter (λ d. not (numbered cvd d)) w.sets is.known;
   placed = moved_placed (Drop cvd) w tt is.placed;
+  held = moved_held (Drop cvd) w tt is.placed is.held;
+  rowed = rowed_filter (λ d. not (numbered cvd d)) w.sets is.rowed;
 }
 good_moved Checkpoint w fits is = absurd fits
 
@@ -291,7 +423,7 @@ good_leads [] v w leads is = subst IsGood leads is
 good_leads (m ∷ ms) v w leads is = good_leads ms (moved m v) w leads.1 (good_moved m v leads.0 is)
 
 pub good : (w : World) → Reached w → IsGood w
-good w reached = good_leads reached.0 empty_world w reached.1 (record { distinct = tt; below = tt; known = tt; placed = tt })
+good w reached = good_leads reached.0 empty_world w reached.1 (record { distinct = tt; below = tt; known = tt; placed = tt; held = tt; rowed = tt })
 
 -- one move more
 leads_more : (ms : List Move) (m : Move) (v w : World) → Leads v ms w → Fits m w → Leads v (ms ++ m ∷ []) (moved m w)

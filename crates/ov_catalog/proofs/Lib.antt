@@ -4,3 +4,5 @@ pub mod Good
 pub mod Moving
 pub mod Covering
 pub mod Standing
+pub mod Members
+pub mod Only

@@ -1,6 +1,6 @@
 -- The laws of what events and readings stand for.
 use Rattle.std.proofs.Common.{◌≡◌, ◌≤◌, ◌<◌, ℕ, zero, suc, ◌+◌, List, [], ◌∷◌, ◌++◌, map, refl, sym, ◌∙◌, ap, subst, inl, inr, arith}
-use Rattle.std.specs.Prelude.{Option, Some, None}
+use Rattle.std.specs.Prelude.{Option, Some, None, unwrap_or}
 use Rattle.std.specs.List.{flat_map}
 use Rattle.std.proofs.lemmas.List.{map-append}
 use Rattle.ov_host.specs.declared.area.Extent.{Extent}
@@ -20,6 +20,7 @@ use Rattle.ov_catalog.proofs.Covering.{live_applied}
 use Rattle.ov_catalog.proofs.Filling.{applied_each, replayed_more}
 use Rattle.ov_catalog.proofs.Good.{good, reached_more}
 use Rattle.ov_catalog.proofs.Moving.{events_are_moves}
+use Rattle.ov_catalog.proofs.Only.{shown_once}
 
 -- ---- the same is read
 
@@ -143,3 +144,48 @@ nothing_stands r = record {
   shows = refl;
   apart = record { once = λ page. omega arith; inside = λ page some. absurd (omega (arith, some)) };
 }
+
+-- ---- at most one World
+
+-- what fills the holes, without the Some around it
+out_all : {X : Type 0} (xs : List (List X)) → map (λ o. unwrap_or o []) (map Some xs) ≡ xs
+out_all [] = refl
+out_all (x ∷ xs) = ap (λ ys. x ∷ ys) (out_all xs)
+
+out_versions : (vs : List (VersionNumbers Rids)) → map (each_version (λ o. unwrap_or o [])) (map (each_version Some) vs) ≡ vs
+out_versions [] = refl
+out_versions (v ∷ vs) = ap (λ us. v ∷ us) (out_versions vs)
+
+out_parts : (parts : List (PartNumbers Records)) → map (each_part (λ o. unwrap_or o [])) (map (each_part Some) parts) ≡ parts
+out_parts [] = refl
+out_parts (part ∷ parts) = λ i.
+    record { id = part.id; versions = part.versions; holds = part.holds; records = part.records; segments = out_all part.segments i } ∷ out_parts parts i
+
+out_plan : (plan : Option (PlanNumbers Records)) → each_plan (λ o. unwrap_or o []) (each_plan Some plan) ≡ plan
+out_plan None = refl
+out_plan (Some plan) = λ i. Some (record { p = plan.p; q = plan.q; targets = plan.targets; at = plan.at; copied = plan.copied; segments = out_all plan.segments i })
+
+out_sets : (sets : List (SetNumbers Rids Records)) → map (each_set (λ o. unwrap_or o []) (λ o. unwrap_or o [])) (map (each_set Some Some) sets) ≡ sets
+out_sets [] = refl
+out_sets (d ∷ sets) = λ i.
+    record {
+      number = d.number;
+      name = d.name;
+      schema = d.schema;
+      versions = out_versions d.versions i;
+      parts = out_parts d.parts i;
+      next_part = d.next_part;
+      threshold = d.threshold;
+      plan = out_plan d.plan i;
+      records = d.records;
+    }
+    ∷ out_sets sets i
+
+out_of : (n : Numbers Rids Records) → each (λ o. unwrap_or o []) (λ o. unwrap_or o []) (each Some Some n) ≡ n
+out_of n = λ i. record { next = n.next; sets = out_sets n.sets i }
+
+pub at_most_one : (events : List raw.Event) (r : Readings) (w v : World) → StandsFor events r w → StandsFor events r v → (w.sets ≡ v.sets) × (w.next ≡ v.next)
+at_most_one events r w v here there =
+    let same : asked w ≡ asked v = sym here.shows ∙ there.shows
+    in shown_once w v (good w here.reached) (good v there.reached)
+    (sym (out_of (shown w)) ∙ ap (each (λ o. unwrap_or o []) (λ o. unwrap_or o [])) same ∙ out_of (shown v))

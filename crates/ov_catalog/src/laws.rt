@@ -27,6 +27,13 @@ pub fn only_live_extents_matter()
         → ReadSame (live (numbers_in events)) old new → StandsFor events new w }
 {}
 
+/// Events, with what is read, stand for one World at most: its datasets and the number of the next one. (Its epoch, number of
+/// records and format number are those of the journal.)
+pub fn at_most_one_world()
+    ensures { (events : List raw.Event) (r : Readings) (w v : World) → StandsFor events r w → StandsFor events r v
+        → (w.sets ≡ v.sets) × (w.next ≡ v.next) }
+{}
+
 /// One event more, that of a move, stands for the World after the move.
 pub fn one_more_event()
     ensures { (events : List raw.Event) (r : Readings) (w : World) (e : raw.Event) (m : Move) → StandsFor events r w
