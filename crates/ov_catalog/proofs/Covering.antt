@@ -1,6 +1,6 @@
 -- Extents are counted by the pages that they cover.
-use Rattle.std.proofs.Common.{◌≡◌, ◌≤◌, ℕ, ◌+◌, Bool, true, false, ◌==◌, List, [], ◌∷◌, ◌++◌, length, map, filter, refl, sym, ◌∙◌, ap, subst, inl, inr, arith}
-use Rattle.std.specs.Prelude.{not, if◌then◌else◌, Option, Some, None}
+use Rattle.std.proofs.Common.{◌≡◌, ◌≤◌, ℕ, ◌+◌, Bool, true, false, ◌==◌, List, [], ◌∷◌, ◌++◌, length, map, filter, ap, arith}
+use Rattle.std.specs.Prelude.{not, if◌then◌else◌}
 use Rattle.std.specs.List.{flat_map}
 use Rattle.std.proofs.lemmas.List.{map-append}
 use Rattle.std.proofs.lemmas.Grind.{flat_map-append}
@@ -9,7 +9,7 @@ use Rattle.ov_place.specs.declared.place_facts.Place.{Place}
 use Rattle.ov_place.specs.declared.place_facts.Place.TheVariants.{Own, Join}
 use Rattle.ov_catalog.specs.Numbers.{VersionNumbers, PartNumbers, SetNumbers, Numbers}
 use Rattle.ov_catalog.specs.Events.{Event, Init, Commit, Drop, Other, own_part, with_joined, join_at, parts_with, version_of, new_set, with_version, numbered, change, applied}
-use Rattle.ov_catalog.specs.Extents.{of_plan, of_set, live, brought, has_page, covers}
+use Rattle.ov_catalog.specs.Extents.{of_plan, of_set, live, brought, covers}
 
 covers-append : (a b : List Extent) (page : ℕ) → covers (a ++ b) page ≡ covers a page + covers b page
 covers-append [] b page = omega arith

@@ -1,22 +1,20 @@
 -- What holds of each World that moves reach: its datasets' numbers differ and are given out in order, the pieces of partitions
 -- have known records alone, each version is in one partition, and no plan runs.
-use Rattle.std.proofs.Common.{◌≡◌, ◌≤◌, ◌<◌, ℕ, ◌+◌, Bool, true, false, ◌==◌, List, [], ◌∷◌, ◌++◌, length, map, filter, refl, sym, ◌∙◌, ap, subst, arith}
+use Rattle.std.proofs.Common.{◌≡◌, ◌<◌, ℕ, ◌+◌, Bool, true, false, ◌==◌, List, [], ◌∷◌, ◌++◌, length, map, filter, refl, sym, ◌∙◌, ap, subst, arith}
 use Rattle.std.specs.List.{All}
 use Rattle.std.specs.declared.cmp.Ordering.{Ordering}
 use Rattle.std.specs.Prelude.{◌≢◌, not, if◌then◌else◌, Option, Some, None, unwrap_or, codes}
-use Rattle.std.proofs.lemmas.Bool.{cases_Bool, eqb-true, eq-eqb}
-use Rattle.std.proofs.lemmas.List.{append-nil}
+use Rattle.std.proofs.lemmas.Bool.{eqb-true, eq-eqb}
 use Rattle.ov_place.specs.declared.place_facts.Place.{Place}
 use Rattle.ov_place.specs.declared.place_facts.Place.TheVariants.{Own, Join}
-use Rattle.ov_value.specs.declared.column.Column.{Column}
 use Rattle.ov_value.specs.Rows.{key_cmp}
 use Rattle.ov_value.specs.Shapes.{Shape}
 use Rattle.ov_value.specs.Spelling.{IsRow}
 use Rattle.ov_model.specs.Book.{Row, Version}
 use Rattle.ov_model.specs.Holding.{AreHeld}
-use Rattle.ov_model.specs.Lists.{IsIn, AreIn, AllAreIn, IsBelow, Rises}
+use Rattle.ov_model.specs.Lists.{AreIn, AllAreIn, IsBelow, Rises}
 use Rattle.ov_model.specs.Moves.{Move, Init, Commit, BeginPlan, Copy, Flip, Drop, Checkpoint, moved, change, numbered, committed, with_version, version_of, placed_at, parts_with, with_joined, own_part, piece_of, new_set}
-use Rattle.ov_model.specs.Placed.{IsPlaced, ArePlaced, HasParents, AllHaveParents, NamesParents}
+use Rattle.ov_model.specs.Placed.{IsPlaced, ArePlaced, HasParents, AllHaveParents}
 use Rattle.ov_model.specs.Records.{Rec, recs, records_of, record_of, fresh_in, order_of, is_among, lacking}
 use Rattle.ov_model.specs.World.{Part, Dataset, World, held, first_set, empty_world}
 use Rattle.ov_model.proofs.Growing.{recs_more, order_of_more}

@@ -1,6 +1,6 @@
 -- Events are moves: the event of a move makes of a World's numbers those of the World after it.
-use Rattle.std.proofs.Common.{◌≡◌, ◌≤◌, ℕ, ◌+◌, Bool, true, false, ◌==◌, List, [], ◌∷◌, ◌++◌, length, map, filter, refl, sym, ◌∙◌, ap, subst, arith}
-use Rattle.std.specs.Prelude.{◌≢◌, not, if◌then◌else◌, Option, Some, None, codes}
+use Rattle.std.proofs.Common.{◌≡◌, ℕ, ◌+◌, Bool, true, false, ◌==◌, List, [], ◌∷◌, ◌++◌, length, map, filter, refl, sym, ◌∙◌, ap, subst}
+use Rattle.std.specs.Prelude.{not, if◌then◌else◌, Option, Some, None, codes}
 use Rattle.std.proofs.lemmas.Bool.{eqb-true}
 use Rattle.std.proofs.lemmas.List.{map-append}
 use Rattle.ov_model.specs.Book.{Row, Version}
@@ -9,7 +9,7 @@ use Rattle.ov_model.specs.Moves.{Move, numbered, moved, committed, version_of, p
 use Rattle.ov_model.specs.Records.{recs, records_of, order_of}
 use Rattle.ov_model.specs.Placed.{IsPlaced}
 use Rattle.ov_model.specs.World.{Dataset, World, first_set}
-use Rattle.ov_catalog.specs.Numbers.{SetNumbers, Numbers}
+use Rattle.ov_catalog.specs.Numbers.{SetNumbers}
 use Rattle.ov_catalog.specs.Events as events
 use Rattle.ov_catalog.specs.Events.{applied}
 use Rattle.ov_catalog.specs.Reached.{Fits, IfThere, CommitFits}

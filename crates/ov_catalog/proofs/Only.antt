@@ -2,7 +2,7 @@
 -- segments give rows; parents and messages are shown as they are. So the versions are the same, with them all records, and then
 -- the pieces.
 use Rattle.std.proofs.Common.{◌≡◌, ◌≤◌, ◌<◌, ◌⊎◌, ℕ, zero, suc, ◌+◌, ◌-◌, Bool, true, false, ◌==◌, List, [], ◌∷◌, ◌++◌, length, map, get_or, refl, sym, ◌∙◌, ap, subst, inl, inr, arith}
-use Rattle.std.specs.Prelude.{◌||◌, filter, if◌then◌else◌, Option, Some, None}
+use Rattle.std.specs.Prelude.{◌||◌, filter, if◌then◌else◌}
 use Rattle.std.specs.Cmp.{IsTotalOrder, on_total}
 use Rattle.std.specs.List.{All}
 use Rattle.std.proofs.lemmas.Bool.{cases_Bool, eqb-true}
@@ -10,19 +10,19 @@ use Rattle.ov_value.specs.declared.spelled.RowBytes.{RowBytes}
 use Rattle.ov_value.specs.Order.{key_cmp_total}
 use Rattle.ov_value.specs.Rows.{key_cmp}
 use Rattle.ov_value.specs.Shapes.{Shape}
-use Rattle.ov_value.specs.Spelling.{IsRow, row_spelling}
+use Rattle.ov_value.specs.Spelling.{IsRow}
 use Rattle.ov_value.proofs.MarkLemmas.{rows_same}
 use Rattle.ov_model.specs.Book.{Row, Version}
 use Rattle.ov_model.specs.Holding.{VersionsAreIn, PartsHold, IsHeld, AreHeld}
-use Rattle.ov_model.specs.Lists.{IsIn, AreIn, AllAreIn, Rises, joined}
-use Rattle.ov_model.specs.Placed.{IsPlaced, ArePlaced, times, part_times}
+use Rattle.ov_model.specs.Lists.{IsIn, AreIn, AllAreIn, joined}
+use Rattle.ov_model.specs.Placed.{IsPlaced, ArePlaced, part_times}
 use Rattle.ov_model.specs.Records.{Rec, is_same_rec, record_of, records_of, recs, of_version, fresh_in, order, order_of, rid_in, weights}
 use Rattle.ov_model.specs.World.{Part, Dataset, World, held, is_one}
 use Rattle.ov_model.proofs.Counting.{not_listed}
 use Rattle.ov_model.proofs.Growing.{same_rec-refl, length_recs}
 use Rattle.ov_model.proofs.Holds.{same_recs}
-use Rattle.ov_catalog.specs.Numbers.{VersionNumbers, PartNumbers, SetNumbers, Numbers}
-use Rattle.ov_catalog.specs.Shown.{Rids, Records, sorted_by, list_of, kept_as, segment_of, shown_version, shown_versions, shown_part, shown_set, shown}
+use Rattle.ov_catalog.specs.Numbers.{VersionNumbers, PartNumbers}
+use Rattle.ov_catalog.specs.Shown.{Rids, Records, list_of, kept_as, segment_of, shown_version, shown_versions, shown_part, shown_set, shown}
 use Rattle.ov_catalog.proofs.Good.{rec_cmp, PiecesRise, PartsRise, HaveRows, IsRowed, AreRowed, IsKnown, AreKnown, IsGood}
 use Rattle.ov_catalog.proofs.Members.{all_at, left_in, right_in, of_append, in_map, of_map, in_sorted, of_sorted, same_rising, heads, tails}
 use Rattle.ov_catalog.proofs.Showing.{PiecesAreIn}

@@ -1,24 +1,22 @@
 -- What a World shows, as a version comes: what was shown stays, and the new version and its records come to it.
-use Rattle.std.proofs.Common.{◌≡◌, ◌≤◌, ℕ, zero, suc, ◌+◌, Bool, true, false, ◌==◌, List, [], ◌∷◌, ◌++◌, length, map, refl, sym, ◌∙◌, ap, subst, arith}
-use Rattle.std.specs.Prelude.{if◌then◌else◌, Option, Some, None, codes}
+use Rattle.std.proofs.Common.{◌≡◌, ◌≤◌, ℕ, suc, ◌+◌, Bool, true, false, ◌==◌, List, [], ◌∷◌, ◌++◌, length, map, refl, sym, ◌∙◌, ap, subst, arith}
+use Rattle.std.specs.Prelude.{if◌then◌else◌, Option, None, codes}
 use Rattle.std.proofs.lemmas.List.{map-append, length-map, length-append, append-nil}
-use Rattle.std.proofs.lemmas.Bool.{cases_Bool}
 use Rattle.ov_place.specs.declared.place_facts.Place.{Place}
 use Rattle.ov_place.specs.declared.place_facts.Place.TheVariants.{Own, Join}
 use Rattle.ov_value.specs.Shapes.{Shape}
 use Rattle.ov_value.specs.Spelling.{row_spelling}
 use Rattle.ov_model.specs.Book.{Row, Version}
-use Rattle.ov_model.specs.Lists.{IsIn, AreIn, AllAreIn, joined}
+use Rattle.ov_model.specs.Lists.{AreIn, AllAreIn, joined}
 use Rattle.ov_model.specs.Moves as moves
 use Rattle.ov_model.specs.Moves.{piece_of, placed_at, next_with}
 use Rattle.ov_model.specs.Placed.{id_times}
 use Rattle.ov_model.specs.Records.{Rec, recs, records_of, record_of, fresh_in, order_of, rid_in, weights, lacking}
 use Rattle.ov_model.specs.World.{Part, Plan, Dataset, held}
-use Rattle.ov_model.proofs.Growing.{order_of_more, rid_more, length_recs}
+use Rattle.ov_model.proofs.Growing.{order_of_more, rid_more}
 use Rattle.ov_model.proofs.Origins.{all_known}
-use Rattle.ov_catalog.specs.Numbers.{VersionNumbers, PartNumbers, SetNumbers}
 use Rattle.ov_catalog.specs.Events as events
-use Rattle.ov_catalog.specs.Shown.{Rids, Records, sorted_by, list_of, kept_as, segment_of, shown_version, shown_versions, shown_part, shown_plan, shown_set, held_by, added_to}
+use Rattle.ov_catalog.specs.Shown.{sorted_by, list_of, kept_as, segment_of, shown_version, shown_versions, shown_part, shown_plan, shown_set, held_by, added_to}
 
 -- ---- what is known keeps its rid
 

@@ -8,14 +8,13 @@ use Rattle.ov_model.specs.Lists.{IsIn}
 use Rattle.ov_model.specs.Moves.{Move, moved}
 use Rattle.ov_model.specs.World.{World, empty_world}
 use Rattle.ov_catalog.specs.Numbers.{VersionNumbers, PartNumbers, PlanNumbers, SetNumbers, Numbers, each_version, each_part, each_plan, each_set, each, nothing_yet}
-use Rattle.ov_catalog.specs.Events.{each_event, applied, replayed}
+use Rattle.ov_catalog.specs.Events.{applied, replayed}
 use Rattle.ov_event.specs.declared.event.Event as raw
 use Rattle.ov_catalog.specs.Applying.{AllApply, first_off}
 use Rattle.ov_catalog.specs.Raw.{event_in, numbers_in}
 use Rattle.ov_catalog.specs.Extents.{of_plan, of_set, live, brought, covers, AreApart}
-use Rattle.ov_catalog.specs.Reached.{Fits, Reached}
 use Rattle.ov_catalog.specs.Shown.{Rids, Records, shown, event_of}
-use Rattle.ov_catalog.specs.Stands.{Readings, seen, asked, seen_event, asked_event, StandsFor, ReadSame, IsMove}
+use Rattle.ov_catalog.specs.Stands.{Readings, seen, asked, asked_event, StandsFor, ReadSame, IsMove}
 use Rattle.ov_catalog.proofs.Covering.{live_applied}
 use Rattle.ov_catalog.proofs.Filling.{applied_each, replayed_more}
 use Rattle.ov_catalog.proofs.Good.{good, reached_more}

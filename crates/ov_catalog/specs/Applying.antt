@@ -1,12 +1,13 @@
 -- When an event follows what the catalog has, and else the first part of it that doesn't.
 --     first_off e n      that part; None where the event applies
-use Rattle.std.specs.Prelude.{◌≡◌, ℕ, ◌+◌, ◌-◌, ◌*◌, ◌%◌, ◌^◌, Bool, true, false, not, ◌&&◌, ◌||◌, ◌==◌, nat_le, nat_lt, if◌then◌else◌, List, [], ◌∷◌, length, map, slice_index_or, Option, Some, None, is_ok, is_some, find}
+use Rattle.std.specs.Prelude.{◌≡◌, ℕ, ◌+◌, ◌-◌, ◌*◌, ◌%◌, ◌^◌, Bool, true, false, not, ◌&&◌, ◌||◌, ◌==◌, nat_le, nat_lt, if◌then◌else◌, List, [], ◌∷◌, length, map, slice_index_or, Option, Some, None, is_ok, find}
 use Rattle.std.specs.List.{list_all, list_any, sum_by}
 use Rattle.std.specs.Option.{option_or}
+use Rattle.std.specs.Ordering.{nat_cmp, eq_by_cmp}
+use Rattle.std.specs.Set.{distinct_count}
 use Rattle.std.specs.Str.{bytes_eq}
 use Rattle.ov_event.specs.declared.event.Event as raw
 use Rattle.ov_event.specs.declared.event.Event.TheVariants as says
-use Rattle.ov_event.specs.declared.event.Placed.{Placed}
 use Rattle.ov_event.specs.declared.event.RawSchema.{RawSchema}
 use Rattle.ov_graph.specs.Versions.{heaviest}
 use Rattle.ov_host.specs.declared.area.Extent.{Extent}
@@ -36,11 +37,16 @@ is_named name d = bytes_eq d.name name
 abbrev pub no_column : Column
 no_column = record { name = []; kind = kind.Int }
 
+abbrev pub name_at : List Column → ℕ → List ℕ
+name_at columns place = (slice_index_or columns place no_column).name
+
+abbrev pub are_places : List Column → List ℕ → Bool
+are_places columns key = list_all (λ place. nat_lt place (length columns)) key
+
 -- each key position is one of a column, and the columns with the names at these positions are a schema's
 abbrev pub is_schema : RawSchema → Bool
 is_schema s =
-    list_all (λ place. nat_lt place (length s.columns)) s.key
-    && is_ok (schema_of s.columns (map (λ place. (slice_index_or s.columns place no_column).name) s.key))
+    are_places s.columns s.key && is_ok (schema_of s.columns (map (name_at s.columns) s.key))
 
 -- no extent passes page 2^22, and an empty one has page 0
 abbrev pub is_extent : Extent → Bool
@@ -75,16 +81,19 @@ init_off name schema rows list segment n =
 abbrev pub rows_at : {L : Type 0} → List (VersionNumbers L) → ℕ → ℕ
 rows_at versions vid = slice_index_or (map (λ v. v.rows) versions) (vid - 1) 0
 
-abbrev pub is_vid_of : List (ℕ × ℕ) → ℕ → Bool
-is_vid_of parents vid = list_any (λ edge. edge.0 == vid) parents
+-- no number stands twice: as many are distinct as there are
+abbrev pub are_distinct : List ℕ → Bool
+are_distinct ns = distinct_count (eq_by_cmp nat_cmp) ns == length ns
 
--- each parent is a version that is there, and stands once; the weight of its edge is at most its rows and those of the new
--- version
+-- a version that is there; the weight of its edge is at most its rows and those of the new version
+abbrev pub is_parent : {L : Type 0} → List (VersionNumbers L) → ℕ → ℕ × ℕ → Bool
+is_parent versions rows edge =
+    (nat_le 1 edge.0 && nat_le edge.0 (length versions)) && (nat_le edge.1 rows && nat_le edge.1 (rows_at versions edge.0))
+
+-- at least one, none twice
 abbrev pub are_parents : {L : Type 0} → List (VersionNumbers L) → ℕ → List (ℕ × ℕ) → Bool
-are_parents versions rows [] = true
-are_parents versions rows (edge ∷ edges) =
-    (nat_le 1 edge.0 && (nat_le edge.0 (length versions) && not (is_vid_of edges edge.0)))
-    && ((nat_le edge.1 rows && nat_le edge.1 (rows_at versions edge.0)) && are_parents versions rows edges)
+are_parents versions rows parents =
+    nat_le 1 (length parents) && (list_all (is_parent versions rows) parents && are_distinct (map (λ edge. edge.0) parents))
 
 -- the partition that serves a version, and the one of a number
 abbrev pub part_serving : {S : Type 0} → List (PartNumbers S) → ℕ → Option (PartNumbers S)
@@ -144,7 +153,7 @@ abbrev pub commit_off : {L S : Type 0} → ℕ → List ℕ → List (ℕ × ℕ
 commit_off vid message parents rows fresh place added list segment d =
     option_or (off_unless (vid == length d.versions + 1 && nat_le vid 65535) off.Vid)
     (option_or (off_unless (nat_le (length message) 1024) off.Message)
-    (option_or (off_unless (nat_le 1 (length parents) && are_parents d.versions rows parents) off.Parent)
+    (option_or (off_unless (are_parents d.versions rows parents) off.Parent)
     (option_or (off_unless (nat_le rows 1000000 && (nat_le fresh rows && (nat_le rows (d.records + fresh) && nat_le (d.records + fresh) (2 ^ 31)))) off.Rows)
     (option_or (off_unless (is_place place (placed (facts_of d (heaviest parents)))) off.Placing)
     (option_or (off_unless (is_count d rows fresh added place) off.Count)

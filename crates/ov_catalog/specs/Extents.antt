@@ -2,11 +2,11 @@
 --     live n      those that the live datasets have
 --     brought e, given_up e n      those that an event brings, and those that go with it
 --     AreApart es pages      no page is covered twice, and each is below `pages`
-use Rattle.std.specs.Prelude.{◌≤◌, ◌<◌, ℕ, ◌+◌, ◌&&◌, Bool, nat_le, nat_lt, ◌==◌, if◌then◌else◌, List, [], ◌∷◌, ◌++◌, map, filter, Option, Some, None}
+use Rattle.std.specs.Prelude.{◌≤◌, ◌<◌, ℕ, ◌+◌, ◌&&◌, Bool, nat_le, nat_lt, if◌then◌else◌, List, [], ◌∷◌, ◌++◌, map, filter, Option, Some, None}
 use Rattle.std.specs.List.{flat_map}
 use Rattle.ov_host.specs.declared.area.Extent.{Extent}
 use Rattle.ov_host.specs.Extent.{pages_of}
-use Rattle.ov_catalog.specs.Numbers.{VersionNumbers, PartNumbers, PlanNumbers, SetNumbers, Numbers}
+use Rattle.ov_catalog.specs.Numbers.{PlanNumbers, SetNumbers, Numbers}
 use Rattle.ov_catalog.specs.Events.{Event, Init, Commit, Drop, Other, numbered}
 
 abbrev pub of_plan : Option (PlanNumbers Extent) → List Extent

@@ -2,13 +2,13 @@
 -- of their rows. A row's bytes don't depend on NULLs at its end, so added columns change no segment.
 --     shown w      the World in numbers
 --     event_of m w      the event of a move
-use Rattle.std.specs.Prelude.{ℕ, ◌+◌, Bool, nat_le, ◌==◌, if◌then◌else◌, List, [], ◌∷◌, ◌++◌, length, map, Option, Some, None, codes}
+use Rattle.std.specs.Prelude.{ℕ, ◌+◌, nat_le, ◌==◌, if◌then◌else◌, List, [], ◌∷◌, ◌++◌, length, map, Option, Some, None, codes}
 use Rattle.ov_place.specs.declared.place_facts.Place.{Place}
 use Rattle.ov_place.specs.declared.place_facts.Place.TheVariants.{Own, Join}
 use Rattle.ov_value.specs.declared.spelled.RowBytes.{RowBytes}
 use Rattle.ov_value.specs.Shapes.{Shape}
 use Rattle.ov_value.specs.Spelling.{row_spelling}
-use Rattle.ov_model.specs.Book.{Row, Version, Cvd}
+use Rattle.ov_model.specs.Book.{Version}
 use Rattle.ov_model.specs.Lists.{joined}
 use Rattle.ov_model.specs.Moves as moves
 use Rattle.ov_model.specs.Moves.{Move, piece_of, placed_at, numbered}

@@ -9,9 +9,6 @@ use crate::split::pieces;
 use ov_model::Seq;
 use std::alloc::{AllocError, Global};
 
-/// Digits that a number has at most: any number of so many fits a u64.
-const MOST_DIGITS: usize = 18;
-
 fn has_digits_alone(bytes: &[u8]) -> bool
     ensures { result ≡ list_all is_ascii_digit bytes.now }
 {
@@ -22,7 +19,7 @@ fn has_digits_alone(bytes: &[u8]) -> bool
 pub(crate) fn number_of(word: &str) -> Option<u64>
     ensures { result ≡ number_in_text word.now }
 {
-    if word.is_empty() || word.len() > MOST_DIGITS || !has_digits_alone(word.as_bytes()) {
+    if word.is_empty() || word.len() > 18 || !has_digits_alone(word.as_bytes()) {
         return None;
     }
     word.parse::<u64>().ok()
