@@ -1,0 +1,5 @@
+pub mod VidLemmas
+pub mod SumLemmas
+pub mod FlipLemmas
+pub mod LeaveLemmas
+pub mod GoneLemmas
