@@ -75,7 +75,7 @@ pub IsOwned-leaving : (number : ℕ → ℕ) (versions : List ℕ) (part : Part)
 IsOwned-leaving number versions part owned vid there = owned vid (has-filter (stays versions) part.versions vid there)
 
 -- a place within a list has one element
-get_or-any : (parts : List Part) (k : ℕ) (d e : Part) → k < length parts → get_or parts k d ≡ get_or parts k e
+pub get_or-any : (parts : List Part) (k : ℕ) (d e : Part) → k < length parts → get_or parts k d ≡ get_or parts k e
 get_or-any [] k d e lt = absurd (omega arith)
 get_or-any (part ∷ parts) zero d e lt = refl
 get_or-any (part ∷ parts) (suc k) d e lt = get_or-any parts k d e (omega arith)

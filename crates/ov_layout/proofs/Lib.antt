@@ -3,3 +3,8 @@ pub mod SumLemmas
 pub mod FlipLemmas
 pub mod LeaveLemmas
 pub mod GoneLemmas
+pub mod EntryLemmas
+pub mod PlacedLemmas
+pub mod AddLemmas
+pub mod RoomLemmas
+pub mod JoinLemmas

@@ -159,3 +159,7 @@ saved-and-left all left each le =
     let d = all - left in
     let sum : d * each + left * each ≡ (d + left) * each = omega arith in
     sum ∙ ap (λ (n : ℕ). n * each) (sym gone)
+
+pub has-below : (least : ℕ) (ns : List ℕ) (n : ℕ) → Ascend least ns → n < least → has ns n ≡ false
+has-below least [] n h lt = refl
+has-below least (m ∷ ns) n h lt = let le = h.0 in rw (ne_eqb m n (λ e. absurd (omega arith))) (has-below (suc m) ns n h.1 (omega arith))

@@ -2,7 +2,7 @@
 --     number_at vid index      the number that the index has for a version, 0 where it has none
 --     number_of vid parts      the number of the partition that serves a version, 0 where none does
 --     IsIndex index parts      the index is that of these partitions
-use Rattle.std.specs.Prelude.{◌≡◌, ℕ, suc, ◌+◌, ◌^◌, ◌<◌, ◌≤◌, Bool, true, false, ◌==◌, cond, List, [], ◌∷◌, length, map, sum_by}
+use Rattle.std.specs.Prelude.{◌≡◌, ℕ, suc, ◌+◌, ◌^◌, ◌<◌, ◌≤◌, Bool, true, false, ◌==◌, cond, List, [], ◌∷◌, length, map, flat_map, sum_by}
 use Rattle.ov_layout.specs.declared.index.Entry.{Entry}
 use Rattle.ov_layout.specs.declared.part.Part.{Part}
 use Rattle.ov_layout.specs.Parts.{has, serves}
@@ -19,6 +19,17 @@ number_at vid index = sum_by (λ entry. cond (entry.vid == vid) entry.part 0) in
 
 abbrev pub number_of : ℕ → List Part → ℕ
 number_of vid parts = sum_by (λ part. cond (serves vid part) part.id 0) parts
+
+-- how many entries a version has
+abbrev pub entry_times : ℕ → List Entry → ℕ
+entry_times vid index = sum_by (λ entry. cond (entry.vid == vid) 1 0) index
+
+-- the entries of a partition's versions
+abbrev pub entries_for : Part → List Entry
+entries_for part = map (λ vid. record { vid = vid; part = part.id }) part.versions
+
+abbrev pub FitsEntry : Entry → Type 0
+FitsEntry entry = (entry.vid < 2 ^ 32) × (1 ≤ entry.part)
 
 -- how many versions the partitions have together
 abbrev pub versions_in : List Part → ℕ

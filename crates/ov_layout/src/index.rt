@@ -1,8 +1,8 @@
 //! Which partition each version is in.
 
-ghost use Rattle.std.specs.Prelude.{◌≡◌, ℕ, true, ◌+◌, ◌<◌, ◌≤◌, cond, length, MatchOption, IfOk, HoldsAt};
+ghost use Rattle.std.specs.Prelude.{◌≡◌, ℕ, true, ◌<◌, ◌≤◌, ◌++◌, cond, length, All, flat_map, MatchOption, IfOk, OnOk, HoldsAt};
 ghost use Rattle.ov_layout.specs.Parts.{has, AreParts};
-ghost use Rattle.ov_layout.specs.Index.{AreEntries, IsIndex, number_at};
+ghost use Rattle.ov_layout.specs.Index.{AreEntries, FitsEntry, IsIndex, entries_for, number_at};
 
 use crate::part::Part;
 use std::alloc::{AllocError, Global};
@@ -54,7 +54,11 @@ pub fn move_to(index: &mut [Entry], versions: &[u32], id: u32)
 }
 
 /// The entries of the partitions' versions, one partition after the other.
-fn entries_of(alloc: Global, parts: &[Part]) -> Result<Vec<Entry>, AllocError> {
+fn entries_of(alloc: Global, parts: &[Part]) -> Result<Vec<Entry>, AllocError>
+    requires { All (λ part. 1 ≤ part.id) parts.now }
+    ensures entries { IfOk result (λ entries. entries.items ≡ flat_map entries_for parts.now) }
+    ensures fit { IfOk result (λ entries. All FitsEntry entries.items) }
+{
     let mut entries = Vec::new(alloc);
     for part in parts {
         add_entries(&mut entries, part)?;
@@ -63,19 +67,28 @@ fn entries_of(alloc: Global, parts: &[Part]) -> Result<Vec<Entry>, AllocError> {
 }
 
 /// Adds the entries of a partition's versions.
-fn add_entries(entries: &mut Vec<Entry>, part: &Part) -> Result<(), AllocError> {
+fn add_entries(entries: &mut Vec<Entry>, part: &Part) -> Result<(), AllocError>
+    requires some { 1 ≤ part.now.id }
+    requires fit { All FitsEntry entries.old.items }
+    ensures added { OnOk result (entries.new.items ≡ entries.old.items ++ entries_for part.now) }
+    ensures fit { OnOk result (All FitsEntry entries.new.items) }
+{
+    let id = part.id;
     let versions = part.versions.as_slice();
     for vid in versions {
         entries.push(Entry {
             vid: *vid,
-            part: part.id,
+            part: id,
         })?;
     }
     Ok(())
 }
 
 /// The index of these partitions.
-pub fn index_of(alloc: Global, parts: &[Part]) -> Result<Vec<Entry>, AllocError> {
+pub fn index_of(alloc: Global, parts: &[Part], next: u32) -> Result<Vec<Entry>, AllocError>
+    requires { AreParts parts.now next }
+    ensures { IfOk result (λ index. IsIndex index.items parts.now) }
+{
     let mut index = entries_of(alloc, parts)?;
     index.sort_unstable_by_key(|entry| entry.vid);
     Ok(index)

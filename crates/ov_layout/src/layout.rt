@@ -72,7 +72,7 @@ impl Layout {
         requires { AreParts parts.items next }
         ensures { IfOk result (λ layout. layout ≡ record { parts = parts.items; next = next; room = Nothing }) }
     {
-        let index = index_of(alloc, &parts)?;
+        let index = index_of(alloc, &parts, next)?;
         let stored = sums::stored_in(&parts);
         let cost = sums::cost_in(&parts);
         Ok(Layout {
