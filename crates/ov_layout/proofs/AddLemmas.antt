@@ -69,7 +69,7 @@ once-more vid v next parts new sound h times =
       | inr e ↦ let zero = one-no (eqb vid v) 1 e in let most = sound.once v in omega (arith, times, zero, most)
     ]
 
-one-few : (part : Part) → part.records < 2 ^ 32 → (k : ℕ) (d : Part) → k < length (part ∷ []) → HasFewRecords (get_or (part ∷ []) k d)
+pub one-few : (part : Part) → part.records < 2 ^ 32 → (k : ℕ) (d : Part) → k < length (part ∷ []) → HasFewRecords (get_or (part ∷ []) k d)
 one-few part few zero d lt = few
 one-few part few (suc k) d lt = absurd (omega (arith, lt))
 

@@ -8,3 +8,5 @@ pub mod PlacedLemmas
 pub mod AddLemmas
 pub mod RoomLemmas
 pub mod JoinLemmas
+pub mod CountLemmas
+pub mod FlippedLemmas
