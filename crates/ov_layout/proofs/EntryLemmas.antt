@@ -86,14 +86,17 @@ sorted-entries least (entry ∷ index) le order once fit above =
     let head = ap {B = ℕ} (λ (b : Bool). cond b 1 0) (eq-eqb entry.vid entry.vid refl) in
     let most = once entry.vid in
     let none : entry_times entry.vid index ≡ 0 = omega (arith, step, head, most) in
-    let own = fit 0 entry (omega arith) in
-    (above 0 entry (omega arith), own.1, sorted-entries (suc entry.vid) index (let lt = own.0 in omega arith) (λ i j d le' lt. order (suc i) (suc j) d (omega arith) (omega arith)) (λ vid. let part = times-cons vid entry index in let all = once vid in omega (arith, part, all)) (λ k d lt. fit (suc k) d (omega arith)) (λ k d lt.
-        let from = order 0 (suc k) d (omega arith) (omega arith) in
-        let differs : (get_or index k d).vid ≡ entry.vid → ⊥ = times-none entry.vid index none k d lt in
-        elim (cases_lt entry.vid (get_or index k d).vid) [
-          | inl more ↦ omega arith
-          | inr le'' ↦ absurd (differs (omega arith))
-        ]))
+    let own = fit 0 entry (omega arith) in (
+      above 0 entry (omega arith),
+      own.1,
+      sorted-entries (suc entry.vid) index (let lt = own.0 in omega arith) (λ i j d le' lt. order (suc i) (suc j) d (omega arith) (omega arith)) (λ vid. let part = times-cons vid entry index in let all = once vid in omega (arith, part, all)) (λ k d lt. fit (suc k) d (omega arith)) (λ k d lt.
+          let from = order 0 (suc k) d (omega arith) (omega arith) in
+          let differs : (get_or index k d).vid ≡ entry.vid → ⊥ = times-none entry.vid index none k d lt in
+          elim (cases_lt entry.vid (get_or index k d).vid) [
+            | inl more ↦ omega arith
+            | inr le'' ↦ absurd (differs (omega arith))
+          ]),
+    )
 
 once-le : {m n : ℕ} → m ≡ n → n ≤ 1 → m ≤ 1
 once-le e le = omega arith

@@ -35,7 +35,14 @@ pub fn pages_of(part: &Part) -> u64
 }
 
 /// A partition that a version has of its own. Takes no memory: its lists are the spare ones.
-pub fn own_part(alloc: Global, id: u32, vid: u32, records: u32, segment: Extent, fresh: &mut Spares) -> Part
+pub fn own_part(
+    alloc: Global,
+    id: u32,
+    vid: u32,
+    records: u32,
+    segment: Extent,
+    fresh: &mut Spares,
+) -> Part
     requires empty { AreEmpty fresh.old }
     requires room { HaveRoom 1 1 1 fresh.old }
     ensures made { result ≡ own_part id vid records segment }

@@ -6,15 +6,13 @@ ghost use Rattle.ov_layout.specs.Parts.{AreParts, part_with, is_placed, records_
 ghost use Rattle.ov_layout.specs.Changes.{IsNew, IsRoomFor, IsThere, room_for, with_own, with_joined};
 ghost use Rattle.ov_layout.specs.Flips.{MayFlip, flip_of, given_up, with_flipped};
 
-use crate::change;
-use crate::flips;
 use crate::index::{self, Entry, index_of};
 use crate::lists::{Extents, Vids};
 use crate::part::Part;
 use crate::room::Room;
 use crate::search::place_of;
 use crate::spares::Spares;
-use crate::sums;
+use crate::{change, flips, sums};
 use ov_host::Extent;
 use std::alloc::{AllocError, Global};
 use std::marker::Model;

@@ -143,13 +143,15 @@ invariant_of-self c =
     let made : c.push.new.self.items ≡ left_parts versions parts ++ flipped_part inside.next flip parts ∷ [] = (rw ok at c.push.ensures.items) ∙ ap (λ (ps : List Part). ps ++ part ∷ []) left ∙ ap (λ (p : Part). left_parts versions parts ++ p ∷ []) part_is in
     let len_is : c.len.result ≡ length versions = c.len.ensures ∙ c.args.versions.ok.0 in
     let entries = whole c.move_to.new.index inside.index.items inside.index.len moved.count inside.index.ok.0 in
-    let no_holds : c.replace-holds.new.dest.items ≡ [] = ap (λ (v : Vec ℕ Global). v.items) c.replace-holds.ensures.after ∙ c.new.ensures.items in
-    (rw (entries, made, c.from-2.ensures, len_is, c.from.ensures) all, record {
+    let no_holds : c.replace-holds.new.dest.items ≡ [] = ap (λ (v : Vec ℕ Global). v.items) c.replace-holds.ensures.after ∙ c.new.ensures.items in (
+      rw (entries, made, c.from-2.ensures, len_is, c.from.ensures) all,
+      record {
         ready = tt;
         entry = tt;
         fresh_empty = record { versions = space.fresh_empty.versions; holds = no_holds; segments = space.fresh_empty.segments };
         spare_empty = space.spare_empty;
-      })
+      },
+    )
 
 pub returns-clause-flipped : goal.returns-clause-flipped
 returns-clause-flipped c =
