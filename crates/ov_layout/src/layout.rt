@@ -6,31 +6,45 @@ ghost use Rattle.ov_layout.specs.Parts.{AreParts, part_with, is_placed, records_
 ghost use Rattle.ov_layout.specs.Changes.{IsNew, IsRoomFor, IsThere, room_for, with_own, with_joined};
 ghost use Rattle.ov_layout.specs.Flips.{MayFlip, flip_of, given_up, with_flipped};
 
+use crate::index::{self, Entry, index_of};
+use crate::lists::{Extents, Vids};
 use crate::part::Part;
 use crate::room::Room;
+use crate::search::place_of;
+use crate::spares::Spares;
+use crate::{change, flips, sums};
 use ov_host::Extent;
 use std::alloc::{AllocError, Global};
 use std::marker::Model;
+use std::mem;
 
-/// The partitions of a dataset, in the order of their numbers.
+/// The partitions of a dataset, in the order of their numbers. Which partition a version is in is kept as a list
+/// that is searched by halves.
 #[derive(Debug, Drop)]
 pub struct Layout {
     alloc: Global,
     parts: Vec<Part>,
+    index: Vec<Entry>,
     next: u32,
     stored: u64,
     cost: u64,
     room: Room,
+    /// The lists of the next partition.
+    fresh: Spares,
+    /// Lists to which those of a partition move where they are full.
+    spare: Spares,
 }
 
 impl Model for Layout {
-    ghost use Rattle.ov_layout.specs.Parts.{Partitions, AreParts};
+    ghost use Rattle.ov_layout.specs.Parts.{Partitions};
 
     ghost Value = { Partitions };
 
     ghost view = { λ l. record { parts = l.parts.items; next = l.next; room = l.room } };
 
-    ghost invariant = { λ l. AreParts l.parts.items l.next };
+    ghost use Rattle.ov_layout.specs.Kept.{AreNumbers, HasSpace};
+
+    ghost invariant = { λ l. AreNumbers l.index.items l.parts.items l.next l.stored l.cost × HasSpace l.room l.parts l.index l.fresh l.spare };
 }
 
 impl Layout {
@@ -41,10 +55,13 @@ impl Layout {
         Layout {
             alloc,
             parts: Vec::new(alloc),
+            index: Vec::new(alloc),
             next: 1,
             stored: 0,
             cost: 0,
             room: Room::Nothing,
+            fresh: Spares::new(alloc),
+            spare: Spares::new(alloc),
         }
     }
 
@@ -53,13 +70,19 @@ impl Layout {
         requires { AreParts parts.items next }
         ensures { IfOk result (λ layout. layout ≡ record { parts = parts.items; next = next; room = Nothing }) }
     {
+        let index = index_of(alloc, &parts, next)?;
+        let stored = sums::stored_in(&parts);
+        let cost = sums::cost_in(&parts);
         Ok(Layout {
             alloc,
             parts,
+            index,
             next,
-            stored: 0,
-            cost: 0,
+            stored,
+            cost,
             room: Room::Nothing,
+            fresh: Spares::new(alloc),
+            spare: Spares::new(alloc),
         })
     }
 
@@ -75,7 +98,12 @@ impl Layout {
     pub fn part_of(&self, vid: u32) -> Option<&Part>
         ensures { option_copied result ≡ part_with vid self.now.parts }
     {
-        None
+        let id = index::number_at(&self.index, vid);
+        if id == 0 {
+            None
+        } else {
+            Some(&self.parts[place_of(&self.parts, id)])
+        }
     }
 
     /// How many records the partitions keep together; one that two of them keep counts twice.
@@ -105,7 +133,7 @@ impl Layout {
         requires few { length (segments_for vid self.now.parts) < 2 ^ 32 }
         ensures { result ≡ pages_for vid self.now.parts }
     {
-        0
+        self.part_of(vid).map_or(0, change::pages_of)
     }
 
     /// Makes room for one change: to join the partition with the number `part`, or, without one, for a partition of
@@ -116,10 +144,19 @@ impl Layout {
         ensures made { OnOk result (self.new ≡ record self.old { room = room_for versions part }) }
         ensures err { OnErr result (self.new ≡ self.old) }
     {
-        self.room = match part {
-            None => Room::Placing(versions),
-            Some(part) => Room::Joining(part),
-        };
+        self.index.reserve(1)?;
+        match part {
+            None => {
+                self.parts.reserve(1)?;
+                self.fresh.make_room(1, 1.max(versions as usize), 1)?;
+                self.room = Room::Placing(versions);
+            }
+            Some(id) => {
+                let at = place_of(&self.parts, id);
+                self.spare.make_room_beside(&self.parts[at])?;
+                self.room = Room::Joining(id);
+            }
+        }
         Ok(())
     }
 
@@ -130,7 +167,17 @@ impl Layout {
         requires new { IsNew vid self.old.parts }
         requires next { self.old.next < 2 ^ 32 - 1 }
         ensures { self.new ≡ with_own vid records segment self.old }
-    {}
+    {
+        let id = self.next;
+        let part = change::own_part(self.alloc, id, vid, records, segment, &mut self.fresh);
+        // There is room, so this takes no memory.
+        let _ = self.parts.push(part);
+        let _ = self.index.push(Entry { vid, part: id });
+        self.next += 1;
+        self.stored += u64::from(records);
+        self.cost += u64::from(records);
+        self.room = Room::Nothing;
+    }
 
     /// A new version joins a partition, which lacked so many of its records; these are in this segment. Vids are
     /// given in ascending order, so the vid is above all others. A segment of no bytes isn't listed. Uses the room
@@ -140,7 +187,18 @@ impl Layout {
         requires new { IsNew vid self.old.parts }
         requires records { records_at part self.old.parts + added ≤ 2 ^ 31 }
         ensures { self.new ≡ with_joined vid part added segment self.old }
-    {}
+    {
+        let at = place_of(&self.parts, part);
+        let joined = &mut self.parts[at];
+        let before = change::cost_of(joined);
+        change::join_part(joined, vid, added, segment, &mut self.spare);
+        let after = change::cost_of(joined);
+        // There is room, so this takes no memory.
+        let _ = self.index.push(Entry { vid, part });
+        self.stored += u64::from(added);
+        self.cost = self.cost - before + after;
+        self.room = Room::Nothing;
+    }
 
     /// A target becomes a partition: it serves and holds these versions, which leave their partitions, and its
     /// segments are those of the partition `source` at the places `kept`, then the copied ones. A partition without
@@ -162,5 +220,26 @@ impl Layout {
         requires freed { length freed.old.items + length (given_up (flip_of versions.items records source kept.now copied.items) self.old.parts) ≤ vec_capacity freed.old }
         ensures flipped { self.new ≡ with_flipped (flip_of versions.items records source kept.now copied.items) self.old }
         ensures freed { freed.new.items ≡ freed.old.items ++ given_up (flip_of versions.items records source kept.now copied.items) self.old.parts }
-    {}
+    {
+        let id = self.next;
+        let mut segments = copied;
+        flips::with_kept(&self.parts, source, kept, &mut segments);
+        let saved = flips::leave(&mut self.parts, &self.index, &versions);
+        let gone = flips::give_up(&mut self.parts, source, kept, freed);
+        index::move_to(&mut self.index, &versions, id);
+        self.cost = self.cost - saved + versions.len() as u64 * u64::from(records);
+        self.stored = self.stored - gone + u64::from(records);
+        let mut holds = mem::replace(&mut self.fresh.holds, Vec::new(self.alloc));
+        // There is room, so this takes no memory.
+        let _ = holds.extend_from_slice(&versions);
+        let _ = self.parts.push(Part {
+            id,
+            versions: Vids::new(versions),
+            holds: Vids::new(holds),
+            records,
+            segments: Extents::new(segments),
+        });
+        self.next += 1;
+        self.room = Room::Nothing;
+    }
 }

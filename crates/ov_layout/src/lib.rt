@@ -9,10 +9,16 @@
 //! Contracts see a layout as the list of its partitions, the number that the next partition gets, and the room.
 #![tactic(auto)]
 
+mod change;
+mod flips;
+mod index;
 mod layout;
 mod lists;
 mod part;
 mod room;
+mod search;
+mod spares;
+mod sums;
 
 pub use layout::Layout;
 pub use lists::{Extents, Vids};

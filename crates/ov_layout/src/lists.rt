@@ -1,9 +1,12 @@
 //! Lists of versions and of extents.
 
-ghost use Rattle.std.specs.Prelude.{◌≡◌};
+ghost use Rattle.std.specs.Prelude.{◌≡◌, ◌<◌, [], ◌∷◌, ◌++◌, not, filter, length, vec_capacity};
+ghost use Rattle.ov_layout.specs.Parts.{has, Ascend};
 
+use crate::search::is_among;
 use ov_host::Extent;
 use std::marker::Model;
+use std::mem;
 
 /// Vids in order. Contracts see the list of them.
 #[derive(Debug, Drop)]
@@ -40,6 +43,24 @@ impl Vids {
     {
         let Vids { vids } = self;
         vids
+    }
+
+    /// Puts a vid at the end. Takes no memory: see [`push_or_move`].
+    pub(crate) fn push(&mut self, vid: u32, spare: &mut Vec<u32>)
+        requires empty { spare.old.items ≡ [] }
+        requires room { length self.old < vec_capacity spare.old }
+        ensures pushed { self.new ≡ self.old ++ vid ∷ [] }
+        ensures empty { spare.new.items ≡ [] }
+    {
+        push_or_move(&mut self.vids, vid, spare);
+    }
+
+    /// Takes these vids off.
+    pub(crate) fn leave(&mut self, leaving: &[u32])
+        requires { Ascend 0 leaving.now }
+        ensures { self.new ≡ filter (λ vid. not (has leaving.now vid)) self.old }
+    {
+        self.vids.retain(|vid| !is_among(leaving, *vid as usize));
     }
 }
 
@@ -80,4 +101,32 @@ impl Extents {
         let Extents { extents } = self;
         extents
     }
+
+    /// Puts an extent at the end. Takes no memory: see [`push_or_move`].
+    pub(crate) fn push(&mut self, extent: Extent, spare: &mut Vec<Extent>)
+        requires empty { spare.old.items ≡ [] }
+        requires room { length self.old < vec_capacity spare.old }
+        ensures pushed { self.new ≡ self.old ++ extent ∷ [] }
+        ensures empty { spare.new.items ≡ [] }
+    {
+        push_or_move(&mut self.extents, extent, spare);
+    }
+}
+
+/// Puts an item at the end of a list. A list that is full moves to the spare one, which has room, and its own
+/// memory becomes the spare one.
+fn push_or_move<T: Copy>(list: &mut Vec<T>, item: T, spare: &mut Vec<T>)
+    requires empty { spare.old.items ≡ [] }
+    requires room { length list.old.items < vec_capacity spare.old }
+    ensures pushed { list.new.items ≡ list.old.items ++ item ∷ [] }
+    ensures empty { spare.new.items ≡ [] }
+{
+    if list.len() == list.capacity() {
+        // There is room in the spare list, so this takes no memory.
+        let _ = spare.extend_from_slice(list);
+        mem::swap(list, spare);
+        spare.clear();
+    }
+    // There is room, so this takes no memory.
+    let _ = list.push(item);
 }

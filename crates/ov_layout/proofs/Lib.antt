@@ -1,0 +1,12 @@
+pub mod VidLemmas
+pub mod SumLemmas
+pub mod FlipLemmas
+pub mod LeaveLemmas
+pub mod GoneLemmas
+pub mod EntryLemmas
+pub mod PlacedLemmas
+pub mod AddLemmas
+pub mod RoomLemmas
+pub mod JoinLemmas
+pub mod CountLemmas
+pub mod FlippedLemmas
