@@ -1,0 +1,53 @@
+use Rattle.std.proofs.Common.{◌≡◌, ◌+◌, ◌++◌, ℕ, List, get_or, take, drop, refl, sym, ◌∙◌, ap, subst, arith}
+use Rattle.std.specs.Prelude.{Option, None, not}
+use Rattle.ov_model.specs.Assigned.{rid_of_row}
+use Rattle.ov_model.specs.Records.{first_of}
+use Rattle.ov_records.specs.Records.{pairs_of}
+use Rattle.ov_records.specs.Passing.{Ascends}
+use Rattle.ov_records.specs.Found.{or_found}
+use Rattle.ov_records.proofs.Passes.{Passed, passed_none, ascends_skip}
+use Rattle.ov_records.proofs.Finds.{rises_on, passed_here, passed_on, first_none, found_set, found_kept}
+use Rattle.ov_records.proofs.finding.find_in.Goals.{then-is_none, else-is_none}
+use Rattle.ov_records.proofs.finding.find_in.Goals as goal
+
+pub loop-i-init : goal.loop-i-init
+loop-i-init c = record {
+  rises = c.requires.rows;
+  passed = passed_none c.args.schema.now c.args.parent.now c.args.rows.now c.requires.parent;
+  so_far = refl;
+}
+
+pub rid_of-requires : goal.rid_of-requires
+rid_of-requires c =
+    subst (Ascends c.args.schema.now) (sym c.pass_below-rest.ensures)
+    (ascends_skip c.args.schema.now c.index-rows-i.result c.loop-i.rest.now c.loop-i.invariant.passed.ascends)
+
+pub loop-i-preserved : goal.loop-i-preserved
+loop-i-preserved c =
+    let schema = c.args.schema.now in
+    let parent = c.args.parent.now in
+    let rows = c.args.rows.now in
+    let i = c.loop-i.i in
+    let row = c.index-rows-i.result in
+    let found : List (Option ℕ) = c.loop-i.found in
+    let f : Option ℕ = get_or found i None in
+    let all : List (Option ℕ) = or_found c.args.found.now rows (pairs_of parent) in
+    let rest_is = c.pass_below-rest.ensures in
+    let here = passed_here schema parent c.loop-i.rest.now rows i row c.loop-i-test.true c.index-rows-i.is c.loop-i.invariant.rises c.loop-i.invariant.passed in
+    record {
+      rises = rises_on schema parent c.loop-i.rest.now rows i row c.loop-i-test.true c.index-rows-i.is c.loop-i.invariant.rises;
+      passed =
+          subst (λ l. Passed schema parent l (drop (i + 1) rows)) (sym rest_is)
+          (passed_on schema parent c.loop-i.rest.now rows i row c.loop-i-test.true c.index-rows-i.is c.loop-i.invariant.rises c.loop-i.invariant.passed);
+      so_far = elim c.if-is_none.branch [
+        | then-is_none w ↦
+            let given : w.rid_of.result ≡ first_of f (rid_of_row (pairs_of parent) row) =
+            w.rid_of.ensures ∙ ap (λ l. rid_of_row (pairs_of l) row) rest_is ∙ here.serves.0
+            ∙ sym (first_none f (rid_of_row (pairs_of parent) row) (c.is_none.ensures ∙ ap not w.if-is_none.true)) in
+            subst (λ l. take (i + 1) l ++ or_found (drop (i + 1) l) (drop (i + 1) rows) (pairs_of parent) ≡ all) (sym w.found-is)
+            (found_set (pairs_of parent) found all rows i f row c.loop-i-test.true (omega arith) refl c.index-rows-i.is c.loop-i.invariant.so_far w.rid_of.result given)
+        | else-is_none w ↦
+            subst (λ l. take (i + 1) l ++ or_found (drop (i + 1) l) (drop (i + 1) rows) (pairs_of parent) ≡ all) (sym w.found-is)
+            (found_kept (pairs_of parent) found all rows i f row c.loop-i-test.true (omega arith) refl c.index-rows-i.is c.loop-i.invariant.so_far (c.is_none.ensures ∙ ap not w.if-is_none.false))
+      ];
+    }
