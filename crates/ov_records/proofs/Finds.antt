@@ -1,9 +1,9 @@
 -- One row more, of rows that a parent's list is passed for.
 use Rattle.std.proofs.Common.{◌≡◌, ◌<◌, ◌≤◌, ℕ, ◌+◌, true, false, List, [], ◌∷◌, ◌++◌, length, replicate, get_or, set, take, drop, map, refl, sym, ◌∙◌, ap, subst, append_assoc, cond, arith}
 use Rattle.std.specs.Prelude.{Option, Some, None}
-use Rattle.std.specs.Option.{is_some}
+use Rattle.std.specs.Option.{option_or}
 use Rattle.std.specs.List.{zip}
-use Rattle.std.proofs.lemmas.List.{append-nil, take_all, drop_more, drop_all, take_more_set, drop-set-lt, set-get_or}
+use Rattle.std.proofs.lemmas.List.{append-nil, take_all, drop_more, drop_all, take_more_set, drop-set-lt}
 use Rattle.std.proofs.lemmas.List.Sums.{sum_by-cons}
 use Rattle.ov_value.specs.Rows.{key_cmp}
 use Rattle.ov_value.specs.Shapes.{Shape}
@@ -37,13 +37,9 @@ module _ (schema : Shape) (parent rest : List Record) (rows : List Row) (i : ℕ
 
 -- ---- rids that were found
 
-pub first_none : (f later : Option ℕ) → is_some f ≡ false → first_of f later ≡ later
-first_none None later e = refl
-first_none (Some x) later e = cc
-
-pub first_some : (f later : Option ℕ) → is_some f ≡ true → first_of f later ≡ f
-first_some None later e = cc
-first_some (Some x) later e = refl
+pub or_first : (a b : Option ℕ) → option_or a b ≡ first_of a b
+or_first None b = refl
+or_first (Some x) b = refl
 
 module _ (parent : List (ℕ × Row)) (found all : List (Option ℕ)) (rows : List Row) (i : ℕ) (f : Option ℕ) (row : Row)
     (lt : i < length rows) (long : length found ≡ length rows) (f_is : f ≡ get_or found i None) (is : row ≡ get_or rows i row)
@@ -64,12 +60,6 @@ module _ (parent : List (ℕ × Row)) (found all : List (Option ℕ)) (rows : Li
       ∙ ap (λ l. take i found ++ or_found l (row ∷ drop (i + 1) rows) parent) (sym f_here)
       ∙ ap (λ l. take i found ++ or_found (drop i found) l parent) (sym here)
       ∙ so_far
-
-  pub found_kept : is_some f ≡ true → take (i + 1) found ++ or_found (drop (i + 1) found) (drop (i + 1) rows) parent ≡ all
-  found_kept some =
-      let same : set found i f ≡ found = ap (set found i) f_is ∙ set-get_or found i None
-      in subst (λ l. take (i + 1) l ++ or_found (drop (i + 1) l) (drop (i + 1) rows) parent ≡ all) same
-      (found_set f (sym (first_some f (rid_of_row parent row) some)))
 
 -- ---- records that are shared
 

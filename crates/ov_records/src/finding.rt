@@ -43,9 +43,7 @@ fn find_in(schema: &Schema, parent: &[Record], rows: &[Row], found: &mut [Option
     let mut rest = parent;
     for (i, row) in rows.iter().enumerate() {
         rest = pass_below(schema, rest, row);
-        if found[i].is_none() {
-            found[i] = rid_of(schema, rest, row);
-        }
+        found[i] = found[i].or(rid_of(schema, rest, row));
     }
 }
 

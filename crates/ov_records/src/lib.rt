@@ -18,3 +18,6 @@ mod sharing;
 pub use assigning::assign;
 pub use numbers::Numbers;
 pub use outcome::{AssignErr, Assigned};
+
+#[cfg(test)]
+mod tests;

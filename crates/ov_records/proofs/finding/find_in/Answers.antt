@@ -1,13 +1,12 @@
 use Rattle.std.proofs.Common.{◌≡◌, ◌+◌, ◌++◌, ℕ, List, get_or, take, drop, refl, sym, ◌∙◌, ap, subst, arith}
-use Rattle.std.specs.Prelude.{Option, None, not}
+use Rattle.std.specs.Prelude.{Option, None}
 use Rattle.ov_model.specs.Assigned.{rid_of_row}
 use Rattle.ov_model.specs.Records.{first_of}
 use Rattle.ov_records.specs.Records.{pairs_of}
 use Rattle.ov_records.specs.Passing.{Ascends}
 use Rattle.ov_records.specs.Found.{or_found}
 use Rattle.ov_records.proofs.Passes.{Passed, passed_none, ascends_skip}
-use Rattle.ov_records.proofs.Finds.{rises_on, passed_here, passed_on, first_none, found_set, found_kept}
-use Rattle.ov_records.proofs.finding.find_in.Goals.{then-is_none, else-is_none}
+use Rattle.ov_records.proofs.Finds.{rises_on, passed_here, passed_on, or_first, found_set}
 use Rattle.ov_records.proofs.finding.find_in.Goals as goal
 
 pub loop-i-init : goal.loop-i-init
@@ -39,15 +38,8 @@ loop-i-preserved c =
       passed =
           subst (λ l. Passed schema parent l (drop (i + 1) rows)) (sym rest_is)
           (passed_on schema parent c.loop-i.rest.now rows i row c.loop-i-test.true c.index-rows-i.is c.loop-i.invariant.rises c.loop-i.invariant.passed);
-      so_far = elim c.if-is_none.branch [
-        | then-is_none w ↦
-            let given : w.rid_of.result ≡ first_of f (rid_of_row (pairs_of parent) row) =
-            w.rid_of.ensures ∙ ap (λ l. rid_of_row (pairs_of l) row) rest_is ∙ here.serves.0
-            ∙ sym (first_none f (rid_of_row (pairs_of parent) row) (c.is_none.ensures ∙ ap not w.if-is_none.true)) in
-            subst (λ l. take (i + 1) l ++ or_found (drop (i + 1) l) (drop (i + 1) rows) (pairs_of parent) ≡ all) (sym w.found-is)
-            (found_set (pairs_of parent) found all rows i f row c.loop-i-test.true (omega arith) refl c.index-rows-i.is c.loop-i.invariant.so_far w.rid_of.result given)
-        | else-is_none w ↦
-            subst (λ l. take (i + 1) l ++ or_found (drop (i + 1) l) (drop (i + 1) rows) (pairs_of parent) ≡ all) (sym w.found-is)
-            (found_kept (pairs_of parent) found all rows i f row c.loop-i-test.true (omega arith) refl c.index-rows-i.is c.loop-i.invariant.so_far (c.is_none.ensures ∙ ap not w.if-is_none.false))
-      ];
+      so_far =
+        found_set (pairs_of parent) found all rows i f row c.loop-i-test.true (omega arith) refl c.index-rows-i.is c.loop-i.invariant.so_far c.or.result
+            (c.or.ensures ∙ or_first f c.rid_of.result
+            ∙ ap (first_of f) (c.rid_of.ensures ∙ ap (λ l. rid_of_row (pairs_of l) row) rest_is ∙ here.serves.0));
     }
