@@ -44,13 +44,20 @@ fn rows_of(alloc: Global, pairs: &[(i64, &str)]) -> Result<Vec<Row>, AllocError>
     Ok(rows)
 }
 
-fn records_of(alloc: Global, triples: &[(u32, i64, &str)]) -> Result<Records, AllocError> {
+// The records of one parent among those of several, each with the number of its parent before it.
+fn records_of(
+    alloc: Global,
+    parent: u32,
+    listed: &[(u32, u32, i64, &str)],
+) -> Result<Records, AllocError> {
     let mut records = Vec::new(alloc);
-    for (rid, k, x) in triples {
-        records.push(Record {
-            rid: *rid,
-            row: row_of(alloc, *k, x)?,
-        })?;
+    for (number, rid, k, x) in listed {
+        if *number == parent {
+            records.push(Record {
+                rid: *rid,
+                row: row_of(alloc, *k, x)?,
+            })?;
+        }
     }
     Ok(Records::new(records))
 }
@@ -105,9 +112,11 @@ fn assign_if_ordered(
     }
 }
 
+// Records each stand behind the number of their parent, from 1.
 #[derive(Clone, Copy)]
 struct Case<'a> {
-    parents: &'a [&'a [(u32, i64, &'a str)]],
+    parents: u32,
+    records: &'a [(u32, u32, i64, &'a str)],
     rows: &'a [(i64, &'a str)],
     next: u32,
     rids: &'a [u32],
@@ -119,8 +128,8 @@ struct Case<'a> {
 fn holds(alloc: Global, case: &Case) -> Result<bool, Fail> {
     let schema = schema_of_pairs(alloc)?;
     let mut parents = Vec::new(alloc);
-    for triples in case.parents {
-        parents.push(records_of(alloc, triples)?)?;
+    for parent in 0..case.parents {
+        parents.push(records_of(alloc, parent + 1, case.records)?)?;
     }
     let rows = rows_of(alloc, case.rows)?;
     let made = assign_if_ordered(alloc, &schema, &parents, &rows, case.next).ok_or("in order")?;
@@ -134,16 +143,13 @@ fn holds(alloc: Global, case: &Case) -> Result<bool, Fail> {
     })
 }
 
-// The records of `people` in its first two versions.
-const FIRST: &[(u32, i64, &str)] = &[(1, 1, "ann,10"), (2, 2, "bob,20")];
-const SECOND: &[(u32, i64, &str)] = &[(1, 1, "ann,10"), (3, 2, "bob,25"), (4, 3, "cy,30")];
-
 // The dataset `people`: versions 1 and 2, then 3 with parent 2, then 4 with parents 1 and 2.
 #[test]
 fn a_row_of_no_named_parent_is_a_new_record(rt: HostRuntime) -> Result<(), Fail> {
     let cases = [
         Case {
-            parents: &[],
+            parents: 0,
+            records: &[],
             rows: &[(1, "ann,10"), (2, "bob,20")],
             next: 1,
             rids: &[1, 2],
@@ -151,7 +157,8 @@ fn a_row_of_no_named_parent_is_a_new_record(rt: HostRuntime) -> Result<(), Fail>
             fresh: 2,
         },
         Case {
-            parents: &[FIRST],
+            parents: 1,
+            records: &[(1, 1, 1, "ann,10"), (1, 2, 2, "bob,20")],
             rows: &[(1, "ann,10"), (2, "bob,25"), (3, "cy,30")],
             next: 3,
             rids: &[1, 3, 4],
@@ -159,7 +166,8 @@ fn a_row_of_no_named_parent_is_a_new_record(rt: HostRuntime) -> Result<(), Fail>
             fresh: 2,
         },
         Case {
-            parents: &[SECOND],
+            parents: 1,
+            records: &[(1, 1, 1, "ann,10"), (1, 3, 2, "bob,25"), (1, 4, 3, "cy,30")],
             rows: &[(1, "ann,10"), (2, "bob,20")],
             next: 5,
             rids: &[1, 5],
@@ -167,7 +175,14 @@ fn a_row_of_no_named_parent_is_a_new_record(rt: HostRuntime) -> Result<(), Fail>
             fresh: 1,
         },
         Case {
-            parents: &[FIRST, SECOND],
+            parents: 2,
+            records: &[
+                (1, 1, 1, "ann,10"),
+                (1, 2, 2, "bob,20"),
+                (2, 1, 1, "ann,10"),
+                (2, 3, 2, "bob,25"),
+                (2, 4, 3, "cy,30"),
+            ],
             rows: &[(1, "ann,10"), (2, "bob,20"), (3, "cy,30")],
             next: 6,
             rids: &[1, 2, 4],
@@ -186,7 +201,13 @@ fn the_first_of_equal_rows_counts(rt: HostRuntime) -> Result<(), Fail> {
     let cases = [
         // Equal keys in one parent, and equal rows among them.
         Case {
-            parents: &[&[(5, 1, "a"), (6, 1, "b"), (7, 1, "b"), (8, 2, "a")]],
+            parents: 1,
+            records: &[
+                (1, 5, 1, "a"),
+                (1, 6, 1, "b"),
+                (1, 7, 1, "b"),
+                (1, 8, 2, "a"),
+            ],
             rows: &[(1, "b"), (2, "b")],
             next: 9,
             rids: &[6, 9],
@@ -195,7 +216,8 @@ fn the_first_of_equal_rows_counts(rt: HostRuntime) -> Result<(), Fail> {
         },
         // One rid twice.
         Case {
-            parents: &[&[(5, 1, "a"), (5, 2, "b")]],
+            parents: 1,
+            records: &[(1, 5, 1, "a"), (1, 5, 2, "b")],
             rows: &[(1, "a"), (2, "b")],
             next: 6,
             rids: &[5, 5],
@@ -204,7 +226,13 @@ fn the_first_of_equal_rows_counts(rt: HostRuntime) -> Result<(), Fail> {
         },
         // The first parent gives the rid; the others have the row under another rid, or the rid at another row.
         Case {
-            parents: &[&[(1, 1, "a")], &[(9, 1, "a")], &[(1, 1, "b")], &[(1, 2, "a")]],
+            parents: 4,
+            records: &[
+                (1, 1, 1, "a"),
+                (2, 9, 1, "a"),
+                (3, 1, 1, "b"),
+                (4, 1, 2, "a"),
+            ],
             rows: &[(1, "a")],
             next: 10,
             rids: &[1],
@@ -213,7 +241,8 @@ fn the_first_of_equal_rows_counts(rt: HostRuntime) -> Result<(), Fail> {
         },
         // A later one of equal rows is the shared record.
         Case {
-            parents: &[&[(1, 1, "a")], &[(9, 1, "a"), (1, 1, "a")]],
+            parents: 2,
+            records: &[(1, 1, 1, "a"), (2, 9, 1, "a"), (2, 1, 1, "a")],
             rows: &[(1, "a")],
             next: 10,
             rids: &[1],
@@ -222,7 +251,8 @@ fn the_first_of_equal_rows_counts(rt: HostRuntime) -> Result<(), Fail> {
         },
         // A parent that has the next rid already shares no new record.
         Case {
-            parents: &[&[(3, 1, "a")]],
+            parents: 1,
+            records: &[(1, 3, 1, "a")],
             rows: &[(1, "b")],
             next: 3,
             rids: &[3],
@@ -231,7 +261,8 @@ fn the_first_of_equal_rows_counts(rt: HostRuntime) -> Result<(), Fail> {
         },
         // No rows, and a parent without records.
         Case {
-            parents: &[&[(1, 1, "a")], &[]],
+            parents: 2,
+            records: &[(1, 1, 1, "a")],
             rows: &[],
             next: 2,
             rids: &[],
@@ -250,7 +281,7 @@ fn no_rid_passes_the_greatest(rt: HostRuntime) -> Result<(), Fail> {
     let alloc = rt.alloc();
     let schema = schema_of_pairs(alloc)?;
     let mut parents = Vec::new(alloc);
-    parents.push(records_of(alloc, &[(1, 1, "a")])?)?;
+    parents.push(records_of(alloc, 1, &[(1, 1, 1, "a")])?)?;
     let rows = rows_of(alloc, &[(1, "a"), (2, "b"), (3, "c")])?;
     for (count, next, refused) in [
         (3, 0x7fff_ffff, false),
@@ -264,7 +295,10 @@ fn no_rid_passes_the_greatest(rt: HostRuntime) -> Result<(), Fail> {
         let made = assign_if_ordered(alloc, &schema, &parents, some, next).ok_or("in order")?;
         match made {
             Ok(_) => assert!(rt; !refused, "{count} from {next}"),
-            Err(why) => assert!(rt; refused && why == AssignErr::TooManyRecords, "{count} from {next}"),
+            Err(why) => assert!(rt;
+                refused && why == AssignErr::TooManyRecords,
+                "{count} from {next}"
+            ),
         }
     }
     Ok(())

@@ -1,4 +1,4 @@
-use Rattle.std.proofs.Common.{◌≡◌, ◌+◌, ◌++◌, ℕ, List, get_or, take, drop, refl, sym, ◌∙◌, ap, subst, arith}
+use Rattle.std.proofs.Common.{◌+◌, ℕ, List, get_or, drop, refl, sym, ◌∙◌, ap, subst, arith}
 use Rattle.std.specs.Prelude.{Option, None}
 use Rattle.ov_model.specs.Assigned.{rid_of_row}
 use Rattle.ov_model.specs.Records.{first_of}
@@ -39,7 +39,7 @@ loop-i-preserved c =
           subst (λ l. Passed schema parent l (drop (i + 1) rows)) (sym rest_is)
           (passed_on schema parent c.loop-i.rest.now rows i row c.loop-i-test.true c.index-rows-i.is c.loop-i.invariant.rises c.loop-i.invariant.passed);
       so_far =
-        found_set (pairs_of parent) found all rows i f row c.loop-i-test.true (omega arith) refl c.index-rows-i.is c.loop-i.invariant.so_far c.or.result
-            (c.or.ensures ∙ or_first f c.rid_of.result
-            ∙ ap (first_of f) (c.rid_of.ensures ∙ ap (λ l. rid_of_row (pairs_of l) row) rest_is ∙ here.serves.0));
+          found_set (pairs_of parent) found all rows i f row c.loop-i-test.true (omega arith) refl c.index-rows-i.is c.loop-i.invariant.so_far c.or.result
+          (c.or.ensures ∙ or_first f c.rid_of.result
+          ∙ ap (first_of f) (c.rid_of.ensures ∙ ap (λ l. rid_of_row (pairs_of l) row) rest_is ∙ here.serves.0));
     }
