@@ -50,7 +50,7 @@ module _ (schema : Shape) (records : List Record) where
   in_order (p ∷ ps) sorted = (
     all_from p ps
         (λ k d lt. sorted_far (λ a b. is_lt (key_cmp schema a b)) (ranks_by (key_cmp_total schema) (λ r. r)) (rows_at records (p ∷ ps)) sorted 0 (suc k) d (omega arith)
-            (omega (arith, lt, length-map ps (row_at records)))),
+        (omega (arith, lt, length-map ps (row_at records)))),
     in_order ps (order_tail p ps sorted),
   )
 
@@ -141,11 +141,11 @@ module _ (schema : Shape) (records : List Record) where
       in rising_same (key_cmp schema) (key_cmp_total schema) (rows_at records merge) (merged schema lists)
       (rows_rise merge m.rises) (merged_rises schema lists)
       (λ r is.
-          let f = place_in merge r is
-          in first_is_merged schema lists r
-          (subst (IsFirst schema (flat_map (λ rows. rows) lists)) (sym f.row_is)
-          (subst (λ l. IsFirst schema l (row f.place)) all (first_row (joined picks) f.place (first_place (joined picks) f.place (m.first f.place f.is))))))
+      let f = place_in merge r is
+      in first_is_merged schema lists r
+      (subst (IsFirst schema (flat_map (λ rows. rows) lists)) (sym f.row_is)
+      (subst (λ l. IsFirst schema l (row f.place)) all (first_row (joined picks) f.place (first_place (joined picks) f.place (m.first f.place f.is))))))
       (λ r is.
-          let g = merged_is_first schema lists r is
-          in let f = place_of (joined picks) g.before g.after r (all ∙ g.there) g.first
-          in subst (IsIn (rows_at records merge)) (sym f.row_is) (row_in merge f.place (m.every f.place f.first)))
+      let g = merged_is_first schema lists r is
+      in let f = place_of (joined picks) g.before g.after r (all ∙ g.there) g.first
+      in subst (IsIn (rows_at records merge)) (sym f.row_is) (row_in merge f.place (m.every f.place f.first)))

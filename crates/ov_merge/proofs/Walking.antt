@@ -262,8 +262,8 @@ module _ {X : Type 0} (R : X → X → Ordering) (o : IsTotalOrder R) where
 
   behind_below : (x : X) (ys : List X) → Ascends ys → AllFrom x ys → IsBelow R x (behind R x ys)
   behind_below x ys up from = below_each R o x (behind R x ys) (λ z is.
-    let b = behind_in x ys up z from is
-    in above_is R o x z (one_from x ys z from (first_is_in ys z b.0)) b.1)
+      let b = behind_in x ys up z from is
+      in above_is R o x z (one_from x ys z from (first_is_in ys z b.0)) b.1)
 
   if_up : (t : Bool) (x y : X) (ys : List X) → Ascends (y ∷ ys) → ((w : X) → AllFrom w ys → Rises R (behind R w ys)) → AllFrom x ys
       → Rises R (if t then behind R x ys else y ∷ behind R y ys)

@@ -11,3 +11,6 @@ mod once;
 mod places;
 
 pub use merging::merge;
+
+#[cfg(test)]
+mod tests;

@@ -17,13 +17,12 @@ pub merge_picks-requires : goal.merge_picks-requires
 merge_picks-requires t c =
     let front = sym c.split_at.ensures.front in
     let picks = c.args.picks.now in
-    let half = length picks / 2 in
-    (
+    let half = length picks / 2 in (
       omega (arith, c.decreases),
       (
         subst (All (AllStand c.args.records.now)) front (all_take (AllStand c.args.records.now) picks half c.requires.stand),
         subst (All (λ pick. InKeyOrder c.args.schema.now (rows_at c.args.records.now pick))) front
-          (all_take (λ pick. InKeyOrder c.args.schema.now (rows_at c.args.records.now pick)) picks half c.requires.ordered),
+            (all_take (λ pick. InKeyOrder c.args.schema.now (rows_at c.args.records.now pick)) picks half c.requires.ordered),
       ),
     )
 
@@ -31,13 +30,12 @@ pub merge_picks-requires-in_default : goal.merge_picks-requires-in_default
 merge_picks-requires-in_default t c =
     let back = sym c.split_at.ensures.back in
     let picks = c.args.picks.now in
-    let half = length picks / 2 in
-    (
+    let half = length picks / 2 in (
       omega (arith, c.decreases),
       (
         subst (All (AllStand c.args.records.now)) back (all_drop (AllStand c.args.records.now) picks half c.requires.stand),
         subst (All (λ pick. InKeyOrder c.args.schema.now (rows_at c.args.records.now pick))) back
-          (all_drop (λ pick. InKeyOrder c.args.schema.now (rows_at c.args.records.now pick)) picks half c.requires.ordered),
+            (all_drop (λ pick. InKeyOrder c.args.schema.now (rows_at c.args.records.now pick)) picks half c.requires.ordered),
       ),
     )
 
@@ -61,9 +59,9 @@ returns-in-len1-clause-merge t c =
     let whole : joined c.args.picks.now ≡ c.as_slice.result.now = one_pick c.args.picks.now c.pick-item.result long c.pick-item.is ∙ sym c.as_slice.ensures in
     IfOk-weaker c.once.result (λ made. made.items ≡ once R c.as_slice.result.now) (λ places. IsMerge R (joined c.args.picks.now) places.items)
     (λ made is.
-        subst (IsMerge R (joined c.args.picks.now)) (sym is)
-        (subst (λ l. IsMerge R l (once R c.as_slice.result.now)) (sym whole)
-        (merge_once R (places_total schema records) c.as_slice.result.now (in_order schema records c.as_slice.result.now pick)))) c.once.ensures
+    subst (IsMerge R (joined c.args.picks.now)) (sym is)
+    (subst (λ l. IsMerge R l (once R c.as_slice.result.now)) (sym whole)
+    (merge_once R (places_total schema records) c.as_slice.result.now (in_order schema records c.as_slice.result.now pick)))) c.once.ensures
 
 pub returns-in_ok-second-in_default-clause-stand :
     goal.returns-in_ok-second-in_default-clause-stand
