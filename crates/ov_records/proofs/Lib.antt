@@ -1,0 +1,5 @@
+pub mod Commits
+pub mod Finds
+pub mod Rids
+pub mod Passes
+pub mod Scans

@@ -1,0 +1,4 @@
+pub mod Committed
+pub mod Found
+pub mod Passing
+pub mod Records
