@@ -1,1 +1,4 @@
+pub mod Extents
+pub mod Cursors
+pub mod Rows
 pub mod Scans
