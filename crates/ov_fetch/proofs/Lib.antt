@@ -1,3 +1,5 @@
 pub mod Looks
 pub mod Pieces
 pub mod Going
+pub mod Running
+pub mod Gathered

@@ -2,7 +2,7 @@
 --     IsList area list rids      the list of these rids stands whole in the extent
 --     IsSegment schema area segment records      a segment of these records does
 --     IsNoList, IsNoSegment      it is short, or its bytes spell none
-use Rattle.std.specs.Prelude.{◌≡◌, ◌≤◌, ◌<◌, ◌⊎◌, ℕ, ◌*◌, true, List, length, take, drop}
+use Rattle.std.specs.Prelude.{◌≡◌, ◌≤◌, ◌<◌, ◌⊎◌, ℕ, ◌*◌, true, List, length, take, drop, map}
 use Rattle.ov_host.specs.declared.area.Extent.{Extent}
 use Rattle.ov_host.specs.declared.area.Area.TheVariants.{Pages}
 use Rattle.ov_host.specs.Host.{State, bytes_of}
@@ -12,6 +12,10 @@ use Rattle.ov_segment.specs.declared.numbered.Record.{Record}
 use Rattle.ov_segment.specs.Segments.{AreRecords, segment_spelling}
 use Rattle.ov_fetch.specs.declared.errors.FetchErr.{FetchErr}
 use Rattle.ov_fetch.specs.declared.errors.FetchErr.TheVariants.{Host, Memory, Damaged}
+
+-- the rids of records
+abbrev pub rids_of : List Record → List ℕ
+rids_of records = map (λ r. r.rid) records
 
 -- what looking does to a host: nothing changes but its counts, and the count of faults doesn't fall
 pub record Looked (old new : State) : Type 0 where
@@ -50,6 +54,12 @@ abbrev pub IsNoSegment : Shape → List ℕ → Extent → Type 0
 IsNoSegment schema area segment =
     IsShort area segment
     ⊎ ((records : List Record) → AreRecords schema 0 records → extent_bytes area segment ≡ segment_spelling records → ⊥)
+
+-- a segment stands whole in the extent, and its records have these rids
+pub record HasRids (schema : Shape) (area : List ℕ) (segment : Extent) (rids : List ℕ) : Type 0 where
+  pub records : List Record
+  pub stands : IsSegment schema area segment records
+  pub rids_are : rids ≡ rids_of records
 
 -- why a list isn't read; want of memory and a fault of the host say nothing of the bytes
 abbrev pub RefusesList : FetchErr → List ℕ → Extent → Type 0

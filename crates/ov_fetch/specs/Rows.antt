@@ -3,18 +3,15 @@
 --     is_asked members rid      whether one of the sets has the rid
 --     AreRows schema area segments members got      got are the records of all the sets, out of these segments
 --     IsDamage schema area segments lists members page      why there are none
-use Rattle.std.specs.Prelude.{◌≡◌, ◌<◌, ◌≤◌, ◌⊎◌, ℕ, Bool, true, false, ◌==◌, List, [], ◌∷◌, length, map, filter, Option, Some, None, IsSome, slice_get}
+use Rattle.std.specs.Prelude.{◌≡◌, ◌⊎◌, ℕ, Bool, true, false, ◌==◌, List, [], ◌∷◌, Option, Some, None, IsSome, slice_get}
 use Rattle.std.specs.List.{list_any, find, flat_map, Contains}
 use Rattle.ov_host.specs.declared.area.Extent.{Extent}
-use Rattle.ov_member.specs.Rids.{has, AreRids}
+use Rattle.ov_member.specs.Rids.{has}
 use Rattle.ov_value.specs.Shapes.{Shape}
 use Rattle.ov_segment.specs.declared.numbered.Record.{Record}
 use Rattle.ov_fetch.specs.declared.errors.FetchErr.{FetchErr}
 use Rattle.ov_fetch.specs.declared.errors.FetchErr.TheVariants.{Host, Memory, Damaged}
 use Rattle.ov_fetch.specs.Extents.{IsSegment, IsNoSegment}
-
-abbrev pub rids_of : List Record → List ℕ
-rids_of records = map (λ r. r.rid) records
 
 abbrev pub record_of : List Record → ℕ → Option Record
 record_of records rid = find (λ r. r.rid == rid) records
@@ -76,38 +73,3 @@ RefusesRows Host schema area segments lists members = Unit {0}
 RefusesRows Memory schema area segments lists members = Unit {0}
 RefusesRows (Damaged page) schema area segments lists members = IsDamage schema area segments lists members page
 
--- ---- on the way
-
--- the set of all rids that are asked for
-pub record IsAskedSet (members : List (List ℕ)) (wanted : List ℕ) : Type 0 where
-  pub rids : AreRids wanted
-  pub members_are : (rid : ℕ) → has wanted rid ≡ is_asked members rid
-
--- the records of the segments that are wanted, one segment after the other
-pub record AreWanted (schema : Shape) (area : List ℕ) (segments : List Extent) (wanted : List ℕ) (kept : List Record) : Type 0 where
-  pub contents : List (List Record)
-  pub read : AreSegments schema area segments contents
-  pub kept_are : kept ≡ filter (λ r. has wanted r.rid) (joined contents)
-
-abbrev pub RefusesSegments : FetchErr → Shape → List ℕ → List Extent → Type 0
-RefusesSegments Host schema area segments = Unit {0}
-RefusesSegments Memory schema area segments = Unit {0}
-RefusesSegments (Damaged page) schema area segments = HasNoSegment schema area segments page
-
--- rids strictly ascend
-abbrev pub Climbs : ℕ → List Record → Type 0
-Climbs last [] = Unit {0}
-Climbs last (r ∷ rs) = (last < r.rid) × Climbs r.rid rs
-
--- rids don't fall
-abbrev pub Rises : ℕ → List Record → Type 0
-Rises last [] = Unit {0}
-Rises last (r ∷ rs) = (last ≤ r.rid) × Rises r.rid rs
-
--- a set has a rid of another set, at this place among sets
-pub record SharesAt (members : List (List ℕ)) (missing : List ℕ) (place : ℕ) : Type 0 where
-  pub rids : List ℕ
-  pub there : slice_get members place ≡ Some rids
-  pub rid : ℕ
-  pub member : has rids rid ≡ true
-  pub lacking : has missing rid ≡ true
