@@ -1,8 +1,11 @@
 -- The wanted records of segments, one segment after the other.
-use Rattle.std.proofs.Common.{◌≡◌, ◌<◌, ◌≤◌, ◌+◌, ℕ, Bool, true, false, List, [], ◌∷◌, ◌++◌, length, get_or, take, refl, sym, ◌∙◌, ap, subst, arith}
+use Rattle.std.proofs.Common.{◌≡◌, ◌<◌, ◌≤◌, ◌+◌, ℕ, zero, suc, Bool, true, false, Result, Ok, Err, cond, List, [], ◌∷◌, ◌++◌, length, get_or, take, refl, sym, ◌∙◌, ap, subst, arith}
+use mathlib.Core.Bool.{true≢false}
+use Rattle.std.specs.Prelude.{IsErr, IsErrAnd, MatchResult}
 use Rattle.std.specs.List.{filter, sum_by, flat_map, AllByRecursion, Contains}
 use Rattle.std.proofs.lemmas.List.{append-nil, take_all}
 use Rattle.std.proofs.lemmas.List.Elements.{filter-append}
+use Rattle.std.proofs.lemmas.List.Sums.{sum_by-append}
 use Rattle.std.proofs.lemmas.Grind.{flat_map-append}
 use Rattle.ov_host.specs.declared.area.Extent.{Extent}
 use Rattle.ov_host.specs.Host.{State}
@@ -23,11 +26,11 @@ append_all P (x ∷ xs) ys h k = (h.0, append_all P xs ys h.1 k)
 
 pub filter_all : {X : Type 0} (P : X → Type 0) (test : X → Bool) (xs : List X) → AllByRecursion P xs → AllByRecursion P (filter test xs)
 filter_all P test [] h = tt
-filter_all P test (x ∷ xs) h = by (test x) refl
+filter_all {X = X} P test (x ∷ xs) h = by (test x) (filter test xs) h.0 (filter_all P test xs h.1)
   where
-    by : (b : Bool) → test x ≡ b → AllByRecursion P (filter test (x ∷ xs))
-    by true e = rw e (h.0, filter_all P test xs h.1)
-    by false e = rw e (filter_all P test xs h.1)
+    by : (b : Bool) (ys : List X) → P x → AllByRecursion P ys → AllByRecursion P (cond b (x ∷ ys) ys)
+    by true ys p k = (p, k)
+    by false ys p k = k
 
 pub are_records : (schema : Shape) (last : ℕ) (rs : List Record) → AreRecords schema last rs → AllByRecursion (IsRecord schema) rs
 are_records schema last [] h = tt
@@ -68,7 +71,7 @@ goes_on schema s0 s1 s2 segments segment wanted kept more h looked fetched new =
   looked = looked_again s0 s1 s2 h.looked looked;
   fetched = omega (arith, h.fetched, fetched, sums);
   sound = subst (AllByRecursion (IsRecord schema)) (sym new.kept_are)
-  (append_all (IsRecord schema) kept (wanted_of wanted new.read) h.sound (filter_all (IsRecord schema) (λ r. has wanted r.rid) new.read (are_records schema 0 new.read new.are)));
+      (append_all (IsRecord schema) kept (wanted_of wanted new.read) h.sound (filter_all (IsRecord schema) (λ r. has wanted r.rid) new.read (are_records schema 0 new.read new.are)));
   contents = h.contents ++ new.read ∷ [];
   kept_are =
       new.kept_are ∙ ap (λ (l : List Record). l ++ wanted_of wanted new.read) h.kept_are
@@ -77,12 +80,25 @@ goes_on schema s0 s1 s2 segments segment wanted kept more h looked fetched new =
       (subst (λ (a : List ℕ). IsSegment schema a segment new.read) (same_pages s0 s1 h.looked told) (new.told (h.looked.told ∙ told)));
 }
   where
-    sums : sum_by (λ e. e.bytes) (segments ++ segment ∷ []) ≡ sum_by (λ e. e.bytes) segments + segment.bytes
-    sums = ?
+    sums : sum_by (λ e. e.bytes) (segments ++ segment ∷ []) ≡ sum_by (λ e. e.bytes) segments + (0 + segment.bytes)
+    sums = sum_by-append (λ e. e.bytes) segments (segment ∷ [])
 
 pub ends : (schema : Shape) (s0 s1 : State) (segments : List Extent) (wanted : List ℕ) (kept : List Record) → HasGathered schema s0 s1 segments wanted kept → s0.tells ≡ true
     → AreWanted schema (page_bytes s0) segments wanted kept
 ends schema s0 s1 segments wanted kept h told = record { contents = h.contents; read = h.told told; kept_are = h.kept_are }
+
+pub same_default : {X : Type 0} (xs : List X) (i : ℕ) (d e : X) → i < length xs → get_or xs i d ≡ get_or xs i e
+same_default [] i d e below = absurd (omega (arith, below))
+same_default (x ∷ xs) zero d e below = refl
+same_default (x ∷ xs) (suc i) d e below = same_default xs i d e (omega (arith, below))
+
+pub is_among : {X : Type 0} (xs : List X) (i : ℕ) (d : X) → i < length xs → Contains xs (get_or xs i d)
+is_among xs i d below = (i, below, same_default xs i (get_or xs i d) d below)
+
+-- an error is passed on
+pub passed_on : {X E : Type 0} (P : X → Type 0) (Q : E → Type 0) (r : Result X E) (e : E) → IsErr r × IsErrAnd r (λ x. x ≡ e) → Q e → MatchResult r P Q
+passed_on P Q (Ok x) e h q = absurd (true≢false (sym h.0))
+passed_on P Q (Err x) e h q = subst Q (sym h.1) q
 
 -- one of them is off
 pub stops : (schema : Shape) (s0 s1 : State) (segments some : List Extent) (segment : Extent) (wanted : List ℕ) (kept : List Record) (e : FetchErr) → HasGathered schema s0 s1 some wanted kept → Contains segments segment

@@ -74,11 +74,13 @@ starts schema s old c answer open_ reached answered place at = record {
 -- while it wants more, few bytes are held
 pub wants_room : (schema : Shape) (old : Reader) (new : Reader) → Answers schema old next.More new → (new.over ≡ false) × (length new.held + 61440 ≤ 131072)
 wants_room schema old new h =
-    let held : length new.held ≡ length old.held = ap (λ (r : Reader). length r.held) h.2 in
-    (ap (λ (r : Reader). r.over) h.2 ∙ h.0, elim h.1 [
-      | inl few ↦ omega (arith, held, few)
-      | inr short ↦ omega (arith, held, short.1, short.0.small)
-    ])
+    let held : length new.held ≡ length old.held = ap (λ (r : Reader). length r.held) h.2 in (
+      ap (λ (r : Reader). r.over) h.2 ∙ h.0,
+      elim h.1 [
+        | inl few ↦ omega (arith, held, few)
+        | inr short ↦ omega (arith, held, short.1, short.0.small)
+      ],
+    )
 
 -- a piece more, and the next answer
 pub goes_on : (schema : Shape) (s0 s1 s2 : State) (old c filled_ d : Cursor) (answer : Next) → IsGoing schema s0 s1 old next.More c → Looked s1 s2 → s2.fetched + c.at ≤ s1.fetched + filled_.at
@@ -134,15 +136,17 @@ pub finds : (schema : Shape) (s0 s1 : State) (old c : Cursor) (r : Record) → I
 finds schema s0 s1 old c r is told =
     let area : List ℕ = page_bytes s0 in
     let begins : Begins schema is.mid.last is.mid.held r c.reader.held = is.answered.1 in
-    let rest : List ℕ = drop c.at (extent_bytes area old.extent) in
-    (record {
-      next = subst (λ n. IsNext schema n r) is.last_same begins.next;
-      held_is =
-          sym (is.left told)
-          ∙ ap (λ (l : List ℕ). l ++ rest) begins.held_is
-          ∙ append_assoc (record_bytes r) c.reader.held rest
-          ∙ (λ i. record_bytes r ++ (c.reader.held ++ drop c.at (extent_bytes area (sym is.place i))));
-    }, omega (arith, is.reached told, ap (λ (e : Extent). length (extent_bytes area e)) is.place))
+    let rest : List ℕ = drop c.at (extent_bytes area old.extent) in (
+      record {
+        next = subst (λ n. IsNext schema n r) is.last_same begins.next;
+        held_is =
+            sym (is.left told)
+            ∙ ap (λ (l : List ℕ). l ++ rest) begins.held_is
+            ∙ append_assoc (record_bytes r) c.reader.held rest
+            ∙ (λ i. record_bytes r ++ (c.reader.held ++ drop c.at (extent_bytes area (sym is.place i))));
+      },
+      omega (arith, is.reached told, ap (λ (e : Extent). length (extent_bytes area e)) is.place),
+    )
 
 -- what is held is off
 pub stops : (schema : Shape) (s0 s1 : State) (old c : Cursor) → IsGoing schema s0 s1 old next.Bad c → s0.tells ≡ true → IsOffFrom schema (page_bytes s0) old
@@ -170,12 +174,16 @@ cut_off schema s0 s1 old c is end some told = inr (λ records are e. by records 
   where
     area : List ℕ
     area = page_bytes s0
+
     all : c.at ≡ old.extent.bytes
     all = end ∙ ap (λ (e : Extent). e.bytes) is.place
+
     rest : drop c.at (extent_bytes area old.extent) ≡ []
     rest = drop_all c.at (extent_bytes area old.extent) (omega (arith, all, extent-length area old.extent))
+
     held : is.mid.held ≡ left_of area old
     held = sym (append-nil is.mid.held) ∙ ap (λ (l : List ℕ). is.mid.held ++ l) (sym rest) ∙ is.left told
+
     by : (records : List Record) → AreRecords schema old.reader.last records → is.mid.held ≡ segment_spelling records → ⊥
     by [] are e = omega (arith, some, ap (λ (r : Reader). length r.held) is.answered.2, ap length e)
     by (r ∷ rs) are e =

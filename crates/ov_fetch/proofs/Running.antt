@@ -101,11 +101,13 @@ pub stops : (schema : Shape) (s0 s1 : State) (segment : Extent) (c : Cursor) (re
 stops schema s0 s1 segment c read Host gone refuses told = tt
 stops schema s0 s1 segment c read Memory gone refuses told = tt
 stops schema s0 s1 segment c read (Damaged page) gone refuses told =
-    let why = subst (λ (a : List ℕ). RefusesNext (Damaged page) schema a c) (same_pages s0 s1 gone.looked told) (refuses (gone.looked.told ∙ told)) in
-    (why.0 ∙ ap (λ (e : Extent). e.page) gone.place, elim why.1 [
-      | inl short ↦ inl (subst (λ (e : Extent). IsShort (page_bytes s0) e) gone.place short)
-      | inr none ↦ inr (λ all are spelled. let left = (gone.sofar told).only all are spelled in none left.tail left.follow left.rest_is)
-    ])
+    let why = subst (λ (a : List ℕ). RefusesNext (Damaged page) schema a c) (same_pages s0 s1 gone.looked told) (refuses (gone.looked.told ∙ told)) in (
+      why.0 ∙ ap (λ (e : Extent). e.page) gone.place,
+      elim why.1 [
+        | inl short ↦ inl (subst (λ (e : Extent). IsShort (page_bytes s0) e) gone.place short)
+        | inr none ↦ inr (λ all are spelled. let left = (gone.sofar told).only all are spelled in none left.tail left.follow left.rest_is)
+      ],
+    )
 
 -- their rids
 pub record ReadsRids (schema : Shape) (before now : State) (segment : Extent) (c : Cursor) (rids : List ℕ) : Type 0 where

@@ -72,4 +72,3 @@ abbrev pub RefusesRows : FetchErr → Shape → List ℕ → List Extent → Lis
 RefusesRows Host schema area segments lists members = Unit {0}
 RefusesRows Memory schema area segments lists members = Unit {0}
 RefusesRows (Damaged page) schema area segments lists members = IsDamage schema area segments lists members page
-

@@ -103,7 +103,7 @@ impl Cursor {
         ensures more { OnOk result (GoesOn self.old self.new) }
         ensures answer { (H.state host.old).tells ≡ true → MatchResult result
             (λ _. (left_of (page_bytes (H.state host.old)) self.new ≡ left_of (page_bytes (H.state host.old)) self.old)
-                × Reaches (page_bytes (H.state host.old)) self.new)
+            × Reaches (page_bytes (H.state host.old)) self.new)
             (λ e. RefusesExtent e (page_bytes (H.state host.old)) self.old.extent) }
     {
         let extent = self.extent;

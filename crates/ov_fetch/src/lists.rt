@@ -33,17 +33,13 @@ pub fn list_of<H: Host>(alloc: Global, host: &mut H, list: Extent) -> Result<Mem
 }
 
 // All bytes of an extent.
-fn read_extent<H: Host>(
-    alloc: Global,
-    host: &mut H,
-    extent: Extent,
-) -> Result<Vec<u8>, FetchErr>
+fn read_extent<H: Host>(alloc: Global, host: &mut H, extent: Extent) -> Result<Vec<u8>, FetchErr>
     ensures looked { Looked (H.state host.old) (H.state host.new) }
     ensures cause { IsErrOf result FetchErr.Host → Rose (H.state host.old).faults (H.state host.new).faults }
     ensures fetched { (H.state host.new).fetched ≤ (H.state host.old).fetched + extent.bytes }
     ensures answer { (H.state host.old).tells ≡ true → MatchResult result
         (λ bytes. IsWhole (page_bytes (H.state host.old)) extent
-            × (bytes.items ≡ extent_bytes (page_bytes (H.state host.old)) extent))
+        × (bytes.items ≡ extent_bytes (page_bytes (H.state host.old)) extent))
         (λ e. RefusesExtent e (page_bytes (H.state host.old)) extent) }
 {
     let mut bytes = Vec::new(alloc);
