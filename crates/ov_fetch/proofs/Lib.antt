@@ -6,3 +6,4 @@ pub mod Gathered
 pub mod Lacking
 pub mod Ordered
 pub mod Asked
+pub mod Fitting

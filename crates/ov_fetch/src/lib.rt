@@ -24,3 +24,6 @@ pub use picks::{Pick, Picks, Vids};
 pub use rows::rows_of;
 pub use scan::Scan;
 pub use segments::rids_of;
+
+#[cfg(test)]
+mod tests;
