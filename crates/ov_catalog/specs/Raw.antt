@@ -8,15 +8,12 @@ use Rattle.ov_event.specs.declared.event.Placed.{Placed}
 use Rattle.ov_event.specs.declared.event.Placed.TheVariants as at
 use Rattle.ov_event.specs.declared.event.RawSchema.{RawSchema}
 use Rattle.ov_host.specs.declared.area.Extent.{Extent}
+use Rattle.ov_layout.specs.Changes.{extents_of}
 use Rattle.ov_place.specs.declared.place_facts.Place.{Place}
 use Rattle.ov_place.specs.declared.place_facts.Place.TheVariants.{Own, Join}
 use Rattle.ov_value.specs.Shapes.{Shape}
 use Rattle.ov_catalog.specs.Numbers.{Numbers, nothing_yet}
 use Rattle.ov_catalog.specs.Events.{Event, Init, Commit, Drop, Other, replayed}
-
--- a segment as a list; an extent of no bytes is none
-abbrev pub extents_of : Extent → List Extent
-extents_of segment = if segment.bytes == 0 then [] else segment ∷ []
 
 abbrev pub place_in : Placed → Place
 place_in at.Own = Own

@@ -1,6 +1,7 @@
 //! Rows from the text of a file, and the text of a file from rows.
 //!
-//! `read_csv` reads a whole file and names its first fault; `CsvText` writes a header and rows, a line at a time. The `csv`
+//! `read_csv` reads a whole file and names its first fault; `CsvText` writes a header and rows, a line at
+//! a time, and `write_csv` those of a scan. The `csv`
 //! crate splits the bytes into records and writes records; what a field spells in a column stands in the definitions of
 //! `ov_model`, which both sides are proved to meet.
 #![tactic(auto)]
@@ -12,11 +13,13 @@ mod lines;
 mod names;
 mod reading;
 mod records;
+mod scans;
 mod spelling;
 
 pub use csv_err::CsvErr;
 pub use csv_text::{CsvText, write_rows};
 pub use reading::read_csv;
+pub use scans::write_csv;
 
 #[cfg(test)]
 mod tests;

@@ -1,1 +1,5 @@
+pub mod Extents
+pub mod Cursors
+pub mod Rows
+pub mod Gathering
 pub mod Scans

@@ -1,0 +1,32 @@
+//! The text of rows of a scan.
+
+ghost use Rattle.std.specs.Prelude.{◌≡◌, IfOk};
+ghost use Rattle.ov_model.specs.Csv.{text_of};
+ghost use Rattle.ov_fetch.specs.Scans.{IsSound, AllStand, rows_at};
+
+use crate::csv_text::CsvText;
+use ov_fetch::Scan;
+use ov_value::Schema;
+use std::alloc::{AllocError, Global};
+
+/// The text of the rows at these positions in the records of a scan: a header of the schema's column names, and a line for
+/// each position, in time linear in the text. The scan is sound for the schema, and the positions exist.
+pub fn write_csv(
+    alloc: Global,
+    schema: &Schema,
+    scan: &Scan,
+    picks: &[usize],
+) -> Result<Vec<u8>, AllocError>
+    requires sound { IsSound schema.now scan.now }
+    requires stand { AllStand scan.now.records picks.now }
+    ensures { IfOk result (λ text. text.items ≡ text_of schema.now (rows_at scan.now.records picks.now)) }
+{
+    let columns = schema.columns();
+    let records = scan.records.as_slice();
+    let mut text = CsvText::new(alloc);
+    text.header(columns)?;
+    for place in picks {
+        text.row(columns, &records[*place].row)?;
+    }
+    text.finish()
+}

@@ -1,0 +1,9 @@
+pub mod Looks
+pub mod Pieces
+pub mod Going
+pub mod Running
+pub mod Gathered
+pub mod Lacking
+pub mod Ordered
+pub mod Asked
+pub mod Fitting

@@ -1,0 +1,125 @@
+//! The records of segments, from their extents.
+
+ghost use Rattle.std.specs.Prelude.{◌≡◌, ◌+◌, ◌≤◌, true, [], length, vec_len, IfOk, OnOk, IfErr, IsErrOf, MatchResult};
+ghost use Rattle.std.specs.List.{sum_by, AllByRecursion};
+ghost use Rattle.ov_host.specs.Host.{Rose};
+ghost use Rattle.ov_member.specs.Rids.{AreRids};
+ghost use Rattle.ov_segment.specs.Segments.{Ascend};
+ghost use Rattle.ov_fetch.specs.Extents.{Looked, page_bytes, HasRids, RefusesSegment};
+ghost use Rattle.ov_fetch.specs.Gathering.{IsRecord, HasKept, AreWanted, RefusesSegments};
+
+use crate::cursor::{Cursor, PIECE_BYTES};
+use crate::errors::FetchErr;
+use crate::lists::room;
+use ov_host::{Extent, Host};
+use ov_member::Members;
+use ov_segment::Record;
+use ov_value::Schema;
+use std::alloc::{AllocError, Global};
+
+/// The rids of a segment. `Damaged` with the segment's first page exactly where the segment is short, as the page area
+/// ends before it, or its bytes are no segment of the schema. It is read in pieces of at most 65,536 bytes.
+pub fn rids_of<H: Host>(
+    alloc: Global,
+    host: &mut H,
+    schema: &Schema,
+    segment: Extent,
+) -> Result<Members, FetchErr>
+    ensures looked { Looked (H.state host.old) (H.state host.new) }
+    ensures cause { IsErrOf result FetchErr.Host → Rose (H.state host.old).faults (H.state host.new).faults }
+    ensures fetched { (H.state host.new).fetched ≤ (H.state host.old).fetched + segment.bytes }
+    ensures set { IfOk result AreRids }
+    ensures answer { (H.state host.old).tells ≡ true → MatchResult result
+        (HasRids schema.now (page_bytes (H.state host.old)) segment)
+        (λ e. RefusesSegment e schema.now (page_bytes (H.state host.old)) segment) }
+{
+    let rids = read_rids(alloc, host, schema, segment)?;
+    Ok(members_of(alloc, &rids)?)
+}
+
+// The rids of a segment, in its order.
+fn read_rids<H: Host>(
+    alloc: Global,
+    host: &mut H,
+    schema: &Schema,
+    segment: Extent,
+) -> Result<Vec<u32>, FetchErr>
+    ensures looked { Looked (H.state host.old) (H.state host.new) }
+    ensures cause { IsErrOf result FetchErr.Host → Rose (H.state host.old).faults (H.state host.new).faults }
+    ensures fetched { (H.state host.new).fetched ≤ (H.state host.old).fetched + segment.bytes }
+    ensures ascend { IfOk result (λ rids. Ascend 0 rids.items) }
+    ensures answer { (H.state host.old).tells ≡ true → MatchResult result
+        (λ rids. HasRids schema.now (page_bytes (H.state host.old)) segment rids.items)
+        (λ e. RefusesSegment e schema.now (page_bytes (H.state host.old)) segment) }
+{
+    let mut piece = room(alloc, PIECE_BYTES)?;
+    let mut cursor = Cursor::new(alloc, segment)?;
+    let mut rids = Vec::new(alloc);
+    while let Some(record) = cursor.next(host, schema, &mut piece)? {
+        rids.push(record.rid)?;
+    }
+    Ok(rids)
+}
+
+/// The set of rids that ascend strictly.
+pub(crate) fn members_of(alloc: Global, rids: &[u32]) -> Result<Members, AllocError>
+    requires { Ascend 0 rids.now }
+    ensures members { IfOk result (λ members. members ≡ rids.now) }
+    ensures set { IfOk result AreRids }
+{
+    match Members::of(alloc, rids)? {
+        Some(members) => Ok(members),
+        None => unreachable!(),
+    }
+}
+
+/// The records of the segments whose rids are wanted, one segment after the other. Each segment is read once.
+pub(crate) fn gather<H: Host>(
+    alloc: Global,
+    host: &mut H,
+    schema: &Schema,
+    segments: &[Extent],
+    wanted: &Members,
+) -> Result<Vec<Record>, FetchErr>
+    ensures looked { Looked (H.state host.old) (H.state host.new) }
+    ensures cause { IsErrOf result FetchErr.Host → Rose (H.state host.old).faults (H.state host.new).faults }
+    ensures fetched { (H.state host.new).fetched ≤ (H.state host.old).fetched + sum_by (λ e. e.bytes) segments.now }
+    ensures records { IfOk result (λ kept. AllByRecursion (IsRecord schema.now) kept.items) }
+    ensures answer { (H.state host.old).tells ≡ true → MatchResult result
+        (λ kept. AreWanted schema.now (page_bytes (H.state host.old)) segments.now wanted.now kept.items)
+        (λ e. RefusesSegments e schema.now (page_bytes (H.state host.old)) segments.now) }
+{
+    let mut kept = Vec::new(alloc);
+    let mut piece = room(alloc, PIECE_BYTES)?;
+    for segment in segments {
+        keep_wanted(alloc, host, schema, *segment, wanted, &mut piece, &mut kept)?;
+    }
+    Ok(kept)
+}
+
+// Puts the wanted records of one segment behind those kept.
+fn keep_wanted<H: Host>(
+    alloc: Global,
+    host: &mut H,
+    schema: &Schema,
+    segment: Extent,
+    wanted: &Members,
+    piece: &mut [u8],
+    kept: &mut Vec<Record>,
+) -> Result<(), FetchErr>
+    requires { length piece.old ≡ 61440 }
+    ensures looked { Looked (H.state host.old) (H.state host.new) }
+    ensures cause { IsErrOf result FetchErr.Host → Rose (H.state host.old).faults (H.state host.new).faults }
+    ensures fetched { (H.state host.new).fetched ≤ (H.state host.old).fetched + segment.bytes }
+    ensures kept { OnOk result (HasKept schema.now (H.state host.old) segment wanted.now kept.old.items kept.new.items) }
+    ensures err { (H.state host.old).tells ≡ true
+        → IfErr result (λ e. RefusesSegment e schema.now (page_bytes (H.state host.old)) segment) }
+{
+    let mut cursor = Cursor::new(alloc, segment)?;
+    while let Some(record) = cursor.next(host, schema, piece)? {
+        if wanted.contains(record.rid) {
+            kept.push(record)?;
+        }
+    }
+    Ok(())
+}
