@@ -1,7 +1,7 @@
 -- The journal's events as events over numbers, whose holes are extents.
 --     event_in e      the event
 --     numbers_in events      the numbers after these events
-use Rattle.std.specs.Prelude.{◌==◌, if◌then◌else◌, List, [], ◌∷◌, map}
+use Rattle.std.specs.Prelude.{List, map}
 use Rattle.ov_event.specs.declared.event.Event as raw
 use Rattle.ov_event.specs.declared.event.Event.TheVariants as says
 use Rattle.ov_event.specs.declared.event.Placed.{Placed}
