@@ -22,4 +22,6 @@ pub use reading::read_csv;
 pub use scans::write_csv;
 
 #[cfg(test)]
+mod scan_tests;
+#[cfg(test)]
 mod tests;

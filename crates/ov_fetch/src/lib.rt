@@ -26,4 +26,6 @@ pub use scan::Scan;
 pub use segments::rids_of;
 
 #[cfg(test)]
+mod memory_tests;
+#[cfg(test)]
 mod tests;

@@ -47,8 +47,6 @@ pub fn run_fresh(
 #[cfg(test)]
 mod checkpoint_tests;
 #[cfg(test)]
-mod fetch_tests;
-#[cfg(test)]
 mod image_tests;
 #[cfg(test)]
 mod journal_tests;

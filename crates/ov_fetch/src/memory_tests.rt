@@ -1,18 +1,11 @@
-// Rows fetched from pages in memory, and their text.
-ghost use Rattle.std.specs.Prelude.{◌≡◌, ◌<◌, true, length};
-ghost use Rattle.std.specs.List.{All};
-ghost use Rattle.ov_segment.specs.Segments.{AreRecords};
-ghost use Rattle.ov_fetch.specs.Scans.{AllStand};
-
-use ov_csv::write_csv;
-use ov_fetch::{FetchErr, Picks, Scan, Vids, list_of, rids_of, rows_of};
+// Rows fetched from pages in memory.
+use super::{FetchErr, list_of, rids_of, rows_of};
 use ov_host::Extent;
 use ov_member::Members;
 use ov_memhost::MemHost;
-use ov_segment::Records;
-use ov_value::{Column, Kind, Schema, Txt};
-use std::alloc::{AllocError, Global};
-use std::process::Abort;
+use ov_segment::{Record, Records};
+use ov_value::{Column, Kind, Schema, Txt, Value};
+use std::alloc::Global;
 use std::test::Fail;
 use std::time::Instant;
 
@@ -82,47 +75,6 @@ fn rids(alloc: Global, records: &Records) -> Result<Vec<u32>, Fail> {
     Ok(rids)
 }
 
-fn all_below(places: &[usize], len: usize) -> bool
-    ensures { result ≡ true → All (λ place. place < len) places.now }
-{
-    for place in places {
-        if *place >= len {
-            return false;
-        }
-    }
-    true
-}
-
-// The text of the people at these places.
-fn text_at(
-    alloc: Global,
-    schema: &Schema,
-    records: Records,
-    places: &[usize],
-) -> Result<Vec<u8>, AllocError>
-    requires fit { AreRecords schema.now 0 records }
-    requires stand { AllStand records places.now }
-{
-    let scan = Scan {
-        vids: Vids::new(Vec::new(alloc)),
-        records,
-        picks: Picks::new(Vec::new(alloc)),
-    };
-    write_csv(alloc, schema, &scan, places)
-}
-
-fn people_at(rt: &impl Abort, alloc: Global, places: &[usize]) -> Result<Vec<u8>, Fail> {
-    let schema = schema_of_people(alloc)?;
-    let mut host = host_of(alloc, area(alloc)?);
-    let members = [
-        list_of(alloc, &mut host, LISTS[0])?,
-        list_of(alloc, &mut host, LISTS[1])?,
-    ];
-    let records = rows_of(alloc, &mut host, &schema, &SEGMENTS, &LISTS, &members)?;
-    assert!(rt; all_below(places, records.as_slice().len()));
-    Ok(text_at(alloc, &schema, records, places)?)
-}
-
 #[test]
 fn people_are_fetched_once_in_the_order_of_their_rids(rt: HostRuntime) -> Result<(), Fail> {
     let alloc = rt.alloc();
@@ -131,24 +83,6 @@ fn people_are_fetched_once_in_the_order_of_their_rids(rt: HostRuntime) -> Result
     let records = fetched(alloc, &mut host, &schema)?;
     assert_eq!(rt; rids(alloc, &records)?.as_slice(), [1, 2, 3, 4].as_slice());
     assert_eq!(rt; host.calls(), 4);
-    Ok(())
-}
-
-// The places of the rows that versions 1,2 and 2,1 have with precedence on the key.
-#[test]
-fn the_text_of_people(rt: HostRuntime) -> Result<(), Fail> {
-    let alloc = rt.alloc();
-    let cases = [
-        ([0, 1, 3], "id,name,score\n1,ann,10\n2,bob,20\n3,cy,30\n"),
-        ([0, 2, 3], "id,name,score\n1,ann,10\n2,bob,25\n3,cy,30\n"),
-    ];
-    for (places, text) in cases {
-        assert_eq!(rt; people_at(&rt, alloc, &places)?.as_slice(), text.as_bytes());
-    }
-    assert_eq!(rt;
-        people_at(&rt, alloc, &[])?.as_slice(),
-        b"id,name,score\n".as_slice()
-    );
     Ok(())
 }
 
@@ -231,6 +165,14 @@ fn a_member_without_a_record_names_its_list(rt: HostRuntime) -> Result<(), Fail>
     Ok(())
 }
 
+// Whether it is the record 2 with this score.
+fn is_bob(record: &Record, score: i64) -> bool {
+    match record.row.values() {
+        [_, _, Value::Int(found)] => record.rid == 2 && *found == score,
+        _ => false,
+    }
+}
+
 // The same rid in two segments: (1, ann, 10) first or (1, bob, 20) first.
 #[test]
 fn the_first_segment_gives_the_record(rt: HostRuntime) -> Result<(), Fail> {
@@ -242,16 +184,11 @@ fn the_first_segment_gives_the_record(rt: HostRuntime) -> Result<(), Fail> {
     }
     let mut host = host_of(alloc, pages);
     let [first, second] = SEGMENTS;
-    for (segments, score) in [([first, second], b"20"), ([second, first], b"25")] {
+    for (segments, score) in [([first, second], 20), ([second, first], 25)] {
         let members = [list_of(alloc, &mut host, LISTS[0])?];
         let records = rows_of(alloc, &mut host, &schema, &segments, &LISTS[..1], &members)?;
         assert_eq!(rt; rids(alloc, &records)?.as_slice(), [1, 2].as_slice());
-        assert!(rt; all_below(&[1], records.as_slice().len()));
-        let text = text_at(alloc, &schema, records, &[1])?;
-        assert!(rt;
-            text.as_slice()
-                .ends_with(&[b',', score[0], score[1], b'\n'])
-        );
+        assert!(rt; records.as_slice().iter().any(|one| is_bob(one, score)));
     }
     Ok(())
 }
