@@ -1,0 +1,2 @@
+mod placements;
+mod splits;
