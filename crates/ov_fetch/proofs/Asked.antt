@@ -1,6 +1,6 @@
 -- The records that are asked for, out of those that were gathered.
-use Rattle.std.proofs.Common.{inl, inr, ◌≡◌, ◌<◌, ℕ, Bool, true, false, not, ◌&&◌, List, [], ◌∷◌, length, get_or, Option, Some, None, refl, sym, ◌∙◌, ap, subst}
-use Rattle.std.specs.Prelude.{IsSome, is_some, slice_get}
+use Rattle.std.proofs.Common.{inr, ◌≡◌, ◌<◌, ℕ, Bool, true, false, not, ◌&&◌, List, length, get_or, Option, Some, None, refl, sym, ◌∙◌, ap, subst}
+use Rattle.std.specs.Prelude.{is_some}
 use Rattle.std.specs.List.{dedup, AllByRecursion}
 use Rattle.std.specs.List.Sorted.{IsPermutation, IsNonDecreasingBy, IsStableByKey}
 use Rattle.std.specs.Ordering.{nat_cmp}
@@ -11,8 +11,8 @@ use Rattle.ov_value.specs.Shapes.{Shape}
 use Rattle.ov_segment.specs.declared.numbered.Record.{Record}
 use Rattle.ov_segment.specs.Segments.{AreRecords}
 use Rattle.ov_fetch.specs.Extents.{rids_of}
-use Rattle.ov_fetch.specs.Rows.{record_of, is_asked, joined, AreRows, LacksRecord, IsDamage}
-use Rattle.ov_fetch.specs.Gathering.{IsAskedSet, IsRecord, wanted_of, AreWanted, SharesAt}
+use Rattle.ov_fetch.specs.Rows.{record_of, is_asked, joined, AreRows, IsDamage}
+use Rattle.ov_fetch.specs.Gathering.{IsAskedSet, IsRecord, AreWanted, SharesAt}
 use Rattle.ov_fetch.proofs.Ordered.{is_same, in_order, same_after_dedup, same_after_sort, wanted_there, others_gone, has_record, sorted_all}
 use Rattle.ov_fetch.proofs.Lacking.{get_at, get_below}
 

@@ -1,6 +1,5 @@
 -- Records of a segment fit, and so does a scan of them.
 use Rattle.std.proofs.Common.{ℕ, List, [], ◌∷◌}
-use Rattle.std.specs.List.{All}
 use Rattle.std.proofs.lemmas.List.Elements.{All-cons, All-nil}
 use Rattle.ov_value.specs.Shapes.{Shape}
 use Rattle.ov_value.specs.Rows.{Fits}

@@ -1,9 +1,9 @@
 -- The wanted records of segments, one segment after the other.
-use Rattle.std.proofs.Common.{◌≡◌, ◌<◌, ◌≤◌, ◌+◌, ℕ, zero, suc, Bool, true, false, Result, Ok, Err, cond, List, [], ◌∷◌, ◌++◌, length, get_or, take, refl, sym, ◌∙◌, ap, subst, arith}
+use Rattle.std.proofs.Common.{◌≡◌, ◌<◌, ◌≤◌, ◌+◌, ℕ, zero, suc, Bool, true, false, Result, Ok, Err, cond, List, [], ◌∷◌, ◌++◌, length, get_or, refl, sym, ◌∙◌, ap, subst, arith}
 use mathlib.Core.Bool.{true≢false}
 use Rattle.std.specs.Prelude.{IsErr, IsErrAnd, MatchResult}
-use Rattle.std.specs.List.{filter, sum_by, flat_map, AllByRecursion, Contains}
-use Rattle.std.proofs.lemmas.List.{append-nil, take_all}
+use Rattle.std.specs.List.{filter, sum_by, AllByRecursion, Contains}
+use Rattle.std.proofs.lemmas.List.{append-nil}
 use Rattle.std.proofs.lemmas.List.Elements.{filter-append}
 use Rattle.std.proofs.lemmas.List.Sums.{sum_by-append}
 use Rattle.std.proofs.lemmas.Grind.{flat_map-append}
@@ -12,11 +12,11 @@ use Rattle.ov_host.specs.Host.{State}
 use Rattle.ov_member.specs.Rids.{has}
 use Rattle.ov_value.specs.Shapes.{Shape}
 use Rattle.ov_segment.specs.declared.numbered.Record.{Record}
-use Rattle.ov_segment.specs.Segments.{IsNext, AreRecords}
+use Rattle.ov_segment.specs.Segments.{AreRecords}
 use Rattle.ov_fetch.specs.declared.errors.FetchErr.{FetchErr}
 use Rattle.ov_fetch.specs.declared.errors.FetchErr.TheVariants.{Host, Memory, Damaged}
 use Rattle.ov_fetch.specs.Extents.{Looked, page_bytes, IsSegment, RefusesSegment}
-use Rattle.ov_fetch.specs.Rows.{joined, AreSegments, HasNoSegment}
+use Rattle.ov_fetch.specs.Rows.{joined, AreSegments}
 use Rattle.ov_fetch.specs.Gathering.{IsRecord, wanted_of, HasKept, AreWanted, RefusesSegments}
 use Rattle.ov_fetch.proofs.Looks.{looked_at_all, looked_again, same_pages}
 

@@ -1,5 +1,5 @@
 -- A cursor between two records of a segment.
-use Rattle.std.proofs.Common.{inl, inr, ◌≡◌, ◌<◌, ◌≤◌, ◌+◌, ◌-◌, ◌^◌, ◌⊎◌, ℕ, Bool, true, false, List, [], ◌∷◌, ◌++◌, length, take, drop, Option, Some, None, Result, Ok, Err, refl, sym, ◌∙◌, ap, subst, arith, min, if◌then◌else◌, append_assoc, length-append, length-take}
+use Rattle.std.proofs.Common.{inl, inr, ◌≡◌, ◌<◌, ◌≤◌, ◌+◌, ◌-◌, ◌^◌, ℕ, Bool, true, false, List, [], ◌∷◌, ◌++◌, length, take, drop, Option, None, Result, Ok, Err, refl, sym, ◌∙◌, ap, subst, arith, min, if◌then◌else◌, append_assoc, length-append, length-take}
 use Rattle.std.proofs.lemmas.List.{append-nil, drop_all, take_all}
 use Rattle.ov_host.specs.declared.area.Extent.{Extent}
 use Rattle.ov_host.specs.Host.{State}
@@ -8,12 +8,11 @@ use Rattle.ov_segment.specs.declared.numbered.Record.{Record}
 use Rattle.ov_segment.specs.declared.next.Next.{Next}
 use Rattle.ov_segment.specs.declared.next.Next.TheVariants as next
 use Rattle.ov_segment.specs.Held.{Reader}
-use Rattle.ov_segment.specs.Reading.{after_feed, Answers, Begins, WantsMore}
+use Rattle.ov_segment.specs.Reading.{after_feed, Answers, Begins}
 use Rattle.ov_segment.specs.Runs.{Ask}
 use Rattle.ov_segment.specs.Segments.{record_bytes, IsNext, AreRecords, segment_spelling}
 use Rattle.ov_segment.proofs.RunLemmas.{runs}
 use Rattle.ov_segment.proofs.SegmentLemmas.{begins_whole, tail_front}
-use Rattle.ov_pages.specs.Area.{Fetches}
 use Rattle.std.specs.Prelude.{MatchResult}
 use Rattle.ov_fetch.specs.declared.cursor.Cursor.{Cursor}
 use Rattle.ov_fetch.specs.declared.errors.FetchErr.{FetchErr}

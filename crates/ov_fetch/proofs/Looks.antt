@@ -1,5 +1,5 @@
 -- Looks at a host, one after another.
-use Rattle.std.proofs.Common.{◌≡◌, ◌≤◌, ◌+◌, ℕ, Bool, true, false, min, List, refl, ◌∙◌, ap, arith}
+use Rattle.std.proofs.Common.{◌≡◌, ◌≤◌, ◌+◌, ℕ, Bool, true, refl, ◌∙◌, ap, arith}
 use Rattle.ov_host.specs.declared.area.Area.TheVariants.{Pages}
 use Rattle.ov_host.specs.Host.{State, Calls, fetched_by}
 use Rattle.ov_host.specs.Tape.{Looks, Tape}

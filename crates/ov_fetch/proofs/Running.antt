@@ -1,6 +1,5 @@
 -- The records of a segment, one after another.
-use Rattle.std.proofs.Common.{inl, inr, ◌≡◌, ◌<◌, ◌≤◌, ◌+◌, ◌^◌, ℕ, Bool, true, false, List, [], ◌∷◌, ◌++◌, length, map, Option, Some, None, refl, sym, ◌∙◌, ap, subst, arith, add-one, append_assoc}
-use Rattle.std.specs.List.{filter}
+use Rattle.std.proofs.Common.{inl, inr, ◌≡◌, ◌<◌, ◌≤◌, ◌+◌, ◌^◌, ℕ, true, false, List, [], ◌∷◌, ◌++◌, Some, None, refl, sym, ◌∙◌, ap, subst, arith, add-one, append_assoc}
 use Rattle.std.proofs.lemmas.List.{append-nil, map-append}
 use Rattle.std.proofs.lemmas.List.Elements.{filter-append}
 use Rattle.ov_host.specs.declared.area.Extent.{Extent}
@@ -14,8 +13,8 @@ use Rattle.ov_segment.proofs.SegmentLemmas.{HasRead, last_of, records-push, read
 use Rattle.ov_fetch.specs.declared.cursor.Cursor.{Cursor}
 use Rattle.ov_fetch.specs.declared.errors.FetchErr.{FetchErr}
 use Rattle.ov_fetch.specs.declared.errors.FetchErr.TheVariants.{Host, Memory, Damaged}
-use Rattle.ov_fetch.specs.Extents.{Looked, page_bytes, extent_bytes, rids_of, IsWhole, IsShort, IsSegment, IsNoSegment, HasRids, RefusesSegment}
-use Rattle.ov_fetch.specs.Cursors.{left_of, unread, IsOpen, Reaches, Follows, Gives, Finds, RefusesNext, IsOffFrom}
+use Rattle.ov_fetch.specs.Extents.{Looked, page_bytes, extent_bytes, rids_of, IsWhole, IsShort, IsSegment, HasRids, RefusesSegment}
+use Rattle.ov_fetch.specs.Cursors.{left_of, IsOpen, Reaches, Follows, Finds, RefusesNext}
 use Rattle.ov_fetch.specs.Gathering.{wanted_of, HasKept}
 use Rattle.ov_fetch.proofs.Looks.{looked_at_all, looked_again, same_pages}
 

@@ -1,8 +1,7 @@
 -- A place in a segment that is read in pieces, and what comes next there.
-use Rattle.std.specs.Prelude.{◌≡◌, ◌≤◌, ◌<◌, ◌⊎◌, ℕ, ◌+◌, ◌-◌, ◌^◌, Bool, false, List, [], ◌++◌, length, drop, Option, Some, None}
+use Rattle.std.specs.Prelude.{◌≡◌, ◌≤◌, ◌<◌, ◌⊎◌, ℕ, ◌+◌, ◌-◌, ◌^◌, false, List, [], ◌++◌, length, drop, Option, Some, None}
 use Rattle.ov_value.specs.Shapes.{Shape}
 use Rattle.ov_segment.specs.declared.numbered.Record.{Record}
-use Rattle.ov_segment.specs.Held.{Reader}
 use Rattle.ov_segment.specs.Segments.{IsNext, AreRecords, segment_spelling}
 use Rattle.ov_segment.specs.Reading.{Begins}
 use Rattle.ov_fetch.specs.declared.cursor.Cursor.{Cursor}

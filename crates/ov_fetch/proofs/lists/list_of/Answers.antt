@@ -1,4 +1,4 @@
-use Rattle.std.proofs.Common.{inr, ◌≡◌, ℕ, List, Option, None, ap, sym, subst, ◌∙◌, refl}
+use Rattle.std.proofs.Common.{inr, ℕ, List, Option, sym, subst, ◌∙◌, refl}
 use Rattle.std.specs.Prelude.{IfNone}
 use Rattle.ov_member.specs.Lists.{Spells}
 use Rattle.ov_fetch.proofs.lists.list_of.Goals as goal

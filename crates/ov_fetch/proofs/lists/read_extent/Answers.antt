@@ -1,8 +1,8 @@
-use Rattle.std.proofs.Common.{◌≡◌, ◌≢◌, ◌<◌, ◌≤◌, ◌+◌, ◌++◌, ℕ, true, List, length, vec_len, take, drop, min, arith, ap, sym, subst, ◌∙◌, rules}
+use Rattle.std.proofs.Common.{◌≡◌, ◌<◌, ◌≤◌, ◌+◌, ◌++◌, ℕ, true, List, length, vec_len, take, drop, arith, ap, sym, subst, ◌∙◌, rules}
 use Rattle.std.proofs.lemmas.List.{take_at}
 use Rattle.ov_pages.specs.Area.{Fetches}
 use Rattle.ov_fetch.proofs.Looks.{looked_by}
-use Rattle.ov_fetch.proofs.Pieces.{IsReading, goes_on, ends_early}
+use Rattle.ov_fetch.proofs.Pieces.{IsReading, goes_on}
 use Rattle.ov_fetch.proofs.lists.read_extent.Goals as goal
 
 pub loop-extent-preserved : goal.loop-extent-preserved

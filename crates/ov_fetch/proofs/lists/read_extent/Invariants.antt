@@ -1,4 +1,4 @@
-use Rattle.std.proofs.Common.{◌≡◌, ◌-◌, min, length, vec_len}
+use Rattle.std.proofs.Common.{◌≡◌, ◌-◌, min, vec_len}
 use Rattle.ov_fetch.proofs.Pieces.{IsReading}
 use Rattle.ov_fetch.proofs.lists.read_extent.Given as goal
 

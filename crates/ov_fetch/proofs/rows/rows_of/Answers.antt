@@ -1,6 +1,5 @@
-use Rattle.std.proofs.Common.{◌≡◌, ℕ, true, false, List, Option, Some, None, subst, sym, ◌∙◌, ap, rules}
+use Rattle.std.proofs.Common.{◌≡◌, ℕ, true, false, List, Option, subst, sym, ◌∙◌, ap}
 use Rattle.std.specs.Prelude.{MatchOption}
-use Rattle.ov_host.specs.declared.area.Extent.{Extent}
 use Rattle.ov_member.specs.Rids.{has, left_out}
 use Rattle.ov_segment.specs.declared.numbered.Record.{Record}
 use Rattle.ov_segment.specs.Segments.{AreRecords, Ascend}

@@ -1,6 +1,5 @@
-use Rattle.std.proofs.Common.{ℕ, ◌≡◌, ◌<◌, ◌+◌, ◌++◌, ◌∷◌, [], true, false, List, get_or, length, take, Result, Ok, Err, subst, ◌∙◌, sym, refl, arith, rules}
+use Rattle.std.proofs.Common.{◌++◌, ◌∷◌, [], List, get_or, take, subst, sym, rules}
 use Rattle.std.proofs.lemmas.List.{take_more}
-use Rattle.std.specs.Prelude.{MatchResult}
 use Rattle.ov_host.specs.declared.area.Extent.{Extent}
 use Rattle.ov_fetch.specs.Extents.{page_bytes}
 use Rattle.ov_fetch.specs.Gathering.{AreWanted, RefusesSegments}

@@ -1,4 +1,4 @@
-use Rattle.std.proofs.Common.{◌≡◌, ℕ, true, false, length, List, arith, rules, sym}
+use Rattle.std.proofs.Common.{◌≡◌, length, arith}
 use Rattle.ov_member.specs.Rids.{shared}
 use Rattle.ov_fetch.proofs.Lacking.{shares_at, none_more}
 use Rattle.ov_fetch.proofs.union.place_lacking.Goals as goal

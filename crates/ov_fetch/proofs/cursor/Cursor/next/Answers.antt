@@ -1,4 +1,4 @@
-use Rattle.std.proofs.Common.{◌≡◌, ◌<◌, ◌≤◌, ◌+◌, ◌++◌, ℕ, List, length, take, min, arith, ap, sym, subst, ◌∙◌, rules}
+use Rattle.std.proofs.Common.{subst}
 use Rattle.ov_fetch.proofs.Going.{IsGoing, ended, gives, finds, stopped}
 use Rattle.ov_fetch.proofs.cursor.Cursor.next.Goals as goal
 
