@@ -1,16 +1,16 @@
 -- What the walks of lists give: the first of each key, in order.
-use Rattle.std.proofs.Common.{◌≡◌, ◌⊎◌, Bool, true, false, List, [], ◌∷◌, ◌++◌, refl, sym, ◌∙◌, ap, subst, inl, inr}
+use Rattle.std.proofs.Common.{◌≡◌, ◌⊎◌, Bool, true, false, List, [], ◌∷◌, ◌++◌, refl, sym, ◌∙◌, ap, inl, inr}
 use Rattle.std.specs.Prelude.{◌||◌, if◌then◌else◌}
 use Rattle.std.specs.Cmp.{IsTotalOrder}
 use Rattle.std.specs.Ordering.{is_eq, is_lt}
 use Rattle.std.specs.declared.cmp.Ordering.{Ordering}
 use Rattle.std.specs.declared.cmp.Ordering.TheVariants.{Less, Equal, Greater}
-use Rattle.std.proofs.lemmas.Bool.{cases_Bool, cond-true, cond-false}
-use Rattle.std.proofs.lemmas.Cmp.{tied_itself, tied_back, alike_right}
+use Rattle.std.proofs.lemmas.Bool.{cases_Bool}
+use Rattle.std.proofs.lemmas.Cmp.{alike_right}
 use Rattle.ov_model.specs.Lists.{IsIn, IsBelow, Rises}
 use Rattle.ov_merge.specs.Places.{IsFirstIn, IsMerge}
 use Rattle.ov_merge.specs.Walks.{by_order, both_from, both, behind, once}
-use Rattle.ov_merge.proofs.Orders.{clash, or_none, left_none, right_none, is_equal, in_append-left, flip, tie-sym, not_tied, not_tied_back, greater_back, less_same, above_is, below_one, below_each, below_all, has, none_has, has_none, below_has}
+use Rattle.ov_merge.proofs.Orders.{clash, or_none, left_none, right_none, is_equal, tie-sym, not_tied_back, greater_back, less_same, above_is, below_one, below_each, below_all, has, none_has, has_none, below_has}
 
 module _ {X : Type 0} (R : X → X → Ordering) (o : IsTotalOrder R) where
   -- ---- two lists as one

@@ -1,10 +1,8 @@
-use Rattle.std.proofs.Common.{◌≡◌, ◌⊎◌, ◌≤◌, ◌-◌, ◌++◌, take, ℕ, List, length, drop, sym, ◌∙◌, ap, inl, inr, append_assoc}
+use Rattle.std.proofs.Common.{◌⊎◌, ◌≤◌, ◌-◌, ◌++◌, take, ℕ, List, length, drop, ◌∙◌, ap, inl, inr, append_assoc}
 use Rattle.std.proofs.lemmas.List.{take_rest}
 use Rattle.std.specs.declared.cmp.Ordering.{Ordering}
 use Rattle.ov_merge.specs.Places.{place_cmp}
-use Rattle.ov_merge.specs.Walks.{both as both_of}
 use Rattle.ov_merge.proofs.Steps.{both_end}
-use Rattle.ov_merge.proofs.Walking.{merge_once}
 use Rattle.ov_merge.proofs.both.both.Goals.{then-loop-i-test+else-j-second, else-loop-i-test}
 use Rattle.ov_merge.proofs.both.both.Goals as goal
 

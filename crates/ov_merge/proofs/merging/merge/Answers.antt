@@ -1,10 +1,9 @@
-use Rattle.std.proofs.Common.{◌≡◌, ℕ, List, map, ap, subst, sym, ◌∙◌, rules}
+use Rattle.std.proofs.Common.{ℕ, List, subst, sym}
 use Rattle.std.specs.List.{All}
 use Rattle.ov_segment.specs.declared.numbered.Record.{Record}
 use Rattle.ov_model.specs.Lists.{joined}
-use Rattle.ov_model.specs.Merge.{merged}
 use Rattle.ov_fetch.specs.Scans.{InKeyOrder, rows_at}
-use Rattle.ov_merge.specs.Places.{place_cmp, IsMerge, IsFirstPlace}
+use Rattle.ov_merge.specs.Places.{place_cmp, IsMerge}
 use Rattle.ov_merge.proofs.Merged.{merge_rows, first_place}
 use Rattle.ov_merge.proofs.merging.merge.Goals as goal
 

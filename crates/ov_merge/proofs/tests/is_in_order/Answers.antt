@@ -1,11 +1,10 @@
-use Rattle.std.proofs.Common.{◌≡◌, ◌<◌, ◌+◌, ◌-◌, ℕ, List, false, length, get_or, map, refl, sym, ◌∙◌, ap, subst, inl, inr, rules, arith}
+use Rattle.std.proofs.Common.{◌≡◌, ◌<◌, ◌+◌, ◌-◌, ℕ, List, false, length, get_or, ◌∙◌, ap, subst, inl, inr, rules, arith}
 use Rattle.std.specs.Ordering.{is_lt}
 use Rattle.std.proofs.lemmas.Bool.{cases_lt}
 use Rattle.std.proofs.lemmas.List.{length-map, get_or-map}
 use Rattle.ov_value.specs.Rows.{key_cmp}
 use Rattle.ov_value.specs.Shapes.{Shape}
 use Rattle.ov_segment.specs.declared.numbered.Record.{Record}
-use Rattle.ov_model.specs.Book.{Row}
 use Rattle.ov_fetch.specs.Scans.{InKeyOrder, row_at, rows_at}
 use Rattle.ov_merge.specs.Places.{place_cmp}
 use Rattle.ov_merge.proofs.tests.is_in_order.Goals as goal
