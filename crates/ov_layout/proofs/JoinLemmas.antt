@@ -33,7 +33,7 @@ joined-set vid added id segment least (part ∷ parts) (suc at) d h lt e =
     let above = keys-strict (λ (p : Part). p.id) (part ∷ parts) d least 0 (suc at) h (omega arith) lt in
     rw (ne_eqb part.id id (λ same. absurd (omega (arith, above, same, e)))) (ap (λ (ps : List Part). part ∷ ps) (joined-set vid added id segment (suc part.id) parts at d h.1 (omega arith) e))
 
-ascend-push : (least vid : ℕ) (vids : List ℕ) → Ascend least vids → least ≤ vid → IsAbove vid vids → Ascend least (vids ++ vid ∷ [])
+pub ascend-push : (least vid : ℕ) (vids : List ℕ) → Ascend least vids → least ≤ vid → IsAbove vid vids → Ascend least (vids ++ vid ∷ [])
 ascend-push least vid [] h le above = (le, tt)
 ascend-push least vid (v ∷ vids) h le above = (h.0, ascend-push (suc v) vid vids h.1 above.0 above.1)
 
@@ -41,7 +41,7 @@ or-true : (b : Bool) → (b || true) ≡ true
 or-true true = refl
 or-true false = refl
 
-above-one : (vid v : ℕ) (held : List ℕ) → IsAbove vid held → has held v ≡ true → v < vid
+pub above-one : (vid v : ℕ) (held : List ℕ) → IsAbove vid held → has held v ≡ true → v < vid
 above-one vid v [] above there = absurd cc
 above-one vid v (w ∷ held) above there =
     elim (cases_Bool (eqb w v)) [
