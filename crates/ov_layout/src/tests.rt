@@ -179,19 +179,19 @@ fn grow(layout: &mut Layout, vid: u32, pick: u32) -> Result<bool, AllocError>
 /// A plain table: the partition of each version, and the records of each partition.
 #[derive(Debug, Drop)]
 struct Plain {
-    owners: Vec<u32>,
+    owners: Vec<usize>,
     records: Vec<u32>,
 }
 
-fn records_of(plain: &Plain, id: u32) -> u64 {
-    u64::from(plain.records.get(id as usize).copied().unwrap_or(0))
+fn records_of(plain: &Plain, id: usize) -> u64 {
+    u64::from(plain.records.get(id).copied().unwrap_or(0))
 }
 
 /// The stored records and the cost, summed anew.
 fn sums(plain: &Plain) -> (u64, u64) {
     let mut stored = 0u64;
     let mut cost = 0u64;
-    for id in 0..plain.records.len() as u32 {
+    for id in 0..plain.records.len() {
         let served = plain.owners.iter().filter(|owner| **owner == id).count() as u64;
         let records = records_of(plain, id);
         cost = cost.saturating_add(records.saturating_mul(served));
@@ -204,8 +204,10 @@ fn sums(plain: &Plain) -> (u64, u64) {
 
 /// Whether each version is where the table has it, and the sums are the table's.
 fn agree(layout: &Layout, plain: &Plain) -> bool {
-    for (place, owner) in plain.owners.iter().enumerate() {
-        let id = layout.part_of(place as u32 + 1).map_or(0, |part| part.id);
+    let mut vid = 0u32;
+    for owner in &plain.owners {
+        vid = vid.saturating_add(1);
+        let id = layout.part_of(vid).map_or(0, |part| part.id as usize);
         if id != *owner {
             return false;
         }
@@ -216,13 +218,13 @@ fn agree(layout: &Layout, plain: &Plain) -> bool {
 /// The same step on the table.
 fn grow_plain(plain: &mut Plain, vid: u32, pick: u32) -> Result<(), Fail> {
     if pick % 4 == 0 || vid <= 1 {
-        plain.owners.push(plain.records.len() as u32)?;
+        plain.owners.push(plain.records.len())?;
         plain.records.push(pick % 100)?;
     } else {
         let beside = pick % (vid - 1);
         let owner = plain.owners.get(beside as usize).copied().unwrap_or(0);
         plain.owners.push(owner)?;
-        if let Some(records) = plain.records.get_mut(owner as usize) {
+        if let Some(records) = plain.records.get_mut(owner) {
             *records = records.saturating_add(pick % 10);
         }
     }
@@ -241,7 +243,7 @@ fn picked(alloc: Global, last: u32, pick: u32) -> Result<Vec<u32>, AllocError> {
 }
 
 fn flip_plain(plain: &mut Plain, versions: &[u32], records: u32) -> Result<(), Fail> {
-    let id = plain.records.len() as u32;
+    let id = plain.records.len();
     for vid in versions {
         if let Some(owner) = plain.owners.get_mut((*vid as usize).saturating_sub(1)) {
             *owner = id;
