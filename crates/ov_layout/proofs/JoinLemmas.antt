@@ -1,19 +1,18 @@
 -- A version that joins a partition.
-use Rattle.std.proofs.Common.{◌≡◌, ℕ, zero, suc, ◌+◌, ◌-◌, ◌*◌, ◌^◌, ◌<◌, ◌≤◌, Bool, true, false, cond, ◌||◌, eqb, List, [], ◌∷◌, ◌++◌, length, get_or, set, map, refl, sym, ap, subst, ◌∙◌, inl, inr, arith, zero-add, add-zero}
-use Rattle.std.specs.Prelude.{All, Some, None, sum_by, if◌then◌else◌}
-use Rattle.std.proofs.lemmas.Bool.{cases_Bool, cases_lt, eq-eqb, ne_eqb, eqb-true}
+use Rattle.std.proofs.Common.{◌≡◌, ℕ, zero, suc, ◌+◌, ◌-◌, ◌*◌, ◌^◌, ◌<◌, ◌≤◌, Bool, true, false, cond, ◌||◌, eqb, List, [], ◌∷◌, ◌++◌, length, get_or, set, refl, sym, ap, subst, ◌∙◌, inl, inr, arith}
+use Rattle.std.proofs.lemmas.Bool.{cases_Bool, eq-eqb, ne_eqb, eqb-true}
 use Rattle.std.proofs.lemmas.List.{length-append, length-set, get_or-set_same}
 use Rattle.std.proofs.lemmas.List.Elements.{All-set}
 use Rattle.std.proofs.lemmas.List.Sums.{sum_by-set}
 use Rattle.ov_host.specs.declared.area.Extent.{Extent}
 use Rattle.ov_layout.specs.declared.index.Entry.{Entry}
 use Rattle.ov_layout.specs.declared.part.Part.{Part}
-use Rattle.ov_layout.specs.Parts.{has, serves, Ascend, IsPart, AreParts, ArePartsFrom, times_placed, stored_of, cost_of, records_at, records_in}
-use Rattle.ov_layout.specs.Index.{AreEntries, IsIndex, number_at, number_of, numbers_of, versions_in}
+use Rattle.ov_layout.specs.Parts.{has, serves, Ascend, IsPart, ArePartsFrom, times_placed, stored_of, cost_of, records_at, records_in}
+use Rattle.ov_layout.specs.Index.{number_of, numbers_of, versions_in}
 use Rattle.ov_layout.specs.Changes.{IsNew, IsAbove, joined_part, joined_at}
 use Rattle.ov_layout.specs.Kept.{AreNumbers, HasFewRecords}
-use Rattle.ov_layout.proofs.VidLemmas.{has-append, keys-strict, Ascend-least}
-use Rattle.ov_layout.proofs.PlacedLemmas.{ids-ascend, one-yes, one-no, new-unplaced, placed-somewhere}
+use Rattle.ov_layout.proofs.VidLemmas.{has-append, keys-strict}
+use Rattle.ov_layout.proofs.PlacedLemmas.{new-unplaced, placed-somewhere}
 use Rattle.ov_layout.proofs.AddLemmas.{entries-push, entries-below, number_at-push, once-more, or-false}
 use Rattle.ov_layout.proofs.FlipLemmas.{numbered-here}
 use Rattle.ov_layout.proofs.LeaveLemmas.{cost-one}

@@ -1,15 +1,15 @@
 -- What tests see before they call.
-use Rattle.std.proofs.Common.{◌≡◌, ℕ, zero, suc, ◌+◌, ◌*◌, ◌^◌, ◌<◌, ◌≤◌, Bool, true, false, not, cond, ◌||◌, eqb, List, [], ◌∷◌, ◌++◌, length, get_or, take, map, refl, sym, ap, subst, ◌∙◌, inl, inr, arith}
-use Rattle.std.specs.Prelude.{All, is_some, option_map, Option, Some, None, filter, find, sum_by, if◌then◌else◌}
-use Rattle.std.proofs.lemmas.Bool.{cases_Bool, cases_lt, eq-eqb, ne_eqb, eqb-true}
+use Rattle.std.proofs.Common.{◌≡◌, ℕ, zero, suc, ◌+◌, ◌<◌, ◌≤◌, Bool, true, false, ◌||◌, eqb, List, [], ◌∷◌, ◌++◌, length, get_or, take, refl, sym, ap, subst, ◌∙◌, inl, inr, arith}
+use Rattle.std.specs.Prelude.{is_some, option_map, Option, Some, None, filter, sum_by}
+use Rattle.std.proofs.lemmas.Bool.{cases_Bool, eq-eqb, ne_eqb}
 use Rattle.std.proofs.lemmas.List.{take_more, length-append}
 use Rattle.std.proofs.lemmas.List.Elements.{filter-append}
 use Rattle.std.proofs.lemmas.List.Sums.{sum_by-cons}
 use Rattle.ov_host.specs.declared.area.Extent.{Extent}
 use Rattle.ov_layout.specs.declared.part.Part.{Part}
-use Rattle.ov_layout.specs.Parts.{has, serves, Ascend, AreParts, ArePartsFrom, part_with, part_numbered, is_placed, is_number, records_at, records_in}
-use Rattle.ov_layout.specs.Changes.{IsNew, IsAbove, own_part, joined_part, joined_at}
-use Rattle.ov_layout.specs.Flips.{Flip, ArePlaced, AreBelow, IsEmptied, leaving, is_empty, left_parts, flipped_part, given_up, parted_with, others, segments_at}
+use Rattle.ov_layout.specs.Parts.{has, serves, Ascend, AreParts, ArePartsFrom, part_with, part_numbered, is_placed, is_number, records_at}
+use Rattle.ov_layout.specs.Changes.{IsNew, IsAbove, own_part, joined_at}
+use Rattle.ov_layout.specs.Flips.{Flip, ArePlaced, AreBelow, IsEmptied, leaving, is_empty, left_parts, flipped_part, given_up, parted_with, others}
 use Rattle.ov_layout.proofs.LeaveLemmas.{stays}
 use Rattle.ov_layout.proofs.JoinLemmas.{ascend-push, above-one}
 

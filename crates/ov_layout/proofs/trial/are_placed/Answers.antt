@@ -1,5 +1,4 @@
-use Rattle.std.proofs.Common.{◌≡◌, true, get_or, sym, ◌∙◌}
-use Rattle.ov_layout.specs.Parts.{is_placed}
+use Rattle.std.proofs.Common.{get_or}
 use Rattle.ov_layout.proofs.TrialLemmas.{placed-more, some-placed, is_some-copied}
 use Rattle.ov_layout.proofs.trial.are_placed.Goals as goal
 

@@ -1,6 +1,4 @@
-use Rattle.std.proofs.Common.{◌≡◌, ◌+◌, ◌≤◌, ap, sym, ◌∙◌, subst, List, arith, length, vec_len}
-use Rattle.ov_layout.specs.declared.part.Part.{Part}
-use Rattle.ov_layout.specs.Changes.{IsNew}
+use Rattle.std.proofs.Common.{arith}
 use Rattle.ov_layout.specs.Flips.{flip_of}
 use Rattle.ov_layout.proofs.TrialLemmas.{new-flipped, given-long}
 use Rattle.ov_layout.proofs.trial.flip.Goals as goal

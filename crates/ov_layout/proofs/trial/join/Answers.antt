@@ -1,7 +1,4 @@
-use Rattle.std.proofs.Common.{◌≡◌, ◌+◌, ap, sym, ◌∙◌, subst, List, arith, Some}
-use Rattle.ov_layout.specs.declared.part.Part.{Part}
-use Rattle.ov_layout.specs.Parts.{part_with, is_number, records_at}
-use Rattle.ov_layout.specs.Changes.{IsNew}
+use Rattle.std.proofs.Common.{sym, arith}
 use Rattle.ov_layout.proofs.TrialLemmas.{new-later, new-joined, beside-there, beside-records}
 use Rattle.ov_layout.proofs.trial.join.Goals as goal
 

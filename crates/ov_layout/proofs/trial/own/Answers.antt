@@ -1,6 +1,3 @@
-use Rattle.std.proofs.Common.{◌≡◌, ◌+◌, ap, sym, ◌∙◌, subst, List}
-use Rattle.ov_layout.specs.declared.part.Part.{Part}
-use Rattle.ov_layout.specs.Changes.{IsNew}
 use Rattle.ov_layout.proofs.TrialLemmas.{new-later, new-own}
 use Rattle.ov_layout.proofs.trial.own.Goals as goal
 

@@ -1,8 +1,7 @@
-use Rattle.std.proofs.Common.{◌≡◌, ◌+◌, ◌<◌, true, None, Some, get_or, ap, sym, ◌∙◌, subst, List, arith, length, rules}
+use Rattle.std.proofs.Common.{Some, ap, sym, ◌∙◌}
 use Rattle.ov_layout.specs.declared.part.Part.{Part}
-use Rattle.ov_layout.specs.Parts.{part_numbered, segments_in}
-use Rattle.ov_layout.specs.Flips.{AreBelow, segments_at}
-use Rattle.ov_layout.proofs.TrialLemmas.{numbered-at, numbered-more, emptied-by, emptied-none}
+use Rattle.ov_layout.specs.Parts.{segments_in}
+use Rattle.ov_layout.proofs.TrialLemmas.{numbered-at, numbered-more, emptied-by}
 use Rattle.ov_layout.proofs.trial.source_fits.Goals as goal
 
 pub returns-then-is_emptied-clause-emptied : goal.returns-then-is_emptied-clause-emptied
