@@ -1,16 +1,15 @@
 -- A version more.
-use Rattle.std.proofs.Common.{◌≡◌, ℕ, zero, suc, ◌+◌, ◌*◌, ◌^◌, ◌<◌, ◌≤◌, ◌⊎◌, Bool, true, false, cond, ◌||◌, eqb, List, [], ◌∷◌, ◌++◌, length, get_or, map, refl, sym, ap, subst, ◌∙◌, inl, inr, arith, zero-add, add-zero}
-use Rattle.std.specs.Prelude.{All, Some, None, sum_by}
-use Rattle.std.proofs.lemmas.Bool.{cases_Bool, cases_lt, eq-eqb, ne_eqb, eqb-true}
+use Rattle.std.proofs.Common.{◌≡◌, ℕ, zero, suc, ◌+◌, ◌*◌, ◌^◌, ◌<◌, ◌≤◌, Bool, true, false, cond, ◌||◌, eqb, List, [], ◌∷◌, ◌++◌, length, get_or, refl, sym, ap, ◌∙◌, inl, inr, arith}
+use Rattle.std.proofs.lemmas.Bool.{cases_Bool, cases_lt, eqb-true}
 use Rattle.std.proofs.lemmas.List.{length-append}
 use Rattle.std.proofs.lemmas.List.Elements.{All-append}
-use Rattle.std.proofs.lemmas.List.Sums.{sum_by-cons, sum_by_push}
+use Rattle.std.proofs.lemmas.List.Sums.{sum_by_push}
 use Rattle.ov_host.specs.declared.area.Extent.{Extent}
 use Rattle.ov_layout.specs.declared.index.Entry.{Entry}
 use Rattle.ov_layout.specs.declared.part.Part.{Part}
-use Rattle.ov_layout.specs.Parts.{has, serves, Ascend, IsPart, AreParts, ArePartsFrom, times_placed, stored_of, cost_of}
-use Rattle.ov_layout.specs.Index.{AreEntries, IsIndex, number_at, number_of, numbers_of, versions_in}
-use Rattle.ov_layout.specs.Changes.{IsNew, IsAbove, own_part}
+use Rattle.ov_layout.specs.Parts.{serves, IsPart, AreParts, ArePartsFrom, times_placed, cost_of}
+use Rattle.ov_layout.specs.Index.{AreEntries, IsIndex, number_at, number_of}
+use Rattle.ov_layout.specs.Changes.{IsNew, own_part}
 use Rattle.ov_layout.specs.Kept.{AreNumbers, HasFewRecords}
 use Rattle.ov_layout.proofs.SumLemmas.{entry_for, number_at-here}
 use Rattle.ov_layout.proofs.PlacedLemmas.{one-yes, one-no, times-none, new-unplaced}

@@ -1,16 +1,16 @@
 -- How many versions are left.
-use Rattle.std.proofs.Common.{◌≡◌, ℕ, zero, suc, ◌+◌, ◌*◌, ◌<◌, ◌≤◌, Bool, true, false, not, cond, ◌||◌, eqb, List, [], ◌∷◌, ◌++◌, length, get_or, map, refl, sym, ap, subst, ◌∙◌, inl, inr, arith, add-zero}
+use Rattle.std.proofs.Common.{◌≡◌, ℕ, zero, suc, ◌+◌, Bool, true, false, not, cond, ◌||◌, eqb, List, [], ◌∷◌, length, map, refl, sym, ap, subst, ◌∙◌, inl, inr, arith, add-zero}
 use Rattle.std.specs.Prelude.{All, filter, sum_by}
-use Rattle.std.proofs.lemmas.Bool.{cases_Bool, cases_lt, eq-eqb, ne_eqb, eqb-true}
+use Rattle.std.proofs.lemmas.Bool.{cases_Bool, eq-eqb, ne_eqb, eqb-true}
 use Rattle.std.proofs.lemmas.List.Sums.{sum_by-cons}
 use Rattle.ov_layout.specs.declared.part.Part.{Part}
 use Rattle.ov_layout.specs.Parts.{has, serves, Ascend, times_placed}
 use Rattle.ov_layout.specs.Index.{versions_in}
 use Rattle.ov_layout.specs.Flips.{leaving, is_empty, left_parts}
 use Rattle.ov_layout.specs.Leaving.{VersionsAscend}
-use Rattle.ov_layout.proofs.VidLemmas.{has-below, Ascend-weaker}
-use Rattle.ov_layout.proofs.LeaveLemmas.{stays, Ascend-filter, filter-out}
-use Rattle.ov_layout.proofs.PlacedLemmas.{times-cons, one-yes, one-no}
+use Rattle.ov_layout.proofs.VidLemmas.{has-below}
+use Rattle.ov_layout.proofs.LeaveLemmas.{stays, Ascend-filter}
+use Rattle.ov_layout.proofs.PlacedLemmas.{times-cons}
 
 -- sums with the same terms, over the partitions that versions have left
 pub sum-same : (f g : Part → ℕ) → ((part : Part) → f part ≡ g part) → (parts : List Part) → sum_by f parts ≡ sum_by g parts

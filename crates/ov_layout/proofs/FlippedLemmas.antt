@@ -1,21 +1,20 @@
 -- What a flip leaves.
-use Rattle.std.proofs.Common.{◌≡◌, ℕ, zero, suc, ◌+◌, ◌-◌, ◌*◌, ◌^◌, ◌<◌, ◌≤◌, Bool, true, false, not, cond, ◌||◌, eqb, List, [], ◌∷◌, ◌++◌, length, get_or, take, drop, map, refl, sym, ap, subst, ◌∙◌, inl, inr, arith, zero-add, add-zero}
-use Rattle.std.specs.Prelude.{All, filter, sum_by, if◌then◌else◌}
-use Rattle.std.proofs.lemmas.Bool.{cases_Bool, cases_lt, eq-eqb, ne_eqb, eqb-true}
-use Rattle.std.proofs.lemmas.List.{length-append}
+use Rattle.std.proofs.Common.{◌≡◌, ℕ, zero, suc, ◌+◌, ◌-◌, ◌*◌, ◌^◌, ◌<◌, ◌≤◌, Bool, true, false, not, cond, ◌||◌, eqb, List, [], ◌∷◌, ◌++◌, length, take, drop, map, refl, sym, ap, subst, ◌∙◌, inl, inr, arith}
+use Rattle.std.specs.Prelude.{All, filter, sum_by}
+use Rattle.std.proofs.lemmas.Bool.{cases_Bool, cases_lt, ne_eqb, eqb-true}
 use Rattle.std.proofs.lemmas.List.Elements.{All-append}
 use Rattle.std.proofs.lemmas.List.Sums.{sum_by-cons, sum_by_push}
 use Rattle.ov_host.specs.declared.area.Extent.{Extent}
 use Rattle.ov_layout.specs.declared.index.Entry.{Entry}
 use Rattle.ov_layout.specs.declared.part.Part.{Part}
-use Rattle.ov_layout.specs.Parts.{has, serves, Ascend, IsPart, AreParts, ArePartsFrom, times_placed, stored_of, cost_of, is_placed}
-use Rattle.ov_layout.specs.Index.{AreEntries, IsIndex, number_at, number_of, numbers_of, versions_in}
+use Rattle.ov_layout.specs.Parts.{has, serves, IsPart, AreParts, ArePartsFrom, times_placed, stored_of, cost_of, is_placed}
+use Rattle.ov_layout.specs.Index.{AreEntries, IsIndex, number_at, number_of, numbers_of}
 use Rattle.ov_layout.specs.Flips.{Flip, MayFlip, ArePlaced, leaving, is_empty, left_parts, flipped_part, given_up}
-use Rattle.ov_layout.specs.Leaving.{IsOwned, VersionsAscend, gone_of, gone_from}
+use Rattle.ov_layout.specs.Leaving.{IsOwned, gone_of, gone_from}
 use Rattle.ov_layout.specs.Kept.{AreNumbers, HasFewRecords}
 use Rattle.ov_layout.proofs.LeaveLemmas.{stays, Ascend-filter, filter-out, has-filter}
-use Rattle.ov_layout.proofs.PlacedLemmas.{times-none, one-yes, one-no, ids-ascend, versions-ascend, placed-number, number-there, owned-by-number}
-use Rattle.ov_layout.proofs.AddLemmas.{sound-push, next-some, one-few}
+use Rattle.ov_layout.proofs.PlacedLemmas.{times-none, one-no, ids-ascend, versions-ascend, placed-number, number-there, owned-by-number}
+use Rattle.ov_layout.proofs.AddLemmas.{sound-push, one-few}
 use Rattle.ov_layout.proofs.CountLemmas.{sum-same, sum-map, sum-left, count-left}
 
 -- what goes by the partitions that were left is what a flip gives up

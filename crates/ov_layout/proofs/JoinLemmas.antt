@@ -1,19 +1,18 @@
 -- A version that joins a partition.
-use Rattle.std.proofs.Common.{◌≡◌, ℕ, zero, suc, ◌+◌, ◌-◌, ◌*◌, ◌^◌, ◌<◌, ◌≤◌, Bool, true, false, cond, ◌||◌, eqb, List, [], ◌∷◌, ◌++◌, length, get_or, set, map, refl, sym, ap, subst, ◌∙◌, inl, inr, arith, zero-add, add-zero}
-use Rattle.std.specs.Prelude.{All, Some, None, sum_by, if◌then◌else◌}
-use Rattle.std.proofs.lemmas.Bool.{cases_Bool, cases_lt, eq-eqb, ne_eqb, eqb-true}
+use Rattle.std.proofs.Common.{◌≡◌, ℕ, zero, suc, ◌+◌, ◌-◌, ◌*◌, ◌^◌, ◌<◌, ◌≤◌, Bool, true, false, cond, ◌||◌, eqb, List, [], ◌∷◌, ◌++◌, length, get_or, set, refl, sym, ap, subst, ◌∙◌, inl, inr, arith}
+use Rattle.std.proofs.lemmas.Bool.{cases_Bool, eq-eqb, ne_eqb, eqb-true}
 use Rattle.std.proofs.lemmas.List.{length-append, length-set, get_or-set_same}
 use Rattle.std.proofs.lemmas.List.Elements.{All-set}
 use Rattle.std.proofs.lemmas.List.Sums.{sum_by-set}
 use Rattle.ov_host.specs.declared.area.Extent.{Extent}
 use Rattle.ov_layout.specs.declared.index.Entry.{Entry}
 use Rattle.ov_layout.specs.declared.part.Part.{Part}
-use Rattle.ov_layout.specs.Parts.{has, serves, Ascend, IsPart, AreParts, ArePartsFrom, times_placed, stored_of, cost_of, records_at, records_in}
-use Rattle.ov_layout.specs.Index.{AreEntries, IsIndex, number_at, number_of, numbers_of, versions_in}
+use Rattle.ov_layout.specs.Parts.{has, serves, Ascend, IsPart, ArePartsFrom, times_placed, stored_of, cost_of, records_at, records_in}
+use Rattle.ov_layout.specs.Index.{number_of, numbers_of, versions_in}
 use Rattle.ov_layout.specs.Changes.{IsNew, IsAbove, joined_part, joined_at}
 use Rattle.ov_layout.specs.Kept.{AreNumbers, HasFewRecords}
-use Rattle.ov_layout.proofs.VidLemmas.{has-append, keys-strict, Ascend-least}
-use Rattle.ov_layout.proofs.PlacedLemmas.{ids-ascend, one-yes, one-no, new-unplaced, placed-somewhere}
+use Rattle.ov_layout.proofs.VidLemmas.{has-append, keys-strict}
+use Rattle.ov_layout.proofs.PlacedLemmas.{new-unplaced, placed-somewhere}
 use Rattle.ov_layout.proofs.AddLemmas.{entries-push, entries-below, number_at-push, once-more, or-false}
 use Rattle.ov_layout.proofs.FlipLemmas.{numbered-here}
 use Rattle.ov_layout.proofs.LeaveLemmas.{cost-one}
@@ -33,7 +32,7 @@ joined-set vid added id segment least (part ∷ parts) (suc at) d h lt e =
     let above = keys-strict (λ (p : Part). p.id) (part ∷ parts) d least 0 (suc at) h (omega arith) lt in
     rw (ne_eqb part.id id (λ same. absurd (omega (arith, above, same, e)))) (ap (λ (ps : List Part). part ∷ ps) (joined-set vid added id segment (suc part.id) parts at d h.1 (omega arith) e))
 
-ascend-push : (least vid : ℕ) (vids : List ℕ) → Ascend least vids → least ≤ vid → IsAbove vid vids → Ascend least (vids ++ vid ∷ [])
+pub ascend-push : (least vid : ℕ) (vids : List ℕ) → Ascend least vids → least ≤ vid → IsAbove vid vids → Ascend least (vids ++ vid ∷ [])
 ascend-push least vid [] h le above = (le, tt)
 ascend-push least vid (v ∷ vids) h le above = (h.0, ascend-push (suc v) vid vids h.1 above.0 above.1)
 
@@ -41,7 +40,7 @@ or-true : (b : Bool) → (b || true) ≡ true
 or-true true = refl
 or-true false = refl
 
-above-one : (vid v : ℕ) (held : List ℕ) → IsAbove vid held → has held v ≡ true → v < vid
+pub above-one : (vid v : ℕ) (held : List ℕ) → IsAbove vid held → has held v ≡ true → v < vid
 above-one vid v [] above there = absurd cc
 above-one vid v (w ∷ held) above there =
     elim (cases_Bool (eqb w v)) [

@@ -1,14 +1,14 @@
 -- Where versions are placed.
-use Rattle.std.proofs.Common.{◌≡◌, ℕ, zero, suc, ◌+◌, ◌*◌, ◌^◌, ◌<◌, ◌≤◌, ◌⊎◌, Bool, true, false, cond, ◌||◌, eqb, List, [], ◌∷◌, ◌++◌, length, get_or, map, refl, sym, ap, subst, ◌∙◌, inl, inr, arith, zero-add, add-zero}
-use Rattle.std.specs.Prelude.{All, Some, None, sum_by}
-use Rattle.std.proofs.lemmas.Bool.{cases_Bool, cases_lt, eq-eqb, ne_eqb, eqb-true}
+use Rattle.std.proofs.Common.{◌≡◌, ℕ, zero, suc, ◌+◌, ◌<◌, ◌≤◌, ◌⊎◌, Bool, true, false, cond, ◌||◌, eqb, List, [], ◌∷◌, length, get_or, refl, sym, ap, subst, ◌∙◌, inl, inr, arith, zero-add}
+use Rattle.std.specs.Prelude.{All, Some, None}
+use Rattle.std.proofs.lemmas.Bool.{cases_Bool, eq-eqb, ne_eqb}
 use Rattle.std.proofs.lemmas.List.Sums.{sum_by-cons}
 use Rattle.ov_layout.specs.declared.part.Part.{Part}
-use Rattle.ov_layout.specs.Parts.{has, serves, Ascend, AreParts, ArePartsFrom, times_placed, part_with, is_number, is_placed}
-use Rattle.ov_layout.specs.Index.{number_of, numbers_of, versions_in}
+use Rattle.ov_layout.specs.Parts.{has, serves, Ascend, ArePartsFrom, times_placed, part_with, is_number, is_placed}
+use Rattle.ov_layout.specs.Index.{number_of, numbers_of}
 use Rattle.ov_layout.specs.Changes.{IsNew, IsAbove}
 use Rattle.ov_layout.specs.Leaving.{IsOwned, VersionsAscend}
-use Rattle.ov_layout.proofs.VidLemmas.{Ascend-weaker, keys-strict}
+use Rattle.ov_layout.proofs.VidLemmas.{keys-strict}
 
 or-true : (b : Bool) → (b || true) ≡ true
 or-true true = refl

@@ -1,19 +1,19 @@
 -- Room, and numbers that fit.
-use Rattle.std.proofs.Common.{◌≡◌, ℕ, zero, suc, ◌+◌, ◌*◌, ◌^◌, ◌<◌, ◌≤◌, true, max, List, [], ◌∷◌, ◌++◌, length, get_or, refl, sym, ap, subst, ◌∙◌, arith, vec_len, vec_capacity, Vec, Global}
+use Rattle.std.proofs.Common.{◌≡◌, ℕ, ◌^◌, ◌<◌, ◌≤◌, true, max, List, length, get_or, sym, ap, subst, ◌∙◌, arith, vec_len, vec_capacity, Vec, Global}
 use Rattle.std.specs.Prelude.{All}
 use Rattle.ov_layout.specs.declared.index.Entry.{Entry}
 use Rattle.ov_layout.specs.declared.part.Part.{Part}
 use Rattle.ov_layout.specs.declared.room.Room.{Room}
 use Rattle.ov_layout.specs.declared.room.Room.TheVariants.{Nothing, Placing, Joining}
 use Rattle.ov_layout.specs.declared.spares.Spares.{Spares}
-use Rattle.ov_layout.specs.Parts.{Ascend, AreParts, is_number, stored_of, cost_of}
-use Rattle.ov_layout.specs.Index.{IsIndex, numbers_of, versions_in}
+use Rattle.ov_layout.specs.Parts.{Ascend, is_number}
+use Rattle.ov_layout.specs.Index.{numbers_of, versions_in}
 use Rattle.ov_layout.specs.Changes.{IsRoomFor}
 use Rattle.ov_layout.specs.Spares.{HaveRoom, FitsPart, FitsNumbered}
 use Rattle.ov_layout.specs.Kept.{AreNumbers, HasSpace, IsReady, NeedsEntry}
 use Rattle.ov_layout.proofs.VidLemmas.{keys-one}
 use Rattle.ov_layout.proofs.LeaveLemmas.{get_or-any}
-use Rattle.ov_layout.proofs.SumLemmas.{entries-few, cost-fits, stored-fits, parts-few}
+use Rattle.ov_layout.proofs.SumLemmas.{entries-few, cost-fits, stored-fits}
 
 -- room to place so many versions
 pub record HasPlace (count : ℕ) (parts : Vec Part Global) (index : Vec Entry Global) (fresh : Spares) : Type 0 where

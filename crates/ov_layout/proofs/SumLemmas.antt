@@ -1,17 +1,16 @@
 -- Sums over entries and partitions.
-use Rattle.std.proofs.Common.{◌≡◌, ℕ, zero, suc, ◌+◌, ◌*◌, ◌^◌, ◌<◌, ◌≤◌, Bool, true, false, cond, ◌||◌, eqb, List, [], ◌∷◌, ◌++◌, length, get_or, set, take, map, refl, sym, ap, subst, ◌∙◌, inl, inr, arith, zero-add, add-zero}
-use Rattle.std.proofs.lemmas.Bool.{cases_Bool, cases_lt, eq-eqb, ne_eqb, eqb-true}
-use Rattle.std.proofs.lemmas.List.Sums.{sum_by-cons, sum_by-append, sum_by-set}
-use Rattle.std.specs.List.{sum_by}
+use Rattle.std.proofs.Common.{◌≡◌, ℕ, zero, suc, ◌+◌, ◌*◌, ◌^◌, ◌<◌, ◌≤◌, Bool, true, false, cond, ◌||◌, eqb, List, [], ◌∷◌, length, get_or, set, take, refl, sym, ap, subst, ◌∙◌, inl, inr, arith, zero-add, add-zero}
+use Rattle.std.proofs.lemmas.Bool.{cases_Bool, eq-eqb, ne_eqb, eqb-true}
+use Rattle.std.proofs.lemmas.List.Sums.{sum_by-cons, sum_by-set}
 use Rattle.ov_layout.specs.declared.index.Entry.{Entry}
 use Rattle.ov_layout.specs.declared.part.Part.{Part}
 use Rattle.std.proofs.Math.Nat.{mul-le-mul_left}
 use Rattle.std.specs.Prelude.{◌-◌, All}
 use Rattle.ov_layout.specs.Kept.{HasFewRecords}
-use Rattle.ov_layout.specs.Parts.{has, serves, Ascend, ArePartsFrom, cost_of, stored_of}
-use Rattle.ov_layout.specs.Index.{AreEntries, number_at, number_of, versions_in, vids_of, numbers_of}
+use Rattle.ov_layout.specs.Parts.{has, Ascend, ArePartsFrom, cost_of, stored_of}
+use Rattle.ov_layout.specs.Index.{AreEntries, number_at, versions_in, vids_of}
 use Rattle.std.proofs.lemmas.List.{get_or-set_same, length-set}
-use Rattle.ov_layout.proofs.VidLemmas.{Ascend-least, has-more}
+use Rattle.ov_layout.proofs.VidLemmas.{has-more}
 
 -- the term of one entry
 abbrev pub entry_for : ℕ → Entry → ℕ

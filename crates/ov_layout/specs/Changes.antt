@@ -2,7 +2,7 @@
 --     IsNew vid parts      a version that no partition knows yet, nor a later one
 --     with_own vid records segment layout      it gets a partition of its own
 --     with_joined vid id added segment layout      it joins a partition
-use Rattle.std.specs.Prelude.{◌≡◌, ℕ, ◌+◌, ◌≤◌, ◌<◌, Bool, true, ◌==◌, if◌then◌else◌, List, [], ◌∷◌, ◌++◌, map, Option, None, Some}
+use Rattle.std.specs.Prelude.{◌≡◌, ℕ, ◌+◌, ◌≤◌, ◌<◌, true, ◌==◌, if◌then◌else◌, List, [], ◌∷◌, ◌++◌, map, Option, None, Some}
 use Rattle.ov_host.specs.declared.area.Extent.{Extent}
 use Rattle.ov_layout.specs.declared.part.Part.{Part}
 use Rattle.ov_layout.specs.declared.room.Room.{Room}

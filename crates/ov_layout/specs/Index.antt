@@ -2,10 +2,10 @@
 --     number_at vid index      the number that the index has for a version, 0 where it has none
 --     number_of vid parts      the number of the partition that serves a version, 0 where none does
 --     IsIndex index parts      the index is that of these partitions
-use Rattle.std.specs.Prelude.{◌≡◌, ℕ, suc, ◌+◌, ◌^◌, ◌<◌, ◌≤◌, Bool, true, false, ◌==◌, cond, List, [], ◌∷◌, length, map, flat_map, sum_by}
+use Rattle.std.specs.Prelude.{◌≡◌, ℕ, suc, ◌^◌, ◌<◌, ◌≤◌, ◌==◌, cond, List, [], ◌∷◌, length, map, sum_by}
 use Rattle.ov_layout.specs.declared.index.Entry.{Entry}
 use Rattle.ov_layout.specs.declared.part.Part.{Part}
-use Rattle.ov_layout.specs.Parts.{has, serves}
+use Rattle.ov_layout.specs.Parts.{serves}
 
 abbrev pub numbers_of : List Part → List ℕ
 numbers_of parts = map (λ part. part.id) parts

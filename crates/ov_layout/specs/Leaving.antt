@@ -1,5 +1,5 @@
 -- A flip in steps: versions leave, then partitions without versions go.
-use Rattle.std.specs.Prelude.{◌≡◌, ℕ, Bool, true, ◌==◌, if◌then◌else◌, List, [], ◌∷◌, ◌++◌}
+use Rattle.std.specs.Prelude.{◌≡◌, ℕ, true, ◌==◌, if◌then◌else◌, List, [], ◌∷◌, ◌++◌}
 use Rattle.ov_host.specs.declared.area.Extent.{Extent}
 use Rattle.ov_layout.specs.declared.part.Part.{Part}
 use Rattle.ov_layout.specs.Parts.{serves, Ascend}

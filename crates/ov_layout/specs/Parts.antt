@@ -4,7 +4,7 @@
 --     part_with vid parts, part_numbered id parts      the partition that serves a version; the one with a number
 --     stored_of parts, cost_of parts      the sums over partitions
 --     pages_for vid parts      the pages of the partition that serves a version
-use Rattle.std.specs.Prelude.{◌≡◌, ℕ, suc, ◌+◌, ◌*◌, ◌<◌, ◌≤◌, Bool, true, ◌==◌, List, [], ◌∷◌, length, Option, None, Some, find}
+use Rattle.std.specs.Prelude.{◌≡◌, ℕ, suc, ◌*◌, ◌<◌, ◌≤◌, Bool, true, ◌==◌, List, [], ◌∷◌, length, Option, None, Some, find}
 use Rattle.std.specs.List.{list_any, sum_by, count_by}
 use Rattle.ov_host.specs.declared.area.Extent.{Extent}
 use Rattle.ov_host.specs.Extent.{pages_of}

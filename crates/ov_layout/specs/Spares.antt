@@ -1,11 +1,7 @@
 -- Lists kept ready, so that a change takes no memory.
-use Rattle.std.specs.Prelude.{◌≡◌, ℕ, ◌+◌, ◌<◌, ◌≤◌, true, max, List, [], length, All, Vec, vec_capacity}
-use Rattle.ov_host.specs.declared.area.Extent.{Extent}
+use Rattle.std.specs.Prelude.{◌≡◌, ℕ, ◌+◌, ◌≤◌, [], length, vec_capacity}
 use Rattle.ov_layout.specs.declared.part.Part.{Part}
-use Rattle.ov_layout.specs.declared.room.Room.{Room}
-use Rattle.ov_layout.specs.declared.room.Room.TheVariants.{Nothing, Placing, Joining}
 use Rattle.ov_layout.specs.declared.spares.Spares.{Spares}
-use Rattle.ov_layout.specs.Parts.{is_number}
 
 pub record AreEmpty (spares : Spares) : Type 0 where
   pub versions : spares.versions.items ≡ []

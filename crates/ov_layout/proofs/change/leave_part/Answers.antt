@@ -1,5 +1,3 @@
-use Rattle.std.proofs.Common.{◌≡◌, ◌≤◌, ◌*◌, ◌+◌, ◌-◌, length, not, ap, sym, ◌∙◌, arith}
-use Rattle.ov_layout.specs.Parts.{has}
 use Rattle.ov_layout.proofs.VidLemmas.{length-filter-le, saved-and-left}
 use Rattle.ov_layout.proofs.change.leave_part.Goals as goal
 

@@ -1,4 +1,4 @@
-use Rattle.std.proofs.Common.{◌≡◌, ◌+◌, ◌<◌, ◌≤◌, [], ◌∷◌, ◌++◌, true, false, is_ok, drop, get_or, length, vec_len, vec_capacity, sym, ◌∙◌, ap, List, arith, append_assoc, length-append}
+use Rattle.std.proofs.Common.{◌≡◌, ◌+◌, ◌<◌, [], ◌∷◌, true, false, drop, get_or, length, vec_len, vec_capacity, sym, ◌∙◌, ap, List, arith, append_assoc, length-append}
 use Rattle.ov_host.specs.declared.area.Extent.{Extent}
 use Rattle.ov_layout.specs.Parts.{has}
 use Rattle.ov_layout.specs.Flips.{others}

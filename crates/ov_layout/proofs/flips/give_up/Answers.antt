@@ -1,4 +1,4 @@
-use Rattle.std.proofs.Common.{◌≡◌, not, rules, sym, ◌∙◌, ap, arith, List}
+use Rattle.std.proofs.Common.{◌≡◌, not, rules, ◌∙◌, ap, arith, List}
 use Rattle.std.proofs.lemmas.Fn.{filter_same}
 use Rattle.ov_layout.specs.declared.part.Part.{Part}
 use Rattle.std.specs.Prelude.{filter}

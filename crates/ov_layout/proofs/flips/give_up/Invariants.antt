@@ -1,5 +1,4 @@
-use Rattle.std.proofs.Common.{◌≡◌, ◌+◌, ◌<◌, ◌≤◌, ◌^◌, ◌++◌, take, drop, length, vec_capacity}
-use Rattle.ov_layout.specs.Parts.{stored_of}
+use Rattle.std.proofs.Common.{◌≡◌, ◌+◌, ◌≤◌, ◌++◌, take, drop, length, vec_capacity}
 use Rattle.ov_layout.specs.Leaving.{gone_from}
 use Rattle.ov_layout.proofs.GoneLemmas.{stored_gone}
 use Rattle.ov_layout.proofs.flips.give_up.Given as goal

@@ -1,11 +1,10 @@
-use Rattle.std.proofs.Common.{◌≡◌, ◌*◌, ℕ, sym, ◌∙◌, ap, subst, arith, true, false, get_or, length, List, []}
+use Rattle.std.proofs.Common.{◌≡◌, ℕ, sym, ◌∙◌, ap, arith, false, get_or, List}
 use Rattle.std.proofs.lemmas.List.{set-get_or}
-use Rattle.ov_layout.specs.declared.part.Part.{Part}
-use Rattle.ov_layout.specs.Parts.{has, serves, Ascend}
-use Rattle.ov_layout.specs.Index.{number_at, numbers_of}
+use Rattle.ov_layout.specs.Parts.{has, serves}
+use Rattle.ov_layout.specs.Index.{number_at}
 use Rattle.ov_layout.specs.Flips.{leaving}
 use Rattle.ov_layout.proofs.VidLemmas.{has-get}
-use Rattle.ov_layout.proofs.LeaveLemmas.{left-none, left-one, left-all, cost-left, cost-one}
+use Rattle.ov_layout.proofs.LeaveLemmas.{left-none, left-one, left-all, cost-left}
 use Rattle.ov_layout.proofs.flips.leave.Goals.{then-is_among, else-is_among}
 use Rattle.ov_layout.proofs.flips.leave.Goals as goal
 

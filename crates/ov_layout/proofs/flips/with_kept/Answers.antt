@@ -1,8 +1,7 @@
-use Rattle.std.proofs.Common.{◌≡◌, ◌<◌, ◌++◌, true, false, length, vec_len, sym, ◌∙◌, ap, arith, List, eqb, get_or, refl}
+use Rattle.std.proofs.Common.{◌≡◌, ◌++◌, length, vec_len, sym, ◌∙◌, ap, List, get_or, refl}
 use Rattle.ov_host.specs.declared.area.Extent.{Extent}
-use Rattle.ov_layout.specs.declared.part.Part.{Part}
 use Rattle.ov_layout.specs.Parts.{segments_in}
-use Rattle.ov_layout.specs.Flips.{AreBelow, chosen, segments_at}
+use Rattle.ov_layout.specs.Flips.{chosen, segments_at}
 use Rattle.ov_layout.proofs.FlipLemmas.{numbered-here, source-there, rotated, length-chosen, some-long}
 use Rattle.ov_layout.proofs.flips.with_kept.Goals as goal
 

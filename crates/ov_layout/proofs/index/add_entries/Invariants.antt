@@ -1,6 +1,5 @@
 use Rattle.std.proofs.Common.{◌≡◌, ◌++◌, map, take}
 use Rattle.std.specs.Prelude.{All}
-use Rattle.ov_layout.specs.declared.index.Entry.{Entry}
 use Rattle.ov_layout.specs.Index.{FitsEntry}
 use Rattle.ov_layout.proofs.index.add_entries.Given as goal
 

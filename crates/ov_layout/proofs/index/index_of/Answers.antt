@@ -1,4 +1,4 @@
-use Rattle.std.proofs.Common.{rules, ℕ, ◌≡◌, length, ap, sym, ◌∙◌, List, arith}
+use Rattle.std.proofs.Common.{rules, ◌≡◌, length, sym, ◌∙◌, arith}
 use Rattle.std.proofs.lemmas.List.Sorted.{IsNonDecreasingBy-from_sort_by_key}
 use Rattle.ov_layout.specs.declared.index.Entry.{Entry}
 use Rattle.ov_layout.proofs.EntryLemmas.{ids-some, sorted-index}

@@ -1,8 +1,8 @@
-use Rattle.std.proofs.Common.{◌≡◌, ◌≤◌, ℕ, subst, arith, true, get_or, rules, sym}
+use Rattle.std.proofs.Common.{◌≤◌, arith, get_or}
 use Rattle.ov_layout.specs.declared.index.Entry.{Entry}
 use Rattle.ov_layout.specs.Index.{number_at}
 use Rattle.ov_layout.proofs.VidLemmas.{has-get}
-use Rattle.ov_layout.proofs.SumLemmas.{HasMoved, entry-moved, moved-more, cond-some}
+use Rattle.ov_layout.proofs.SumLemmas.{entry-moved, moved-more, cond-some}
 use Rattle.ov_layout.proofs.index.move_to.Goals.{in-Some, in_default}
 use Rattle.ov_layout.proofs.index.move_to.Goals as goal
 

@@ -1,4 +1,4 @@
-use Rattle.std.proofs.Common.{◌≡◌, ◌*◌, length, ap, arith}
+use Rattle.std.proofs.Common.{◌*◌, length, arith}
 use Rattle.std.proofs.lemmas.List.Sums.{sum_by_more_le}
 use Rattle.ov_layout.specs.declared.part.Part.{Part}
 use Rattle.ov_layout.proofs.SumLemmas.{cost-fits}

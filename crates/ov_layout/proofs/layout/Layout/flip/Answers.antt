@@ -1,13 +1,9 @@
-use Rattle.std.proofs.Common.{◌≡◌, ◌<◌, ◌≤◌, ◌+◌, ◌-◌, ◌*◌, ℕ, true, List, [], ◌∷◌, ◌++◌, get_or, set, take, drop, map, length, Some, None, sym, ◌∙◌, ap, subst, arith, refl, rules, vec_len, vec_capacity, Vec, Global}
-use Rattle.std.specs.Prelude.{filter, All}
-use Rattle.ov_host.specs.declared.area.Extent.{Extent}
+use Rattle.std.proofs.Common.{◌≡◌, ◌+◌, ℕ, List, [], ◌∷◌, ◌++◌, map, length, ◌∙◌, ap, arith, refl, vec_len, vec_capacity, Vec, Global}
 use Rattle.ov_layout.specs.declared.part.Part.{Part}
 use Rattle.ov_layout.specs.declared.index.Entry.{Entry}
 use Rattle.ov_layout.specs.declared.room.Room.TheVariants.{Nothing}
-use Rattle.ov_layout.specs.Parts.{Partitions, Ascend, cost_of, stored_of}
-use Rattle.ov_layout.specs.Index.{numbers_of}
-use Rattle.ov_layout.specs.Flips.{Flip, MayFlip, flip_of, leaving, left_parts, given_up, flipped_part, chosen, segments_at}
-use Rattle.ov_layout.specs.Leaving.{gone_from}
+use Rattle.ov_layout.specs.Parts.{Partitions}
+use Rattle.ov_layout.specs.Flips.{flip_of, leaving, left_parts, flipped_part, chosen, segments_at}
 use Rattle.ov_layout.proofs.VidLemmas.{Ascend-weaker}
 use Rattle.ov_layout.proofs.PlacedLemmas.{ids-ascend, versions-ascend}
 use Rattle.ov_layout.proofs.AddLemmas.{next-some}

@@ -1,7 +1,7 @@
-use Rattle.std.proofs.Common.{◌≡◌, ◌<◌, ◌≤◌, ◌+◌, ◌-◌, ◌*◌, ℕ, true, List, [], ◌∷◌, ◌++◌, get_or, set, length, Some, None, sym, ◌∙◌, ap, subst, arith, refl, rules}
+use Rattle.std.proofs.Common.{◌≡◌, ◌*◌, List, get_or, set, length, sym, ◌∙◌, ap, arith}
 use Rattle.ov_layout.specs.declared.part.Part.{Part}
 use Rattle.ov_layout.specs.declared.room.Room.TheVariants.{Nothing}
-use Rattle.ov_layout.specs.Parts.{Partitions, Ascend, cost_of}
+use Rattle.ov_layout.specs.Parts.{Partitions, Ascend}
 use Rattle.ov_layout.specs.Index.{numbers_of}
 use Rattle.ov_layout.specs.Changes.{joined_part, joined_at}
 use Rattle.ov_layout.proofs.VidLemmas.{Ascend-weaker}

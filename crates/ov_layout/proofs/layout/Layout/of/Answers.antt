@@ -1,6 +1,4 @@
-use Rattle.std.proofs.Common.{◌≡◌, ◌≤◌, ◌^◌, length, ap, arith, List}
-use Rattle.ov_layout.specs.declared.part.Part.{Part}
-use Rattle.ov_layout.specs.Index.{versions_in}
+use Rattle.std.proofs.Common.{arith}
 use Rattle.ov_layout.proofs.SumLemmas.{entries-few, parts-few}
 use Rattle.ov_layout.proofs.layout.Layout.of.Goals as goal
 

@@ -1,9 +1,6 @@
-use Rattle.std.proofs.Common.{◌≡◌, ◌<◌, ◌≤◌, ℕ, List, get_or, length, Some, None, sym, ◌∙◌, ap, subst, arith, refl, rules}
-use Rattle.std.proofs.lemmas.List.{get_or_read_under}
-use Rattle.ov_layout.specs.declared.part.Part.{Part}
+use Rattle.std.proofs.Common.{◌≡◌, ◌≤◌, ℕ, List, Some, sym, ◌∙◌, ap, arith}
 use Rattle.ov_layout.specs.declared.index.Entry.{Entry}
-use Rattle.ov_layout.specs.Parts.{Ascend, part_with, times_placed}
-use Rattle.ov_layout.specs.Index.{number_at, number_of, numbers_of}
+use Rattle.ov_layout.specs.Index.{number_at, number_of}
 use Rattle.ov_layout.proofs.VidLemmas.{Ascend-weaker}
 use Rattle.ov_layout.proofs.PlacedLemmas.{ids-ascend, number-there, find-none, find-some}
 use Rattle.ov_layout.proofs.layout.Layout.part_of.Goals as goal

@@ -1,6 +1,4 @@
-use Rattle.std.proofs.Common.{◌≡◌, ◌<◌, ◌≤◌, ℕ, true, List, get_or, length, Some, None, sym, ◌∙◌, ap, subst, arith, refl, rules, vec_len, vec_capacity}
-use Rattle.ov_layout.specs.Parts.{is_number}
-use Rattle.ov_layout.specs.Changes.{IsThere}
+use Rattle.std.proofs.Common.{sym, ◌∙◌, arith}
 use Rattle.ov_layout.proofs.VidLemmas.{Ascend-weaker}
 use Rattle.ov_layout.proofs.PlacedLemmas.{ids-ascend, numbered-there}
 use Rattle.ov_layout.proofs.RoomLemmas.{fits-numbered}

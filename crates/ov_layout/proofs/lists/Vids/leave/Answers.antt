@@ -1,4 +1,4 @@
-use Rattle.std.proofs.Common.{not, rules, ap}
+use Rattle.std.proofs.Common.{not, rules}
 use Rattle.std.proofs.lemmas.Fn.{filter_same}
 use Rattle.ov_layout.specs.Parts.{has}
 use Rattle.ov_layout.proofs.lists.Vids.leave.Goals as goal
