@@ -44,16 +44,25 @@ module _ (page : ℕ) where
 
   set_covers : (d : SetNumbers Extent Extent) → covers (of_set d) page ≡ covers (map (λ v. v.list) d.versions) page + (covers (flat_map (λ p. p.segments) d.parts) page + covers (of_plan d.plan) page)
   set_covers d =
-      omega (arith, covers-append (map (λ v. v.list) d.versions) (flat_map (λ p. p.segments) d.parts ++ of_plan d.plan) page,
-      covers-append (flat_map (λ p. p.segments) d.parts) (of_plan d.plan) page)
+      omega (
+        arith,
+        covers-append (map (λ v. v.list) d.versions) (flat_map (λ p. p.segments) d.parts ++ of_plan d.plan) page,
+        covers-append (flat_map (λ p. p.segments) d.parts) (of_plan d.plan) page,
+      )
 
   version_covers : (v : VersionNumbers Extent) (place : Place) (added : ℕ) (segments : List Extent) (d : SetNumbers Extent Extent)
       → covers (of_set (with_version v place added segments d)) page ≤ covers (v.list ∷ segments) page + covers (of_set d) page
   version_covers v place added segments d =
       let lists : covers (map (λ x. x.list) (d.versions ++ v ∷ [])) page ≡ covers (map (λ x. x.list) d.versions ++ v.list ∷ []) page =
       ap (λ es. covers es page) (map-append (λ x. x.list) d.versions (v ∷ []))
-      in omega (arith, lists, covers-append (map (λ x. x.list) d.versions) (v.list ∷ []) page, set_covers d, set_covers (with_version v place added segments d),
-      parts_cover place d.next_part (length d.versions + 1) added segments d.parts)
+      in omega (
+        arith,
+        lists,
+        covers-append (map (λ x. x.list) d.versions) (v.list ∷ []) page,
+        set_covers d,
+        set_covers (with_version v place added segments d),
+        parts_cover place d.next_part (length d.versions + 1) added segments d.parts,
+      )
 
   live_cons : (d : SetNumbers Extent Extent) (sets : List (SetNumbers Extent Extent)) → covers (flat_map of_set (d ∷ sets)) page ≡ covers (of_set d) page + covers (flat_map of_set sets) page
   live_cons d sets = covers-append (of_set d) (flat_map of_set sets) page

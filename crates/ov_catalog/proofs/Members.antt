@@ -66,6 +66,7 @@ of_put {X} key x (y ∷ ys) z is = by (nat_le (key x) (key y)) (of_put key x ys 
     further : (z ≡ x) ⊎ IsIn ys z → (z ≡ x) ⊎ IsIn (y ∷ ys) z
     further (inl same) = inl same
     further (inr later) = inr (inr later)
+
     by : (b : Bool) → (IsIn (put_by key x ys) z → (z ≡ x) ⊎ IsIn ys z) → IsIn (if b then x ∷ y ∷ ys else y ∷ put_by key x ys) z → (z ≡ x) ⊎ IsIn (y ∷ ys) z
     by true rest (inl same) = inl same
     by true rest (inr there) = inr there

@@ -38,7 +38,7 @@ changed_shown number f h found (d ∷ sets) distinct e same =
         → shown_set (if b then f d else d) ∷ map shown_set (moves.change number f sets)
         ≡ (if b then h (shown_set d) ∷ map shown_set sets else shown_set d ∷ events.change number h (map shown_set sets))
     by true is here later =
-        let it : d ≡ found = ap (λ o. elim o as (λ _. Dataset) [ | None ↦ d | Some x ↦ x ]) here
+        let it : d ≡ found = ap (λ o. elim o as (λ _. Dataset) [ None ↦ d | Some x ↦ x ]) here
         in λ i. subst (λ x. shown_set (f x) ≡ h (shown_set x)) (sym it) same i
         ∷ map shown_set (unchanged number f sets (subst (λ n. NoneNumbered n sets) (is refl) distinct.0) i)
     by false is here later = ap (λ ds. shown_set d ∷ ds) (later here)

@@ -282,6 +282,7 @@ served_in done (v ∷ vids) vid all are there = by (v == vid) (λ e. eqb_is v vi
   where
     eqb_is : (a b : ℕ) → (a == b) ≡ true → a ≡ b
     eqb_is a b e = eqb-true a b e
+
     by : (b : Bool) → (b ≡ true → v ≡ vid) → (b || is_one vids vid) ≡ true → (is_one vids vid ≡ true → AreIn (of_version done vid) all) → AreIn (of_version done vid) all
     by true is e rest = subst (λ k. AreIn (of_version done k) all) (is refl) are.0.1
     by false is e rest = rest e

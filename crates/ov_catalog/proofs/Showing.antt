@@ -102,6 +102,7 @@ joined_shown all more vid rs part are = λ i. record {
   where
     long : length (held (moves.with_joined vid rs part)) ≡ length (held part) + length (lacking rs (held part))
     long = joined_long part.pieces (piece_of (lacking rs (held part))) ∙ ap (λ xs. length (held part) + length xs) (piece_all (lacking rs (held part)))
+
     same : map (segment_of (all ++ more)) (part.pieces ++ piece_of (lacking rs (held part))) ≡ map (segment_of all) part.pieces ++ map (segment_of (all ++ more)) (piece_of (lacking rs (held part)))
     same = map-append (segment_of (all ++ more)) part.pieces (piece_of (lacking rs (held part)))
         ∙ ap (λ ss. ss ++ map (segment_of (all ++ more)) (piece_of (lacking rs (held part)))) (segments_same all more part.pieces are)
@@ -177,17 +178,22 @@ version_shown d v are once none = λ i. record {
   where
     vs : List Version
     vs = d.cvd.versions
+
     rs : List Rec
     rs = records_of v (recs d.cvd.versions [])
+
     more : List Rec
     more = fresh_in (records_of v (recs d.cvd.versions [])) (1 + length (recs d.cvd.versions []))
+
     grown : order_of (d.cvd.versions ++ v ∷ []) ≡ order_of d.cvd.versions ++ more
     grown = order_of_more d.cvd.versions v
+
     versions : shown_versions (order_of (d.cvd.versions ++ v ∷ [])) [] (d.cvd.versions ++ v ∷ [])
         ≡ shown_versions (order_of d.cvd.versions) [] d.cvd.versions ++ shown_version (order_of (d.cvd.versions ++ v ∷ [])) (recs d.cvd.versions []) v ∷ []
     versions = versions_more (order_of (d.cvd.versions ++ v ∷ [])) [] d.cvd.versions v
         ∙ ap (λ ws. ws ++ shown_version (order_of (d.cvd.versions ++ v ∷ [])) (recs d.cvd.versions []) v ∷ [])
         (ap (λ all. shown_versions all [] d.cvd.versions) grown ∙ versions_same (order_of d.cvd.versions) more [] d.cvd.versions (all_known d.cvd.versions))
+
     parts : map (shown_part (order_of (d.cvd.versions ++ v ∷ []))) (moves.parts_with (placed_at d v) d.next_part (length d.cvd.versions + 1) rs d.parts)
         ≡ events.parts_with (placed_at d v) d.next_part (length (shown_versions (order_of d.cvd.versions) [] d.cvd.versions) + 1) (length (added_to (placed_at d v) d.parts rs))
         (map (segment_of (order_of (d.cvd.versions ++ v ∷ []))) (piece_of (added_to (placed_at d v) d.parts rs))) (map (shown_part (order_of d.cvd.versions)) d.parts)
@@ -199,6 +205,7 @@ version_shown d v are once none = λ i. record {
         ∙ ap (λ n. events.parts_with (placed_at d v) d.next_part (n + 1) (length (added_to (placed_at d v) d.parts rs))
         (map (segment_of (order_of d.cvd.versions ++ more)) (piece_of (added_to (placed_at d v) d.parts rs))) (map (shown_part (order_of d.cvd.versions)) d.parts))
         (sym (versions_long (order_of d.cvd.versions) [] d.cvd.versions)))
+
     records : length (order_of (d.cvd.versions ++ v ∷ [])) ≡ length (order_of d.cvd.versions) + length (fresh_in rs (length (recs d.cvd.versions []) + 1))
     records =
         let swap : 1 + length (recs d.cvd.versions []) ≡ length (recs d.cvd.versions []) + 1 = omega arith
@@ -235,9 +242,11 @@ new_shown number name schema rows v is =
   where
     first : Version
     first = moves.version_of [] (codes "init") rows
+
     parts : shown_part (order_of (moves.version_of [] (codes "init") rows ∷ [])) (moves.own_part 1 1 (map (record_of [] []) rows))
         ≡ events.own_part 1 1 (length rows) (map (segment_of (order_of (moves.version_of [] (codes "init") rows ∷ []))) (piece_of (map (record_of [] []) rows)))
     parts = own_shown (order_of (moves.version_of [] (codes "init") rows ∷ [])) 1 1 (map (record_of [] []) rows)
         ∙ ap (λ n. events.own_part 1 1 n (map (segment_of (order_of (moves.version_of [] (codes "init") rows ∷ []))) (piece_of (map (record_of [] []) rows)))) (length-map rows (record_of [] []))
+
     records : length (order_of (moves.version_of [] (codes "init") rows ∷ [])) ≡ length rows
     records = ap length (append-nil (fresh_in (map (record_of [] []) rows) 1)) ∙ fresh_long rows
