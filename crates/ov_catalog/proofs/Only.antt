@@ -25,7 +25,7 @@ use Rattle.ov_catalog.specs.Numbers.{VersionNumbers, PartNumbers}
 use Rattle.ov_catalog.specs.Shown.{Rids, Records, list_of, kept_as, segment_of, shown_version, shown_versions, shown_part, shown_set, shown}
 use Rattle.ov_catalog.proofs.Good.{rec_cmp, PiecesRise, PartsRise, HaveRows, IsRowed, AreRowed, IsKnown, AreKnown, IsGood}
 use Rattle.ov_catalog.proofs.Members.{all_at, left_in, right_in, of_append, in_map, of_map, in_sorted, of_sorted, same_rising, heads, tails}
-use Rattle.ov_catalog.proofs.Showing.{PiecesAreIn}
+use Rattle.ov_catalog.proofs.Showing.{PiecesAreIn, before_in, done_in}
 
 -- ---- a rid is one record's
 
@@ -147,14 +147,6 @@ member_rows schema all other ours theirs finds ps qs done also rows others here 
     in let of = of_map (record_of qs also) others it.0 it.1.0
     in let same_row : of.0 ≡ row = ap (λ x. x.row) (sym of.1.1) ∙ it.1.1
     in subst (IsIn others) same_row of.1.0
-
-before_in : (done : List (List Rec)) (l all : List Rec) → AllAreIn (done ++ l ∷ []) all → AllAreIn done all × AreIn l all
-before_in [] l all are = (tt, are.0)
-before_in (x ∷ done) l all are = ((are.0, (before_in done l all are.1).0), (before_in done l all are.1).1)
-
-done_in : (vs : List Version) (done : List (List Rec)) (all : List Rec) → AllAreIn (recs vs done) all → AllAreIn done all
-done_in [] done all are = are
-done_in (v ∷ vs) done all are = (before_in done (records_of v done) all (done_in vs (done ++ records_of v done ∷ []) all are)).0
 
 next_in : (v : Version) (vs : List Version) (done : List (List Rec)) (all : List Rec) → AllAreIn (recs (v ∷ vs) done) all → AreIn (records_of v done) all
 next_in v vs done all are = (before_in done (records_of v done) all (done_in vs (done ++ records_of v done ∷ []) all are)).1

@@ -55,11 +55,11 @@ parts_same all more (part ∷ parts) are = λ i. part_same all more part are.0 i
 
 -- ---- versions
 
-before_in : (done : List (List Rec)) (l all : List Rec) → AllAreIn (done ++ l ∷ []) all → AllAreIn done all × AreIn l all
+pub before_in : (done : List (List Rec)) (l all : List Rec) → AllAreIn (done ++ l ∷ []) all → AllAreIn done all × AreIn l all
 before_in [] l all are = (tt, are.0)
 before_in (x ∷ done) l all are = ((are.0, (before_in done l all are.1).0), (before_in done l all are.1).1)
 
-done_in : (vs : List Version) (done : List (List Rec)) (all : List Rec) → AllAreIn (recs vs done) all → AllAreIn done all
+pub done_in : (vs : List Version) (done : List (List Rec)) (all : List Rec) → AllAreIn (recs vs done) all → AllAreIn done all
 done_in [] done all are = are
 done_in (v ∷ vs) done all are = (before_in done (records_of v done) all (done_in vs (done ++ records_of v done ∷ []) all are)).0
 
