@@ -3,6 +3,7 @@ use Rattle.std.proofs.Common.{◌≡◌, ℕ, zero, suc, ◌+◌, Bool, true, fa
 use Rattle.std.specs.Prelude.{Option, Some, None, not, if◌then◌else◌}
 use Rattle.std.specs.Str.{bytes_eq}
 use Rattle.ov_model.specs.Act.{Session, Deed, deed, checkout_deed, vids_refusal, gives, merge_of, unless, refuses, generated_reply, init_refusal}
+use Rattle.ov_model.specs.Asking.{cvd_in}
 use Rattle.ov_model.specs.Book.{Cvd}
 use Rattle.ov_model.specs.Generator.{generated}
 use Rattle.ov_model.specs.Moves.{Move, Init, Commit, BeginPlan, Copy, Flip, Drop, Checkpoint, moved, change, new_set, committed, numbered}
@@ -90,19 +91,15 @@ checkpoint_same w s command two =
     ∙ numbers_same w (w.epoch + 1) (length w.sets + 1) s command
 
 -- the dataset of a name, in a book
-abbrev first_named : List ℕ → List Cvd → Option Cvd
+abbrev pub first_named : List ℕ → List Cvd → Option Cvd
 first_named name [] = None
 first_named name (c ∷ cs) = if bytes_eq c.name name then Some c else first_named name cs
 
-abbrev cvd_of : Option Dataset → Option Cvd
-cvd_of None = None
-cvd_of (Some d) = Some d.cvd
-
-cvd_if : (t : Bool) (d : Dataset) (later : Option Dataset) (rest : Option Cvd) → cvd_of later ≡ rest → cvd_of (if t then Some d else later) ≡ (if t then Some d.cvd else rest)
+cvd_if : (t : Bool) (d : Dataset) (later : Option Dataset) (rest : Option Cvd) → cvd_in later ≡ rest → cvd_in (if t then Some d else later) ≡ (if t then Some d.cvd else rest)
 cvd_if true d later rest same = refl
 cvd_if false d later rest same = same
 
-found_in_book : (name : List ℕ) (sets : List Dataset) → cvd_of (first_set (named name) sets) ≡ first_named name (map (λ d. d.cvd) sets)
+pub found_in_book : (name : List ℕ) (sets : List Dataset) → cvd_in (first_set (named name) sets) ≡ first_named name (map (λ d. d.cvd) sets)
 found_in_book name [] = refl
 found_in_book name (d ∷ sets) = cvd_if (named name d) d (first_set (named name) sets) (first_named name (map (λ x. x.cvd) sets)) (found_in_book name sets)
 
@@ -110,7 +107,7 @@ abbrev checkout_by : Session → List ℕ → Option (List ℕ) → List ℕ →
 checkout_by s vids file name None = refuses s (no.NoCvd name)
 checkout_by s vids file name (Some cvd) = unless s (vids_refusal (length cvd.versions) [] vids) (gives s cvd (merge_of cvd vids) file)
 
-checkout_is : (s : Session) (vids : List ℕ) (file : Option (List ℕ)) (name : List ℕ) (d : Option Dataset) → checkout_deed s vids file name d ≡ checkout_by s vids file name (cvd_of d)
+checkout_is : (s : Session) (vids : List ℕ) (file : Option (List ℕ)) (name : List ℕ) (d : Option Dataset) → checkout_deed s vids file name d ≡ checkout_by s vids file name (cvd_in d)
 checkout_is s vids file name None = refl
 checkout_is s vids file name (Some d) = refl
 

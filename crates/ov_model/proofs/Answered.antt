@@ -1,6 +1,6 @@
 -- The worked examples of queries, by computing.
 use Rattle.std.proofs.Common.{◌≡◌, refl}
-use Rattle.std.specs.Prelude.{codes}
+use Rattle.std.specs.Prelude.{◌∷◌, [], codes}
 use lib.Utf8.{encode}
 use Rattle.std.specs.Fmt.{digits}
 use Rattle.std.specs.Str.{is_utf8, chars}
@@ -10,10 +10,11 @@ use Rattle.csv.specs.Writing.{escaped, fields_text, is_blank}
 use Rattle.ov_value.specs.Making.{name_refusal, column_refusal, key_refusal}
 use Rattle.ov_value.specs.Naming.{is_name, is_vid, is_column_name}
 use Rattle.ov_value.specs.Spelling.{row_spelling}
+use Rattle.ov_model.specs.Asking.{BadByte, NoQuery}
 use Rattle.ov_model.specs.Examples.{people}
-use Rattle.ov_model.specs.Questions.{AllAnswered, answered, counts, by_score, unknown, not_grouped, no_int, with_null, totals, four_versions, of_ancestors}
+use Rattle.ov_model.specs.Questions.{AllAnswered, said, answered, counts, by_score, unknown, not_grouped, no_int, with_null, totals, four_versions, of_ancestors}
 use Rattle.ov_model.specs.Replies.{line}
-use Rattle.ov_model.specs.declared.query.Src.TheVariants.{Lineage}
+use Rattle.ov_model.specs.declared.query.Src.TheVariants.{Listed, Lineage}
 use Rattle.ov_model.specs.declared.query.LineageKind.TheVariants.{Parents}
 
 counts_is-is : answered people counts ≡ codes "1,2\n2,3\n(2 rows)\n"
@@ -48,6 +49,26 @@ of_parents_is-is : answered four_versions (record counts { source = Lineage Pare
 unfolding encode digits is_utf8 chars records_from next_record strip_bom escaped fields_text is_blank is_name is_vid is_column_name name_refusal column_refusal key_refusal row_spelling line
 of_parents_is-is = refl
 
+bad_byte_is-is : said people (BadByte 7) ≡ codes "error 40: byte 7 begins no token\n"
+unfolding encode digits is_utf8 chars records_from next_record strip_bom escaped fields_text is_blank is_name is_vid is_column_name name_refusal column_refusal key_refusal row_spelling line
+bad_byte_is-is = refl
+
+no_query_is-is : said people NoQuery ≡ codes "error 41: not a query\n"
+unfolding encode digits is_utf8 chars records_from next_record strip_bom escaped fields_text is_blank is_name is_vid is_column_name name_refusal column_refusal key_refusal row_spelling line
+no_query_is-is = refl
+
+no_dataset_is-is : answered people (record unknown { source = Lineage Parents 9 (codes "towns") }) ≡ codes "error 10: no dataset towns\n"
+unfolding encode digits is_utf8 chars records_from next_record strip_bom escaped fields_text is_blank is_name is_vid is_column_name name_refusal column_refusal key_refusal row_spelling line
+no_dataset_is-is = refl
+
+no_version_is-is : answered people (record unknown { source = Lineage Parents 9 (codes "people") }) ≡ codes "error 12: no version 9\n"
+unfolding encode digits is_utf8 chars records_from next_record strip_bom escaped fields_text is_blank is_name is_vid is_column_name name_refusal column_refusal key_refusal row_spelling line
+no_version_is-is = refl
+
+repeated_is-is : answered people (record unknown { source = Listed (2 ∷ 2 ∷ 9 ∷ []) (codes "people") }) ≡ codes "error 13: version 2 is repeated\n"
+unfolding encode digits is_utf8 chars records_from next_record strip_bom escaped fields_text is_blank is_name is_vid is_column_name name_refusal column_refusal key_refusal row_spelling line
+repeated_is-is = refl
+
 pub all_answered : AllAnswered
 all_answered = record {
   counts_prints = counts_is-is;
@@ -58,4 +79,9 @@ all_answered = record {
   totals_prints = totals_is-is;
   of_ancestors_prints = of_ancestors_is-is;
   of_parents_prints = of_parents_is-is;
+  bad_byte_prints = bad_byte_is-is;
+  no_query_prints = no_query_is-is;
+  no_dataset_prints = no_dataset_is-is;
+  no_version_prints = no_version_is-is;
+  repeated_prints = repeated_is-is;
 }

@@ -1,5 +1,6 @@
 pub mod Alike
 pub mod Answered
+pub mod Asked
 pub mod Assigning
 pub mod Counting
 pub mod Courses

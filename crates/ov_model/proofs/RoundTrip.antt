@@ -1,6 +1,6 @@
 -- The text of rows is read as these rows.
-use Rattle.std.proofs.Common.{◌≡◌, ◌≢◌, ◌<◌, ◌≤◌, ◌+◌, ◌-◌, ◌^◌, ◌++◌, ◌==◌, ◌&&◌, ◌||◌, ◌⊎◌, ◌∷◌, ◌∙◌, [], ℕ, List, Bool, Option, Some, None, refl, sym, ap, subst, zero, suc, true, false, length, get_or, take, inl, inr, arith, rules, add-one, append_assoc, length-append, lit<, w64}
-use Rattle.std.specs.Prelude.{ℤ, pos, negsuc, nat_eq, nat_lt, nat_le, Result, Ok, Err, if◌then◌else◌, not, codes, map, IsTrue, IsUtf8}
+use Rattle.std.proofs.Common.{◌≡◌, ◌≢◌, ◌<◌, ◌≤◌, ◌+◌, ◌^◌, ◌++◌, ◌==◌, ◌&&◌, ◌||◌, ◌⊎◌, ◌∷◌, ◌∙◌, [], ℕ, List, Bool, Some, None, refl, sym, ap, subst, zero, suc, true, false, length, get_or, inl, inr, arith, rules, add-one, length-append, lit<, w64}
+use Rattle.std.specs.Prelude.{ℤ, pos, negsuc, nat_eq, nat_lt, Ok, map, IsTrue, IsUtf8}
 use lib.Utf8.{encode}
 use Rattle.std.specs.Char.{digit_value}
 use Rattle.std.specs.Int.{is_in_range}
@@ -8,16 +8,15 @@ use Rattle.std.specs.Cmp.Lexicographic.{pointwise, nat_list_eq_equiv}
 use Rattle.std.specs.Fmt.{decimal, signed_decimal}
 use Rattle.std.specs.Int.RustNames.{FitsSigned}
 use Rattle.std.specs.List.{All, flat_map, list_all, list_any}
-use Rattle.std.specs.Option.{option_or}
 use Rattle.std.specs.Str.{is_utf8, chars}
-use Rattle.std.specs.Str.Parse.{AllDigits, IsNumeral, digits_value, without_leading_sign, signed_digits_value}
-use Rattle.std.proofs.lemmas.Bool.{cases_Bool, eqb-true, eq-eqb, ne_eqb, ltb-true, lt-ltb, le-ltb, leb-true}
+use Rattle.std.specs.Str.Parse.{AllDigits, IsNumeral, digits_value}
+use Rattle.std.proofs.lemmas.Bool.{cases_Bool, eqb-true, eq-eqb, ne_eqb, lt-ltb, le-ltb, leb-true}
 use Rattle.std.proofs.lemmas.Fmt.{IsAscii-signed, decimal_is_IsNumeral}
 use Rattle.std.proofs.lemmas.Str.{IsUtf8-from_ascii, is_utf8-from_IsUtf8}
 use Rattle.std.proofs.lemmas.Str.Parse.{digit_from_value}
 use Rattle.csv.specs.Machine.{next_record}
-use Rattle.csv.specs.Reading.{default_config, records, records_from, records_next, strip_bom}
-use Rattle.csv.specs.Writing.{default_writer, escaped, field_text, fields_text, needs_byte, read_back, row_text}
+use Rattle.csv.specs.Reading.{default_config, records, records_from, strip_bom}
+use Rattle.csv.specs.Writing.{default_writer, escaped, field_text, needs_byte, read_back, row_text}
 use Rattle.csv.specs.declared.parser.State.TheVariants as st
 use Rattle.csv.proofs.RoundTrip.{read-write}
 use Rattle.ov_value.specs.declared.column.Column.{Column}
@@ -30,8 +29,7 @@ use Rattle.ov_value.specs.Rows.{HasKinds, IsOfKind, is_null, value_at}
 use Rattle.ov_value.specs.Shapes.{IsSound, Shape, names}
 use Rattle.ov_value.specs.Spelling.{IsRow, IsTyped, row_spelling}
 use Rattle.ov_model.specs.Book.{Row}
-use Rattle.ov_model.specs.Csv.{bad_field, begins_with_mark, field_of, field_value, fields_of, int_value, is_64_bits, is_null_mark, is_numeral, long_row, null_key, row_in, row_refusal, rows_from, rows_of, table_of, text_field, text_of, text_value}
-use Rattle.ov_model.specs.declared.refusal.Refusal.{Refusal}
+use Rattle.ov_model.specs.Csv.{bad_field, begins_with_mark, field_of, field_value, fields_of, int_value, is_null_mark, is_numeral, null_key, row_in, row_refusal, rows_from, rows_of, table_of, text_field, text_of, text_value}
 
 and-left : (a b : Bool) → (a && b) ≡ true → a ≡ true
 and-left true b e = refl

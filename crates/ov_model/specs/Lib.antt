@@ -1,5 +1,6 @@
 pub mod Act
 pub mod Answers
+pub mod Asking
 pub mod Assigned
 pub mod Book
 pub mod Course

@@ -1,39 +1,24 @@
 -- Worked examples of queries, each with what it prints over a few small versions, as it was worked out by hand. That they print
 -- just this is proved by computing it.
-use Rattle.std.specs.Prelude.{◌≡◌, ℕ, ◌∷◌, ◌++◌, [], List, true, false, length, Option, Some, None, Result, Ok, Err, codes}
-use Rattle.ov_value.specs.declared.column.Kind.{Kind}
-use Rattle.ov_model.specs.declared.answer.Cell.{Cell}
-use Rattle.ov_model.specs.Answers.{answer, answer_text, pairs}
-use Rattle.ov_model.specs.Book.{Cvd}
+use Rattle.std.specs.Prelude.{◌≡◌, ℕ, ◌∷◌, ◌++◌, [], List, true, false, Some, None, codes}
+use Rattle.ov_model.specs.Asking.{Asked, BadByte, NoQuery, AsksQuery, run_deed}
 use Rattle.ov_model.specs.Examples.{people, served_all}
-use Rattle.ov_model.specs.Kinds.{kinds}
-use Rattle.ov_model.specs.Lineages.{relatives}
 use Rattle.ov_model.specs.Replies.{reply_text}
-use Rattle.ov_model.specs.World.{Dataset, set_named}
 use Rattle.ov_model.specs.declared.query.Query.{Query}
 use Rattle.ov_model.specs.declared.query.Items.TheVariants.{Everything, Terms}
-use Rattle.ov_model.specs.declared.query.Src.TheVariants.{Whole, Lineage}
+use Rattle.ov_model.specs.declared.query.Src.TheVariants.{Listed, Whole, Lineage}
 use Rattle.ov_model.specs.declared.query.LineageKind.TheVariants.{Parents, Ancestors}
 use Rattle.ov_model.specs.declared.query.Col.TheVariants.{Vid, Name}
 use Rattle.ov_model.specs.declared.query.Term.{Term}
 use Rattle.ov_model.specs.declared.query.Term.TheVariants as term
-use Rattle.ov_model.specs.declared.refusal.Refusal.{Refusal}
-use Rattle.ov_model.specs.declared.reply.Reply.TheVariants as says
 
--- the reply to a query, given the kinds of its columns or its refusal
-abbrev pub replied : Query → Cvd → Result (List Kind) Refusal → List ℕ
-replied query cvd (Err refusal) = reply_text (says.Refused refusal)
-replied query cvd (Ok kinds) =
-    let rows : List (List Cell) = answer query cvd.schema (relatives cvd) (pairs (relatives cvd) cvd query.source)
-    in reply_text (says.Answer (answer_text kinds rows) (length rows))
+-- what a text that asks this prints behind a script that makes `people`
+abbrev pub said : List ℕ → Asked → List ℕ
+said script asked = reply_text (run_deed (served_all script).world (served_all script).session asked).reply
 
-abbrev pub asked : Query → Option Dataset → List ℕ
-asked query None = []
-asked query (Some d) = replied query d.cvd (kinds query d.cvd.schema)
-
--- what a query prints behind a script that makes `people`
+-- what a query prints there
 abbrev pub answered : List ℕ → Query → List ℕ
-answered script query = asked query (set_named (served_all script).world (codes "people"))
+answered script query = said script (AsksQuery query)
 
 abbrev pub of_all : Query
 of_all = record { items = Everything; source = Whole (codes "people"); filter = None; groups = []; having = None; order = []; limit = None }
@@ -94,3 +79,8 @@ pub record AllAnswered : Type 0 where
   pub totals_prints : answered with_null totals ≡ codes "3,2,25,\\\\N\n(1 rows)\n"
   pub of_ancestors_prints : answered four_versions of_ancestors ≡ codes "1,2\n2,3\n(2 rows)\n"
   pub of_parents_prints : answered four_versions (record counts { source = Lineage Parents 1 (codes "people") }) ≡ codes "(0 rows)\n"
+  pub bad_byte_prints : said people (BadByte 7) ≡ codes "error 40: byte 7 begins no token\n"
+  pub no_query_prints : said people NoQuery ≡ codes "error 41: not a query\n"
+  pub no_dataset_prints : answered people (record unknown { source = Lineage Parents 9 (codes "towns") }) ≡ codes "error 10: no dataset towns\n"
+  pub no_version_prints : answered people (record unknown { source = Lineage Parents 9 (codes "people") }) ≡ codes "error 12: no version 9\n"
+  pub repeated_prints : answered people (record unknown { source = Listed (2 ∷ 2 ∷ 9 ∷ []) (codes "people") }) ≡ codes "error 13: version 2 is repeated\n"

@@ -6,6 +6,7 @@
 #![tactic(auto)]
 
 mod answer;
+mod asking;
 mod command;
 mod conditions;
 mod course;
@@ -21,6 +22,7 @@ mod reply;
 mod round_trip;
 
 pub use answer::{Answer, Cell};
+pub use asking::{an_answer_is_of_the_book, lineages_by_cases};
 pub use command::Command;
 pub use conditions::{comparisons_by_cases, truth_by_cases};
 pub use course::{

@@ -16,7 +16,7 @@ mod stop;
 mod symbols;
 mod term;
 
-pub use laws::one_query;
+pub use laws::{a_text_asks_one_thing, one_query};
 pub use parsing::{ParseErr, parse};
 
 #[cfg(test)]
