@@ -1,0 +1,3 @@
+pub mod CourseLines
+pub mod CourseMoves
+pub mod CourseNumbers

@@ -1,0 +1,10 @@
+//! Laws of partitions, plans and steps: what holds of them in every World of a run.
+//!
+//! The laws are the contracts of functions that do nothing, about the definitions of `ov_model`.
+#![tactic(auto)]
+
+mod courses;
+
+pub use courses::{
+    lines_name_parents, moves_of_a_course_are_due, worlds_of_a_course_keep_their_partitions,
+};
