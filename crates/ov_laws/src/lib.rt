@@ -4,7 +4,12 @@
 #![tactic(auto)]
 
 mod courses;
+mod plans;
 
 pub use courses::{
     lines_name_parents, moves_of_a_course_are_due, worlds_of_a_course_keep_their_partitions,
+};
+pub use plans::{
+    a_waiting_partition_takes_no_version, partitions_are_old_or_new,
+    partitions_are_tight_where_no_plan_runs,
 };

@@ -1,0 +1,41 @@
+// Laws of plans.
+ghost use Rattle.std.specs.Prelude.{◌≡◌, ◌≤◌, ℕ, true, false, List, None};
+ghost use Rattle.ov_place.specs.declared.place_facts.Place.TheVariants.{Join};
+ghost use Rattle.ov_model.specs.Act.{Session};
+ghost use Rattle.ov_model.specs.Book.{Version};
+ghost use Rattle.ov_model.specs.Course.{Space, course, world_at};
+ghost use Rattle.ov_model.specs.Forms.{Form};
+ghost use Rattle.ov_model.specs.Lists.{IsIn};
+ghost use Rattle.ov_model.specs.Moves.{Move, moved, placed_at, with_version};
+ghost use Rattle.ov_model.specs.Placed.{HasParents, IsPlaced, times};
+ghost use Rattle.ov_model.specs.Plans.{flipped};
+ghost use Rattle.ov_model.specs.World.{Dataset, Part, World, empty_world, is_unmoved};
+ghost use Rattle.ov_laws.specs.Courses.{HasPartitions, IsDue, NameParents};
+ghost use Rattle.ov_laws.specs.OldOrNew.{AllTight, AreOldOrNew, IsOldOrNew};
+
+/// While a plan runs, all versions of a partition wait in targets that weren't flipped yet, or none does, and then the partition
+/// keeps the records of its own versions alone.
+pub fn partitions_are_old_or_new()
+    ensures start { AreOldOrNew empty_world.sets }
+    ensures kept { (m : Move) (w : World) → IsDue m w → HasPartitions w → AreOldOrNew w.sets → AreOldOrNew (moved m w).sets }
+    ensures course { (forms : List Form) (steps : ℕ) (w : World) (s : Session) (lines : List (List ℕ)) (space : Space) → NameParents forms → HasPartitions w
+        → AreOldOrNew w.sets → (k : ℕ) → AreOldOrNew (world_at w (course forms steps w s lines space).items k).sets }
+{}
+
+/// A partition takes no version while a plan runs that has one of its versions in a target not yet flipped: it stays as it is.
+pub fn a_waiting_partition_takes_no_version()
+    ensures joined { (d : Dataset) (v : Version) (id : ℕ) → IsPlaced d → IsOldOrNew d → HasParents v.parents d → placed_at d v ≡ Join id
+        → (part : Part) → IsIn d.parts part → part.id ≡ id → (vid : ℕ) → 1 ≤ times part.versions vid → is_unmoved d.plan vid ≡ false }
+    ensures stays { (d : Dataset) (v : Version) → IsPlaced d → IsOldOrNew d → HasParents v.parents d
+        → (part : Part) (vid : ℕ) → IsIn d.parts part → 1 ≤ times part.versions vid → is_unmoved d.plan vid ≡ true → IsIn (with_version v d).parts part }
+{}
+
+/// Where no plan of a dataset runs, each of its partitions keeps the records of its own versions alone. So it is after any flip
+/// that ends a plan.
+pub fn partitions_are_tight_where_no_plan_runs()
+    ensures idle { (d : Dataset) → IsOldOrNew d → d.plan ≡ None → AllTight d.parts }
+    ensures last_flip { (d : Dataset) → IsOldOrNew d → (flipped d).plan ≡ None → AllTight (flipped d).parts }
+    ensures course { (forms : List Form) (steps : ℕ) (w : World) (s : Session) (lines : List (List ℕ)) (space : Space) → NameParents forms → HasPartitions w
+        → AreOldOrNew w.sets → (k : ℕ) (d : Dataset) → IsIn (world_at w (course forms steps w s lines space).items k).sets d → d.plan ≡ None
+        → AllTight d.parts }
+{}
