@@ -1,6 +1,8 @@
 pub mod CourseLines
 pub mod CourseMoves
 pub mod CourseNumbers
+pub mod PlanFlips
+pub mod PlanMoves
 pub mod PlanParts
 pub mod OldMoves
 pub mod OldParts

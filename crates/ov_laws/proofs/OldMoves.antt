@@ -19,7 +19,7 @@ use Rattle.ov_model.specs.World.{Part, Target, Plan, Dataset, World, held, is_on
 use Rattle.ov_model.proofs.Counting.{one_if, one_same, filter_times, gone_times, listed, not_listed, range_versions, times-append}
 use Rattle.ov_model.proofs.Growing.{length_recs}
 use Rattle.ov_laws.specs.Courses.{IsDue, HasPartitions}
-use Rattle.ov_laws.specs.OldOrNew.{target_times, IsRunning, Runs, IsNew, IsOldOrNew, AreOldOrNew}
+use Rattle.ov_laws.specs.OldOrNew.{target_times, IsRunning, Runs, IsOld, IsNew, IsOldOrNew, AreOldOrNew}
 use Rattle.ov_laws.proofs.OldParts.{Either, Waits, in_append, in_map, in_filter, single, waits, waits_not, from_first, from_at, from_past, from_fewer, in_at, moved_past, joins_new}
 use Rattle.ov_laws.proofs.PlanParts.{parts_times, parts_full, targets_times, targets_full, vid_once}
 
@@ -172,25 +172,32 @@ some_target : (ts : List Target) → 1 ≤ target_times ts 1 → 0 < length ts
 some_target [] some = absurd (omega (arith, some))
 some_target (t ∷ ts) some = omega arith
 
-planned_old : (p q : ℕ) (d : Dataset) → IsHeld d → IsOldOrNew d → IsOldOrNew (planned p q d)
-planned_old p q d holds is =
-    let count : ℕ = length d.cvd.versions
-    in let targets : List Target = targets_of d (parts_at d p q)
-    in let all : (vid : ℕ) → target_times targets vid ≡ times (vids count) vid = λ vid. targets_times d (parts_at d p q) vid ∙ parts_times d p q vid
-    in let number : length (recs d.cvd.versions []) ≡ count = length_recs d.cvd.versions [] ∙ omega arith
-    in record {
-      begun = is.begun;
-      runs = record {
-        waits = some_target targets (omega (arith, all 1, vid_once count 1 (omega arith) (omega (arith, is.begun))));
-        some = targets_full d (parts_at d p q) (parts_full d p q);
-        once = λ vid. omega (arith, all vid, (range_versions count).once vid);
-      };
-      some = is.some;
-      either = λ part there. inl (λ vid some.
-          let is_there = there_of (recs d.cvd.versions []) part.versions (held part) vid (part_versions (recs d.cvd.versions []) d.parts part holds there) some
-          in ap (λ ts. Waits ts vid) (from_first targets)
-          ∙ waits targets vid (omega (arith, all vid, vid_once count vid is_there.0 (omega (arith, number, is_there.1)))));
-    }
+-- every partition waits when a plan begins
+module _ (p q : ℕ) (d : Dataset) (holds : IsHeld d) (is : IsOldOrNew d) where
+  abbrev begun_with : List Target
+  begun_with = targets_of d (parts_at d p q)
+
+  all_times : (vid : ℕ) → target_times begun_with vid ≡ times (vids (length d.cvd.versions)) vid
+  all_times vid = targets_times d (parts_at d p q) vid ∙ parts_times d p q vid
+
+  pub planned_waits : (part : Part) → IsIn d.parts part → IsOld (planned p q d).plan part
+  planned_waits part there vid some =
+      let number : length (recs d.cvd.versions []) ≡ length d.cvd.versions = length_recs d.cvd.versions [] ∙ omega arith
+      in let is_there = there_of (recs d.cvd.versions []) part.versions (held part) vid (part_versions (recs d.cvd.versions []) d.parts part holds there) some
+      in ap (λ ts. Waits ts vid) (from_first begun_with)
+      ∙ waits begun_with vid (omega (arith, all_times vid, vid_once (length d.cvd.versions) vid is_there.0 (omega (arith, number, is_there.1))))
+
+  planned_old : IsOldOrNew (planned p q d)
+  planned_old = record {
+    begun = is.begun;
+    runs = record {
+      waits = some_target begun_with (omega (arith, all_times 1, vid_once (length d.cvd.versions) 1 (omega arith) (omega (arith, is.begun))));
+      some = targets_full d (parts_at d p q) (parts_full d p q);
+      once = λ vid. omega (arith, all_times vid, (range_versions (length d.cvd.versions)).once vid);
+    };
+    some = is.some;
+    either = λ part there. inl (planned_waits part there);
+  }
 
 -- ---- a copy
 
@@ -267,8 +274,8 @@ module _ (d : Dataset) (plan : Plan) (runs : IsRunning plan) where
       ap (λ ts. target_times ts vid) (from_at plan.at plan.targets runs.waits)
       in waits_not later vid (omega (arith, all, some, from_fewer plan.at plan.targets vid, runs.once vid))
 
-  left_either : (part : Part) → Either (Some plan) part → Either (next_target plan) (leaving moving part)
-  left_either part (inl old) = inl (λ vid some.
+  pub left_old : (part : Part) → IsOld (Some plan) part → IsOld (next_target plan) (leaving moving part)
+  left_old part old vid some =
       let still : is_one moving vid ≡ false =
       elim (cases_Bool (is_one moving vid)) [
         | inl gone ↦ absurd (omega (arith, some, gone_times moving part.versions vid gone))
@@ -276,19 +283,31 @@ module _ (d : Dataset) (plan : Plan) (runs : IsRunning plan) where
       ]
       in next_waits vid
       ∙ or_later (is_one moving vid) (Waits later vid) still
-      (sym (now_waits vid) ∙ old vid (omega (arith, some, filter_times (λ v. not (is_one moving v)) part.versions vid))))
-  left_either part (inr new) =
-      let none : (vid : ℕ) → 1 ≤ times part.versions vid → (is_one moving vid ≡ false) × (Waits later vid ≡ false) =
-      λ vid some. or_none (is_one moving vid) (Waits later vid) (sym (now_waits vid) ∙ new.moved vid some)
-      in inr (record {
-        moved = λ vid some. next_waits vid ∙ (none vid (omega (arith, some, filter_times (λ v. not (is_one moving v)) part.versions vid))).1;
-        tight = new.tight ∙ sym (keep_all moving part.versions (λ vid some. (none vid some).0));
-      })
+      (sym (now_waits vid) ∙ old vid (omega (arith, some, filter_times (λ v. not (is_one moving v)) part.versions vid)))
+
+  none_leaves : (part : Part) → IsNew (Some plan) part → (vid : ℕ) → 1 ≤ times part.versions vid → (is_one moving vid ≡ false) × (Waits later vid ≡ false)
+  none_leaves part new vid some = or_none (is_one moving vid) (Waits later vid) (sym (now_waits vid) ∙ new.moved vid some)
+
+  pub none_left : (part : Part) → IsNew (Some plan) part → (leaving moving part).versions ≡ part.versions
+  none_left part new = keep_all moving part.versions (λ vid some. (none_leaves part new vid some).0)
+
+  pub still_new : (part : Part) → IsNew (Some plan) part → IsNew (next_target plan) part
+  still_new part new = record { moved = λ vid some. next_waits vid ∙ (none_leaves part new vid some).1; tight = new.tight }
+
+  left_either : (part : Part) → Either (Some plan) part → Either (next_target plan) (leaving moving part)
+  left_either part (inl old) = inl (left_old part old)
+  left_either part (inr new) = inr (record {
+    moved = λ vid some. next_waits vid ∙ (none_leaves part new vid (omega (arith, some, filter_times (λ v. not (is_one moving v)) part.versions vid))).1;
+    tight = new.tight ∙ sym (none_left part new);
+  })
+
+  pub target_new : IsNew (next_target plan) (target_part d plan)
+  target_new = record { moved = λ vid some. next_waits vid ∙ once_now vid some; tight = refl }
 
   target_some : IsSome (next_target plan) (target_part d plan)
   target_some = (
     runs.some (current plan) (in_at plan.at plan.targets runs.waits),
-    inr (record { moved = λ vid some. next_waits vid ∙ once_now vid some; tight = refl }),
+    inr target_new,
   )
 
   flip_some : IsOldOrNew d → d.plan ≡ Some plan → (part : Part) → IsIn (flipped_by d (Some plan)).parts part → IsSome (next_target plan) part

@@ -126,7 +126,7 @@ in_at zero (t ∷ ts) low = inl refl
 in_at (suc k) (t ∷ ts) low = inr (in_at k ts (omega (arith, low)))
 
 -- a version that isn't there doesn't wait
-targets_past : (count : ℕ) (ts : List Target) (vid : ℕ) → TargetsAre count ts → count < vid → target_times ts vid ≡ 0
+pub targets_past : (count : ℕ) (ts : List Target) (vid : ℕ) → TargetsAre count ts → count < vid → target_times ts vid ≡ 0
 targets_past count [] vid are past = refl
 targets_past count (t ∷ ts) vid are past =
     elim (cases_Bool (is_one t.versions vid)) [

@@ -75,10 +75,10 @@ last_tight d is e = idle_tight (flipped d) (flip_old d d.plan refl is) e
 
 -- ---- in every World of a course
 
-abbrev Both : World → Type 0
+abbrev pub Both : World → Type 0
 Both w = HasPartitions w × AreOldOrNew w.sets
 
-both_kept : (m : Move) (w : World) → IsDue m w → Both w → Both (moved m w)
+pub both_kept : (m : Move) (w : World) → IsDue m w → Both w → Both (moved m w)
 both_kept m w due has = (partitions_kept m w due has.0, moved_old m w due has.0 has.1)
 
 pub old_at : (forms : List Form) (n : ℕ) (w : World) (s : Session) (lines : List (List ℕ)) (space : Space) → NameParents forms → HasPartitions w → AreOldOrNew w.sets → (k : ℕ)

@@ -1,5 +1,5 @@
 // Laws of plans.
-ghost use Rattle.std.specs.Prelude.{◌≡◌, ◌≤◌, ℕ, true, false, List, None};
+ghost use Rattle.std.specs.Prelude.{◌≡◌, ◌≤◌, ℕ, true, false, List, Some, None};
 ghost use Rattle.ov_place.specs.declared.place_facts.Place.TheVariants.{Join};
 ghost use Rattle.ov_model.specs.Act.{Session};
 ghost use Rattle.ov_model.specs.Book.{Version};
@@ -8,10 +8,11 @@ ghost use Rattle.ov_model.specs.Forms.{Form};
 ghost use Rattle.ov_model.specs.Lists.{IsIn};
 ghost use Rattle.ov_model.specs.Moves.{Move, moved, placed_at, with_version};
 ghost use Rattle.ov_model.specs.Placed.{HasParents, IsPlaced, times};
-ghost use Rattle.ov_model.specs.Plans.{flipped};
-ghost use Rattle.ov_model.specs.World.{Dataset, Part, World, empty_world, is_unmoved};
+ghost use Rattle.ov_model.specs.Plans.{copied_more, flipped, planned};
+ghost use Rattle.ov_model.specs.World.{Dataset, Part, Plan, World, empty_world, is_unmoved};
 ghost use Rattle.ov_laws.specs.Courses.{HasPartitions, IsDue, NameParents};
 ghost use Rattle.ov_laws.specs.OldOrNew.{AllTight, AreOldOrNew, IsOldOrNew};
+ghost use Rattle.ov_laws.specs.PlanEnds.{ArePlanned, HasAllVersions, IsPlanned, IsSplit, PlanHasAll};
 
 /// While a plan runs, all versions of a partition wait in targets that weren't flipped yet, or none does, and then the partition
 /// keeps the records of its own versions alone.
@@ -38,4 +39,22 @@ pub fn partitions_are_tight_where_no_plan_runs()
     ensures course { (forms : List Form) (steps : ℕ) (w : World) (s : Session) (lines : List (List ℕ)) (space : Space) → NameParents forms → HasPartitions w
         → AreOldOrNew w.sets → (k : ℕ) (d : Dataset) → IsIn (world_at w (course forms steps w s lines space).items k).sets d → d.plan ≡ None
         → AllTight d.parts }
+{}
+
+/// A plan has all versions of its dataset where no commit came since it began.
+pub fn a_plan_has_all_versions_until_a_commit()
+    ensures begun { (p q : ℕ) (d : Dataset) → PlanHasAll (planned p q d) }
+    ensures copied { (d : Dataset) → PlanHasAll d → PlanHasAll (copied_more d) }
+    ensures flipped { (d : Dataset) → PlanHasAll d → PlanHasAll (flipped d) }
+{}
+
+/// After the last flip of a plan that has all versions, the partitions, by number, are the parts of the split in order, each
+/// tight.
+pub fn a_finished_plan_is_the_split()
+    ensures start { ArePlanned empty_world.sets }
+    ensures kept { (m : Move) (w : World) → IsDue m w → HasPartitions w → AreOldOrNew w.sets → ArePlanned w.sets → ArePlanned (moved m w).sets }
+    ensures course { (forms : List Form) (steps : ℕ) (w : World) (s : Session) (lines : List (List ℕ)) (space : Space) → NameParents forms → HasPartitions w
+        → AreOldOrNew w.sets → ArePlanned w.sets → (k : ℕ) → ArePlanned (world_at w (course forms steps w s lines space).items k).sets }
+    ensures last_flip { (d : Dataset) (plan : Plan) → IsOldOrNew d → IsPlanned d → d.plan ≡ Some plan → HasAllVersions d plan → (flipped d).plan ≡ None
+        → IsSplit (flipped d) plan.p plan.q }
 {}
