@@ -1,8 +1,11 @@
 pub mod CourseLines
 pub mod CourseMoves
 pub mod CourseNumbers
+pub mod PlanBounds
+pub mod PlanCounts
 pub mod PlanFlips
 pub mod PlanMoves
+pub mod PlanNodes
 pub mod PlanParts
 pub mod OldMoves
 pub mod OldParts

@@ -86,7 +86,7 @@ pub old_at : (forms : List Form) (n : ℕ) (w : World) (s : Session) (lines : Li
 old_at forms n w s lines space names has are k =
     (due_at Both both_kept w (course forms n w s lines space).items k (course_due forms n w s lines space names has.numbered) (has, are)).1
 
-old_in : (sets : List Dataset) (d : Dataset) → AreOldOrNew sets → IsIn sets d → IsOldOrNew d
+pub old_in : (sets : List Dataset) (d : Dataset) → AreOldOrNew sets → IsIn sets d → IsOldOrNew d
 old_in [] d are is = absurd is
 old_in (x ∷ sets) d are (inl same) = subst IsOldOrNew (sym same) are.0
 old_in (x ∷ sets) d are (inr later) = old_in sets d are.1 later

@@ -1,5 +1,5 @@
 -- Each move keeps what a plan makes of partitions, their order by number, and parents before their versions.
-use Rattle.std.proofs.Common.{◌≡◌, ◌≤◌, ◌<◌, ℕ, ◌+◌, Bool, true, false, ◌==◌, List, [], ◌∷◌, ◌++◌, length, map, filter, refl, sym, ap, subst, arith, append-nil}
+use Rattle.std.proofs.Common.{◌≡◌, ◌≤◌, ◌<◌, ℕ, ◌+◌, Bool, true, false, ◌==◌, List, [], ◌∷◌, ◌++◌, length, map, filter, refl, sym, ap, subst, inl, inr, arith, append-nil}
 use Rattle.std.specs.Prelude.{not, nat_lt, if◌then◌else◌, Option, Some, None}
 use Rattle.std.proofs.lemmas.List.{length-append, length-map}
 use Rattle.std.proofs.lemmas.Bool.{eqb-true}
@@ -12,6 +12,7 @@ use Rattle.ov_model.specs.Book.{Row, Version}
 use Rattle.ov_model.specs.Course.{Space, course, world_at}
 use Rattle.ov_model.specs.Forms.{Form}
 use Rattle.ov_model.specs.Holding.{IsHeld, AreHeld}
+use Rattle.ov_model.specs.Lists.{IsIn}
 use Rattle.ov_model.specs.Moves.{Move, Init, Commit, BeginPlan, Copy, Flip, Drop, Checkpoint, moved, change, numbered, committed, with_version, version_of, wide, wide_part, wide_version, placed_at, parts_with, next_with, with_joined, own_part, new_set}
 use Rattle.ov_model.specs.Placed.{PlanIs, IsPlaced, ArePlaced, AreThere, HasParents, AllHaveParents}
 use Rattle.ov_model.specs.Plans.{parts_at, targets_of, planned, current, copied_for, copied_more, leaving, left_parts, target_part, next_target, flipped_by, flipped}
@@ -23,7 +24,7 @@ use Rattle.ov_laws.specs.PlanEnds.{listed_by, HasAllVersions, HasAllIn, PlanHasA
 use Rattle.ov_laws.proofs.CourseMoves.{course_due, due_at}
 use Rattle.ov_laws.proofs.OldMoves.{flip_old, planned_waits, wide_placed}
 use Rattle.ov_laws.proofs.OldParts.{targets_past}
-use Rattle.ov_laws.proofs.OldTight.{idle_tight, Both, both_kept}
+use Rattle.ov_laws.proofs.OldTight.{idle_tight, old_at, old_in, Both, both_kept}
 use Rattle.ov_laws.proofs.PlanFlips.{next_splits, last_split}
 use Rattle.ov_laws.proofs.PlanParts.{parts_times, targets_times, vid_once}
 
@@ -268,9 +269,12 @@ flipped_has_all d all = flipped_has_by d d.plan refl all
 finished_by : (d : Dataset) (plan : Plan) → d.plan ≡ Some plan → IsOldOrNew d → IsPlanned d → HasAllVersions d plan → next_target plan ≡ None → IsSplit (flipped_by d (Some plan)) plan.p plan.q
 finished_by d plan e old planned all ends =
     let after : IsOldOrNew (flipped_by d (Some plan)) = flip_old d (Some plan) e old
+    in let splits : IsSplitting d plan = subst (Splits d) e planned.splits all
     in record {
+      from_one = splits.from_one;
+      up_to_q = splits.up_to_q;
       by_number = (flip_planned d (Some plan) e old planned).by_number;
-      are = last_split d plan (subst Runs e old.runs) old.some (subst (Splits d) e planned.splits all) ends after.some;
+      are = last_split d plan (subst Runs e old.runs) old.some splits ends after.some;
       tight = idle_tight (flipped_by d (Some plan)) after ends;
     }
 
@@ -278,3 +282,17 @@ pub finished : (d : Dataset) (plan : Plan) → IsOldOrNew d → IsPlanned d → 
 finished d plan old planned e all ends =
     subst (λ found. IsSplit (flipped_by d found) plan.p plan.q) (sym e)
     (finished_by d plan e old planned all (subst (λ found. (flipped_by d found).plan ≡ None) e ends))
+
+planned_in : (sets : List Dataset) (d : Dataset) → ArePlanned sets → IsIn sets d → IsPlanned d
+planned_in [] d are is = absurd is
+planned_in (x ∷ sets) d are (inl same) = subst IsPlanned (sym same) are.0
+planned_in (x ∷ sets) d are (inr later) = planned_in sets d are.1 later
+
+pub finished_at : (forms : List Form) (n : ℕ) (w : World) (s : Session) (lines : List (List ℕ)) (space : Space) → NameParents forms → HasPartitions w → AreOldOrNew w.sets → ArePlanned w.sets
+    → (k : ℕ) (d : Dataset) (plan : Plan) → IsIn (world_at w (course forms n w s lines space).items k).sets d → d.plan ≡ Some plan → HasAllVersions d plan → (flipped d).plan ≡ None
+    → IsSplit (flipped d) plan.p plan.q
+finished_at forms n w s lines space names has old are k d plan there e all ends =
+    finished d plan
+    (old_in (world_at w (course forms n w s lines space).items k).sets d (old_at forms n w s lines space names has old k) there)
+    (planned_in (world_at w (course forms n w s lines space).items k).sets d (planned_at forms n w s lines space names has old are k) there)
+    e all ends

@@ -67,7 +67,7 @@ keyed_if true false n m rest vs vss vid e is = cc
 keyed_if false true n m rest vs vss vid e is = cc
 keyed_if false false n m rest vs vss vid e is = let more : (0 + n) * times vs vid ≡ n * times vs vid = grind arith in omega (arith, is, more)
 
-same_eqb : (a b : ℕ) → (a == b) ≡ (b == a)
+pub same_eqb : (a b : ℕ) → (a == b) ≡ (b == a)
 same_eqb a b =
     elim (cases_Bool (a == b)) [
       | inl same ↦ same ∙ sym (eq-eqb b a (sym (eqb-true a b same)))

@@ -1,3 +1,4 @@
 pub mod Courses
 pub mod OldOrNew
+pub mod PlanBounds
 pub mod PlanEnds

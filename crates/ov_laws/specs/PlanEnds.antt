@@ -71,8 +71,10 @@ abbrev pub ArePlanned : List Dataset → Type 0
 ArePlanned [] = Unit {0}
 ArePlanned (d ∷ sets) = IsPlanned d × ArePlanned sets
 
--- partitions by number, each tight, are the parts of the split in order
+-- partitions by number, each tight, are the parts of the split in order, at a threshold up to 1
 pub record IsSplit (d : Dataset) (p q : ℕ) : Type 0 where
+  pub from_one : 1 ≤ p
+  pub up_to_q : p ≤ q
   pub by_number : AreByNumber 1 d.next_part d.parts
   pub are : versions_of d.parts ≡ parts_at d p q
   pub tight : AllTight d.parts

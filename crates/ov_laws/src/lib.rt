@@ -10,7 +10,7 @@ pub use courses::{
     lines_name_parents, moves_of_a_course_are_due, worlds_of_a_course_keep_their_partitions,
 };
 pub use plans::{
-    a_finished_plan_is_the_split, a_plan_has_all_versions_until_a_commit,
-    a_waiting_partition_takes_no_version, partitions_are_old_or_new,
-    partitions_are_tight_where_no_plan_runs,
+    a_finished_plan_is_the_split, a_finished_plan_meets_the_bounds,
+    a_plan_has_all_versions_until_a_commit, a_waiting_partition_takes_no_version,
+    partitions_are_old_or_new, partitions_are_tight_where_no_plan_runs,
 };

@@ -1,5 +1,5 @@
 // Laws of plans.
-ghost use Rattle.std.specs.Prelude.{◌≡◌, ◌≤◌, ℕ, true, false, List, Some, None};
+ghost use Rattle.std.specs.Prelude.{◌≡◌, ◌≤◌, ◌<◌, ℕ, true, false, List, Some, None, length};
 ghost use Rattle.ov_place.specs.declared.place_facts.Place.TheVariants.{Join};
 ghost use Rattle.ov_model.specs.Act.{Session};
 ghost use Rattle.ov_model.specs.Book.{Version};
@@ -9,9 +9,11 @@ ghost use Rattle.ov_model.specs.Lists.{IsIn};
 ghost use Rattle.ov_model.specs.Moves.{Move, moved, placed_at, with_version};
 ghost use Rattle.ov_model.specs.Placed.{HasParents, IsPlaced, times};
 ghost use Rattle.ov_model.specs.Plans.{copied_more, flipped, planned};
+ghost use Rattle.ov_model.specs.Records.{AllRise};
 ghost use Rattle.ov_model.specs.World.{Dataset, Part, Plan, World, empty_world, is_unmoved};
 ghost use Rattle.ov_laws.specs.Courses.{HasPartitions, IsDue, NameParents};
 ghost use Rattle.ov_laws.specs.OldOrNew.{AllTight, AreOldOrNew, IsOldOrNew};
+ghost use Rattle.ov_laws.specs.PlanBounds.{AreExact, IsBounded};
 ghost use Rattle.ov_laws.specs.PlanEnds.{ArePlanned, HasAllVersions, IsPlanned, IsSplit, PlanHasAll};
 
 /// While a plan runs, all versions of a partition wait in targets that weren't flipped yet, or none does, and then the partition
@@ -57,4 +59,14 @@ pub fn a_finished_plan_is_the_split()
         → AreOldOrNew w.sets → ArePlanned w.sets → (k : ℕ) → ArePlanned (world_at w (course forms steps w s lines space).items k).sets }
     ensures last_flip { (d : Dataset) (plan : Plan) → IsOldOrNew d → IsPlanned d → d.plan ≡ Some plan → HasAllVersions d plan → (flipped d).plan ≡ None
         → IsSplit (flipped d) plan.p plan.q }
+    ensures at_each_world { (forms : List Form) (steps : ℕ) (w : World) (s : Session) (lines : List (List ℕ)) (space : Space) → NameParents forms → HasPartitions w
+        → AreOldOrNew w.sets → ArePlanned w.sets → (k : ℕ) (d : Dataset) (plan : Plan) → IsIn (world_at w (course forms steps w s lines space).items k).sets d
+        → d.plan ≡ Some plan → HasAllVersions d plan → (flipped d).plan ≡ None → IsSplit (flipped d) plan.p plan.q }
+{}
+
+/// Where no plan runs and the partitions are the parts of a split, each with the records of its versions once, what is stored and
+/// what checkouts read are as its optimize told, and both bounds of the split hold of them.
+pub fn a_finished_plan_meets_the_bounds()
+    ensures { (d : Dataset) (p q : ℕ) → 0 < length d.cvd.versions → IsPlanned d → IsSplit d p q → d.plan ≡ None → AllRise d.cvd.schema d.cvd.versions
+        → AreExact d → IsBounded d p q }
 {}
