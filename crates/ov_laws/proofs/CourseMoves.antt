@@ -4,10 +4,11 @@ use Rattle.std.specs.Prelude.{◌≢◌, ◌^◌, ◌/◌, not, ◌||◌, ◌&&�
 use Rattle.std.specs.Option.{option_or}
 use Rattle.std.proofs.lemmas.List.{length-append, length-map}
 use Rattle.std.proofs.lemmas.Bool.{eqb-true, ltb-false, leb-true, eq-eqb}
+use Rattle.ov_value.specs.Rows.{key_cmp}
 use Rattle.ov_value.specs.Shapes.{Shape}
 use Rattle.ov_value.specs.declared.column.Column.{Column}
 use Rattle.ov_value.specs.declared.schema_err.SchemaErr.{SchemaErr}
-use Rattle.ov_model.specs.Act.{Session, Deed, deed, does, unless, if_so, vids_refusal, with_rows, with_file, from_file, rows_refusal, init_refusal, init_deed, checkout_deed, gives, merge_of, columns_of, fresh_of, records_refusal, commit_rows, schema_with, commit_under, commit_refusal, commit_deed, log_deed, drop_deed, is_threshold, optimize_refusal, optimized, optimize_deed, layout_deed, generate_by}
+use Rattle.ov_model.specs.Act.{Session, Deed, deed, does, unless, if_so, vids_refusal, repeated_key, format_one, with_rows, with_file, from_file, rows_refusal, init_refusal, init_deed, checkout_deed, gives, merge_of, columns_of, fresh_of, records_refusal, commit_rows, schema_with, commit_under, commit_refusal, commit_deed, log_deed, drop_deed, is_threshold, optimize_refusal, optimized, optimize_deed, layout_deed, generate_by}
 use Rattle.ov_model.specs.Book.{Row}
 use Rattle.ov_model.specs.Csv.{rows_of}
 use Rattle.ov_model.specs.Course.{Item, Makes, Says, Room, Enough, NoRun, Full, Space, first, rest, Served, after, replied, steps_then, attempt, attempts, try_step, step_by, steps, and_steps, line_served, served, course, world_after, world_at}
@@ -15,9 +16,9 @@ use Rattle.ov_model.specs.Forms.{Form}
 use Rattle.ov_model.specs.Generator.{Drawn, draw, next_state, parent_drawn, child_of, commits, generated, generated_schema, fresh_rows}
 use Rattle.ov_model.specs.Holding.{HasAll, AllHaveAll}
 use Rattle.ov_model.specs.Line.{Line, Comment, Asks, Refused, line_of}
-use Rattle.ov_model.specs.Lists.{IsIn}
+use Rattle.ov_model.specs.Lists.{IsIn, Rises}
 use Rattle.ov_model.specs.Merge.{in_key_order}
-use Rattle.ov_model.specs.Moves.{Move, Init, Commit, BeginPlan, Copy, Flip, Drop, Checkpoint, moved, change, numbered, committed, wide, wide_version, version_of, new_set}
+use Rattle.ov_model.specs.Moves.{Move, Init, Commit, BeginPlan, Copy, Flip, Drop, Checkpoint, accepted_or, moved, change, numbered, committed, wide, wide_version, version_of, new_set}
 use Rattle.ov_model.specs.Placed.{AreThere, HasParents, AllHaveParents}
 use Rattle.ov_model.specs.Plans.{missing, parts_at}
 use Rattle.ov_model.specs.Steps.{step_of, step_or, first_step, next_step, and_after, next_steps}
@@ -30,7 +31,8 @@ use Rattle.ov_model.specs.declared.reply.Reply.TheVariants as says
 use Rattle.ov_model.proofs.Courses.{world_append}
 use Rattle.ov_model.proofs.Placing.{moved_placed}
 use Rattle.ov_model.proofs.Holds.{moved_held}
-use Rattle.ov_laws.specs.Courses.{AllIdle, AllDue, AreNumbered, HasParent, HasPartitions, IsDue, NameParents, number_times}
+use Rattle.ov_laws.specs.Courses.{AllDue, AllIdle, AllLackSome, AllRiseWith, AreNumbered, HasParent, HasPartitions, IsDue, LacksSome, NameParents, number_times}
+use Rattle.ov_laws.proofs.CourseRows.{Up, file_rises, up_child, up_fresh, up_more, up_rises}
 use Rattle.ov_laws.proofs.CourseNumbers.{moved_numbered, named_in, one_dataset, some_number, committed_number}
 
 -- ---- a list of moves, each due where it is made
@@ -39,22 +41,14 @@ abbrev pub AreDue : World → List Move → Type 0
 AreDue w [] = Unit {0}
 AreDue w (m ∷ ms) = IsDue m w × AreDue (moved m w) ms
 
--- a move that asks for nothing
-abbrev IsFree : Move → Type 0
-IsFree (Init name schema rows) = Unit {0}
-IsFree (Copy cvd) = Unit {0}
-IsFree (Drop cvd) = Unit {0}
-IsFree Checkpoint = Unit {0}
-IsFree _ = ⊥
+drop_due : (cvd : ℕ) (w : World) → IsDue (Drop cvd) w
+drop_due cvd w = record { names = tt; rows = tt; copies = tt; flips = tt; begins = tt }
 
-free_due : (m : Move) (w : World) → IsFree m → IsDue m w
-free_due (Init name schema rows) w is = record { names = tt; flips = tt; begins = tt }
-free_due (Commit cvd parents message added rows) w is = absurd is
-free_due (BeginPlan cvd p q) w is = absurd is
-free_due (Copy cvd) w is = record { names = tt; flips = tt; begins = tt }
-free_due (Flip cvd) w is = absurd is
-free_due (Drop cvd) w is = record { names = tt; flips = tt; begins = tt }
-free_due Checkpoint w is = record { names = tt; flips = tt; begins = tt }
+checkpoint_due : (w : World) → IsDue Checkpoint w
+checkpoint_due w = record { names = tt; rows = tt; copies = tt; flips = tt; begins = tt }
+
+init_made : (name : List ℕ) (schema : Shape) (rows : List Row) (w : World) → Rises (key_cmp schema) rows → IsDue (Init name schema rows) w
+init_made name schema rows w rise = record { names = tt; rows = rise; copies = tt; flips = tt; begins = tt }
 
 -- ---- what is asked of all datasets of a number
 
@@ -65,6 +59,15 @@ all_parents cvd parents (d ∷ sets) each = (λ same. each d (inl refl) same, al
 all_have : (cvd : ℕ) (sets : List Dataset) → ((d : Dataset) → IsIn sets d → d.cvd.number ≡ cvd → HasAll d d.plan) → AllHaveAll cvd sets
 all_have cvd [] each = tt
 all_have cvd (d ∷ sets) each = (λ same. each d (inl refl) same, all_have cvd sets (λ e is same. each e (inr is) same))
+
+all_lack : (cvd : ℕ) (sets : List Dataset) → ((d : Dataset) → IsIn sets d → d.cvd.number ≡ cvd → LacksSome d d.plan) → AllLackSome cvd sets
+all_lack cvd [] each = tt
+all_lack cvd (d ∷ sets) each = (λ same. each d (inl refl) same, all_lack cvd sets (λ e is same. each e (inr is) same))
+
+all_rise : (cvd : ℕ) (added : List Column) (rows : List Row) (sets : List Dataset) → ((d : Dataset) → IsIn sets d → d.cvd.number ≡ cvd → Rises (key_cmp (wide added d).cvd.schema) rows)
+    → AllRiseWith cvd added rows sets
+all_rise cvd added rows [] each = tt
+all_rise cvd added rows (d ∷ sets) each = (λ same. each d (inl refl) same, all_rise cvd added rows sets (λ e is same. each e (inr is) same))
 
 all_idle : (cvd : ℕ) (sets : List Dataset) → ((d : Dataset) → IsIn sets d → d.cvd.number ≡ cvd → d.plan ≡ None) → AllIdle cvd sets
 all_idle cvd [] each = tt
@@ -121,11 +124,20 @@ vids_there count before (vid ∷ vids) e =
 
 -- ---- a file's rows
 
-rows_due : (w : World) (s : Session) (schema : Shape) (adds : Bool) (next : List Row → Deed) (given : Result (List Row) Refusal) → ((rows : List Row) → AreDue w (next rows).moves) → AreDue w (with_rows w s schema adds next given).moves
-rows_due w s schema adds next (Err refusal) due = tt
-rows_due w s schema adds next (Ok rows) due = unless_due w s (rows_refusal w schema adds rows) (next (in_key_order schema rows)) (λ none. due (in_key_order schema rows))
+no_repeat : (w : World) (schema : Shape) (adds : Bool) (rows : List Row) → rows_refusal w schema adds rows ≡ None → repeated_key schema [] 1 rows ≡ None
+no_repeat w schema adds rows none =
+    first_none (repeated_key schema [] 1 rows) (format_one w.format adds rows)
+    (second_none (if_so (nat_lt 1000000 (length rows)) no.TooManyRows) (option_or (repeated_key schema [] 1 rows) (format_one w.format adds rows)) none)
 
-file_due : (w : World) (s : Session) (schema : Shape) (adds : Bool) (name : List ℕ) (next : List Row → Deed) (file : Option (List ℕ)) → ((rows : List Row) → AreDue w (next rows).moves) → AreDue w (with_file w s schema adds name next file).moves
+rows_due : (w : World) (s : Session) (schema : Shape) (adds : Bool) (next : List Row → Deed) (given : Result (List Row) Refusal) → ((rows : List Row) → Rises (key_cmp schema) rows → AreDue w (next rows).moves)
+    → AreDue w (with_rows w s schema adds next given).moves
+rows_due w s schema adds next (Err refusal) due = tt
+rows_due w s schema adds next (Ok rows) due =
+    unless_due w s (rows_refusal w schema adds rows) (next (in_key_order schema rows))
+    (λ none. due (in_key_order schema rows) (file_rises schema rows (no_repeat w schema adds rows none)))
+
+file_due : (w : World) (s : Session) (schema : Shape) (adds : Bool) (name : List ℕ) (next : List Row → Deed) (file : Option (List ℕ)) → ((rows : List Row) → Rises (key_cmp schema) rows → AreDue w (next rows).moves)
+    → AreDue w (with_file w s schema adds name next file).moves
 file_due w s schema adds name next None due = tt
 file_due w s schema adds name next (Some bytes) due = rows_due w s schema adds next (rows_of schema bytes) due
 
@@ -135,7 +147,7 @@ init_due : (w : World) (s : Session) (cvd : List ℕ) (schema : Shape) (file : L
 init_due w s cvd schema file =
     unless_due w s (init_refusal w cvd) (from_file w s schema false file (λ rows. does s (Init cvd schema rows) (says.Init cvd (length rows))))
     (λ none. file_due w s schema false file (λ rows. does s (Init cvd schema rows) (says.Init cvd (length rows))) (s.files file)
-    (λ rows. (free_due (Init cvd schema rows) w tt, tt)))
+    (λ rows rise. (init_made cvd schema rows w rise, tt)))
 
 gives_due : (w : World) (s : Session) (d : Dataset) (rows : List Row) (file : Option (List ℕ)) → AreDue w (gives s d.cvd rows file).moves
 gives_due w s d rows None = tt
@@ -147,22 +159,32 @@ checkout_due w s vids file name (Some d) =
     unless_due w s (vids_refusal (length d.cvd.versions) [] vids) (gives s d.cvd (merge_of d.cvd vids) file) (λ none. gives_due w s d (merge_of d.cvd vids) file)
 
 commit_made : (w : World) (d : Dataset) (parents message : List ℕ) (added : List Column) (rows : List Row) → AreNumbered w → IsIn w.sets d → parents ≢ [] → AreThere (length d.cvd.versions) parents
-    → IsDue (Commit d.cvd.number parents message added rows) w
-commit_made w d parents message added rows numbers is some there = record {
+    → Rises (key_cmp (wide added d).cvd.schema) rows → IsDue (Commit d.cvd.number parents message added rows) w
+commit_made w d parents message added rows numbers is some there rise = record {
   names = all_parents d.cvd.number parents w.sets (only (HasParents parents) w d numbers is (some, there));
+  rows = all_rise d.cvd.number added rows w.sets (only (λ x. Rises (key_cmp (wide added x).cvd.schema) rows) w d numbers is rise);
+  copies = tt;
   flips = tt;
   begins = tt;
 }
 
-under_due : (w : World) (s : Session) (d : Dataset) (parents message : List ℕ) (added : List Column) (file : List ℕ) (schema : Result Shape SchemaErr)
-    → ((rows : List Row) → IsDue (Commit d.cvd.number parents message added rows) w) → AreDue w (commit_under w s d parents message added file schema).moves
-under_due w s d parents message added file (Err refusal) due = tt
-under_due w s d parents message added file (Ok schema) due =
+same_ok : (a b : Shape) → (let one : Result Shape SchemaErr = Ok a in one) ≡ Ok b → a ≡ b
+same_ok a b e = cc
+
+-- the rows are those of the schema with the added columns
+wide_schema_is : (added : List Column) (d : Dataset) (schema : Shape) → schema_with d.cvd.schema added ≡ Ok schema → schema ≡ (wide added d).cvd.schema
+wide_schema_is [] d schema e = sym (same_ok d.cvd.schema schema e)
+wide_schema_is (column ∷ added) d schema e = sym (ap (accepted_or d.cvd.schema) e)
+
+under_due : (w : World) (s : Session) (d : Dataset) (parents message : List ℕ) (added : List Column) (file : List ℕ) (schema : Result Shape SchemaErr) → schema_with d.cvd.schema added ≡ schema
+    → ((rows : List Row) → Rises (key_cmp (wide added d).cvd.schema) rows → IsDue (Commit d.cvd.number parents message added rows) w) → AreDue w (commit_under w s d parents message added file schema).moves
+under_due w s d parents message added file (Err refusal) e due = tt
+under_due w s d parents message added file (Ok schema) e due =
     file_due w s schema (not (length added == 0)) file (commit_rows s d parents message added) (s.files file)
-    (λ rows. unless_due w s (records_refusal (wide added d) (fresh_of (wide added d) parents message rows))
+    (λ rows rise. unless_due w s (records_refusal (wide added d) (fresh_of (wide added d) parents message rows))
     (does s (Commit d.cvd.number parents message added rows)
     (says.Commit d.cvd.name (length d.cvd.versions + 1) (length rows) (fresh_of (wide added d) parents message rows)))
-    (λ none. (due rows, tt)))
+    (λ none. (due rows (subst (λ x. Rises (key_cmp x) rows) (wide_schema_is added d schema e) rise), tt)))
 
 commit_due : (w : World) (s : Session) (name parents message : List ℕ) (added : List Column) (file : List ℕ) (found : Option Dataset) → set_named w name ≡ found → AreNumbered w → parents ≢ []
     → AreDue w (commit_deed w s name parents message added file found).moves
@@ -170,9 +192,9 @@ commit_due w s name parents message added file None e numbers some = tt
 commit_due w s name parents message added file (Some d) e numbers some =
     let count : ℕ = length d.cvd.versions
     in unless_due w s (commit_refusal d parents) (commit_under w s d parents message added file (schema_with d.cvd.schema added))
-    (λ none. under_due w s d parents message added file (schema_with d.cvd.schema added)
-    (λ rows. commit_made w d parents message added rows numbers (named_in w name d e) some
-    (vids_there count [] parents (first_none (vids_refusal count [] parents) (if_so (nat_le 65535 count) (no.TooManyVersions d.cvd.name)) none))))
+    (λ none. under_due w s d parents message added file (schema_with d.cvd.schema added) refl
+    (λ rows rise. commit_made w d parents message added rows numbers (named_in w name d e) some
+    (vids_there count [] parents (first_none (vids_refusal count [] parents) (if_so (nat_le 65535 count) (no.TooManyVersions d.cvd.name)) none)) rise))
 
 log_due : (w : World) (s : Session) (name : List ℕ) (found : Option Dataset) → AreDue w (log_deed s name found).moves
 log_due w s name None = tt
@@ -182,9 +204,9 @@ layout_due : (w : World) (s : Session) (name : List ℕ) (found : Option Dataset
 layout_due w s name None = tt
 layout_due w s name (Some d) = tt
 
-drop_due : (w : World) (s : Session) (name : List ℕ) (found : Option Dataset) → AreDue w (drop_deed s name found).moves
-drop_due w s name None = tt
-drop_due w s name (Some d) = (free_due (Drop d.cvd.number) w tt, tt)
+dropped_due : (w : World) (s : Session) (name : List ℕ) (found : Option Dataset) → AreDue w (drop_deed s name found).moves
+dropped_due w s name None = tt
+dropped_due w s name (Some d) = (drop_due d.cvd.number w, tt)
 
 no_plan : (plan : Option Plan) → is_some plan ≡ false → plan ≡ None
 no_plan None e = refl
@@ -209,6 +231,8 @@ optimize_due w s name p q (Some d) e numbers =
     in (
       record {
         names = tt;
+        rows = tt;
+        copies = tt;
         flips = tt;
         begins = ((leb-true 1 p bounds.0, leb-true p q upper.0), all_idle d.cvd.number w.sets (only (λ x. x.plan ≡ None) w d numbers (named_in w name d e) idle));
       },
@@ -224,13 +248,29 @@ none_long : {X : Type 0} (xs : List X) → length xs ≡ 0 → xs ≡ []
 none_long [] e = refl
 none_long (x ∷ xs) e = absurd (omega (arith, e))
 
-step_made : (t : Bool) (w : World) (d : Dataset) (plan : Plan) → d.plan ≡ Some plan → (t ≡ true → missing d plan ≡ []) → AreNumbered w → IsIn w.sets d → IsDue (if t then Flip d.cvd.number else Copy d.cvd.number) w
-step_made true w d plan e nothing_left numbers is = record {
+some_left : (n : ℕ) → (n == 0) ≡ false → 0 < n
+some_left zero e = absurd (clash (sym (eq-eqb 0 0 refl) ∙ e))
+  where
+    clash : true ≡ false → ⊥
+    clash e = cc
+some_left (suc n) e = omega arith
+
+step_made : (t : Bool) (w : World) (d : Dataset) (plan : Plan) → d.plan ≡ Some plan → (t ≡ true → missing d plan ≡ []) → (t ≡ false → 0 < length (missing d plan)) → AreNumbered w → IsIn w.sets d
+    → IsDue (if t then Flip d.cvd.number else Copy d.cvd.number) w
+step_made true w d plan e nothing_left some numbers is = record {
   names = tt;
+  rows = tt;
+  copies = tt;
   flips = all_have d.cvd.number w.sets (only (λ x. HasAll x x.plan) w d numbers is (subst (HasAll d) (sym e) (nothing_left refl)));
   begins = tt;
 }
-step_made false w d plan e nothing_left numbers is = free_due (Copy d.cvd.number) w tt
+step_made false w d plan e nothing_left some numbers is = record {
+  names = tt;
+  rows = tt;
+  copies = all_lack d.cvd.number w.sets (only (λ x. LacksSome x x.plan) w d numbers is (subst (LacksSome d) (sym e) (some refl)));
+  flips = tt;
+  begins = tt;
+}
 
 some_move : (a b : Move) → Some a ≡ Some b → a ≡ b
 some_move a b e = cc
@@ -240,7 +280,8 @@ step_due : (w : World) (sets : List Dataset) (d : Dataset) (plan : Option Plan) 
 step_due w sets d None m e numbers is later same = later same
 step_due w sets d (Some plan) m e numbers is later same =
     subst (λ x. IsDue x w) (some_move (step_of d plan) m same)
-    (step_made (length (missing d plan) == 0) w d plan e (λ t. none_long (missing d plan) (empty_if (length (missing d plan)) t)) numbers is)
+    (step_made (length (missing d plan) == 0) w d plan e (λ t. none_long (missing d plan) (empty_if (length (missing d plan)) t))
+    (some_left (length (missing d plan))) numbers is)
 
 first_due : (w : World) (sets : List Dataset) (m : Move) → AreNumbered w → ((d : Dataset) → IsIn sets d → IsIn w.sets d) → first_step sets ≡ Some m → IsDue m w
 first_due w [] m numbers within e = cc
@@ -260,10 +301,10 @@ next_steps_due (suc n) w numbers = and_after_due (next_steps n) w (next_step w) 
 
 -- ---- the generator
 
--- each dataset of a number has so many versions
+-- each dataset of a number has so many versions, of the generator's schema
 abbrev AllLong : ℕ → ℕ → List Dataset → Type 0
 AllLong cvd count [] = Unit {0}
-AllLong cvd count (d ∷ sets) = (d.cvd.number ≡ cvd → length d.cvd.versions ≡ count) × AllLong cvd count sets
+AllLong cvd count (d ∷ sets) = (d.cvd.number ≡ cvd → (length d.cvd.versions ≡ count) × (d.cvd.schema ≡ generated_schema)) × AllLong cvd count sets
 
 wide_long : (added : List Column) (d : Dataset) → length (wide added d).cvd.versions ≡ length d.cvd.versions
 wide_long [] d = refl
@@ -273,25 +314,31 @@ committed_long : (parents message : List ℕ) (added : List Column) (rows : List
 committed_long parents message added rows d = omega (arith, length-append (wide added d).cvd.versions (version_of parents message rows ∷ []), wide_long added d)
 
 long_if : (t : Bool) (f : Dataset → Dataset) (d : Dataset) (cvd count : ℕ) → (t ≡ false → d.cvd.number ≢ cvd) → (f d).cvd.number ≡ d.cvd.number → length (f d).cvd.versions ≡ length d.cvd.versions + 1
-    → (d.cvd.number ≡ cvd → length d.cvd.versions ≡ count) → (if t then f d else d).cvd.number ≡ cvd → length (if t then f d else d).cvd.versions ≡ count + 1
-long_if true f d cvd count off same more long e = omega (arith, more, long (sym same ∙ e))
-long_if false f d cvd count off same more long e = absurd (off refl e)
+    → (f d).cvd.schema ≡ d.cvd.schema → (d.cvd.number ≡ cvd → (length d.cvd.versions ≡ count) × (d.cvd.schema ≡ generated_schema)) → (if t then f d else d).cvd.number ≡ cvd
+    → (length (if t then f d else d).cvd.versions ≡ count + 1) × ((if t then f d else d).cvd.schema ≡ generated_schema)
+long_if true f d cvd count off same more kept long e = let was = long (sym same ∙ e) in (omega (arith, more, was.0), kept ∙ was.1)
+long_if false f d cvd count off same more kept long e = absurd (off refl e)
 
 long_changed : (cvd count : ℕ) (f : Dataset → Dataset) (sets : List Dataset) → ((d : Dataset) → (f d).cvd.number ≡ d.cvd.number) → ((d : Dataset) → length (f d).cvd.versions ≡ length d.cvd.versions + 1)
-    → AllLong cvd count sets → AllLong cvd (count + 1) (change cvd f sets)
-long_changed cvd count f [] same more long = tt
-long_changed cvd count f (d ∷ sets) same more long = (
-  long_if (numbered cvd d) f d cvd count (λ off e. clash (sym (eq-eqb d.cvd.number cvd e) ∙ off)) (same d) (more d) long.0,
-  long_changed cvd count f sets same more long.1,
+    → ((d : Dataset) → (f d).cvd.schema ≡ d.cvd.schema) → AllLong cvd count sets → AllLong cvd (count + 1) (change cvd f sets)
+long_changed cvd count f [] same more kept long = tt
+long_changed cvd count f (d ∷ sets) same more kept long = (
+  long_if (numbered cvd d) f d cvd count (λ off e. clash (sym (eq-eqb d.cvd.number cvd e) ∙ off)) (same d) (more d) (kept d) long.0,
+  long_changed cvd count f sets same more kept long.1,
 )
   where
     clash : true ≡ false → ⊥
     clash e = cc
 
+long_rise : (cvd count : ℕ) (rows : List Row) (sets : List Dataset) → Rises (key_cmp generated_schema) rows → AllLong cvd count sets → AllRiseWith cvd [] rows sets
+long_rise cvd count rows [] rise long = tt
+long_rise cvd count rows (d ∷ sets) rise long =
+    (λ same. subst (λ schema. Rises (key_cmp schema) rows) (sym (long.0 same).1) rise, long_rise cvd count rows sets rise long.1)
+
 long_parents : (cvd count p : ℕ) (sets : List Dataset) → 1 ≤ p → p ≤ count → AllLong cvd count sets → AllHaveParents cvd (p ∷ []) sets
 long_parents cvd count p [] from to long = tt
 long_parents cvd count p (d ∷ sets) from to long = (
-  λ same. (some, ((from, omega (arith, to, long.0 same)), tt)),
+  λ same. (some, ((from, omega (arith, to, (long.0 same).0)), tt)),
   long_parents cvd count p sets from to long.1,
 )
   where
@@ -314,20 +361,43 @@ parent_there before x some =
     let c : Drawn ℕ = draw 4 x
     in subst (λ n. (1 ≤ n) × (n ≤ before)) (sym (parent_is (c.is == 0) before c)) (parent_there_if (c.is == 0) before c.state some)
 
-commits_due : (left number count x : ℕ) (done : List (List Row)) (w : World) → 1 ≤ length done → AllLong number (length done) w.sets → AreDue w (commits left number count x done)
-commits_due zero number count x done w some long = tt
-commits_due (suc left) number count x done w some long =
+-- the rows of each version, with ids that rise up to a bound
+abbrev AllUp : ℕ → List (List Row) → Type 0
+AllUp bound [] = Unit {0}
+AllUp bound (rows ∷ done) = Up 0 bound rows × AllUp bound done
+
+up_at : (bound : ℕ) (done : List (List Row)) (k : ℕ) → AllUp bound done → Up 0 bound (slice_index_or done k [])
+up_at bound [] k up = tt
+up_at bound (rows ∷ done) zero up = up.0
+up_at bound (rows ∷ done) (suc k) up = up_at bound done k up.1
+
+all_up : (bound more : ℕ) (done : List (List Row)) (rows : List Row) → bound ≤ more → AllUp bound done → Up 0 more rows → AllUp more (done ++ rows ∷ [])
+all_up bound more [] rows le up next = (next, tt)
+all_up bound more (first ∷ done) rows le up next = (up_more 0 bound more first le up.0, all_up bound more done rows le up.1 next)
+
+commits_due : (left number count x : ℕ) (done : List (List Row)) (w : World) → 1 ≤ length done → AllUp (count + length done) done → AllLong number (length done) w.sets → AreDue w (commits left number count x done)
+commits_due zero number count x done w some up long = tt
+commits_due (suc left) number count x done w some up long =
     let parent : Drawn ℕ = parent_drawn (length done) x
     in let rows : Drawn (List Row) = child_of count (length done + 1) parent.state (slice_index_or done (parent.is - 1) [])
     in let there = parent_there (length done) x some
     in let longer : length (done ++ rows.is ∷ []) ≡ length done + 1 = length-append done (rows.is ∷ [])
+    in let ours : Up 0 (count + (length done + 1)) rows.is =
+    up_child count (length done + 1) (count + length done) parent.state (slice_index_or done (parent.is - 1) []) (omega arith) (up_at (count + length done) done (parent.is - 1) up)
     in (
-      record { names = long_parents number (length done) parent.is w.sets there.0 there.1 long; flips = tt; begins = tt },
+      record {
+        names = long_parents number (length done) parent.is w.sets there.0 there.1 long;
+        rows = long_rise number (length done) rows.is w.sets (up_rises 0 (count + (length done + 1)) rows.is ours) long;
+        copies = tt;
+        flips = tt;
+        begins = tt;
+      },
       commits_due left number count rows.state (done ++ rows.is ∷ []) (moved (Commit number (parent.is ∷ []) (codes "gen") [] rows.is) w)
           (omega (arith, longer))
+          (subst (λ n. AllUp (count + n) (done ++ rows.is ∷ [])) (sym longer) (all_up (count + length done) (count + (length done + 1)) done rows.is (omega arith) up ours))
           (subst (λ n. AllLong number n (change number (committed (parent.is ∷ []) (codes "gen") [] rows.is) w.sets)) (sym longer)
           (long_changed number (length done) (committed (parent.is ∷ []) (codes "gen") [] rows.is) w.sets
-          (committed_number (parent.is ∷ []) (codes "gen") [] rows.is) (committed_long (parent.is ∷ []) (codes "gen") [] rows.is) long)),
+          (committed_number (parent.is ∷ []) (codes "gen") [] rows.is) (committed_long (parent.is ∷ []) (codes "gen") [] rows.is) (λ d. refl) long)),
     )
 
 -- a dataset more is alone of its number
@@ -343,12 +413,13 @@ generated_due : (w : World) (name : List ℕ) (seed count versions : ℕ) → Ar
 generated_due w name seed count versions numbers =
     let first : Drawn (List Row) = fresh_rows count 1 seed
     in let set : Dataset = new_set w.next name generated_schema first.is
+    in let ours : Up 0 (count + 1) first.is = up_fresh count 1 seed 0 (count + 1) (omega arith) (omega arith)
     in (
-      free_due (Init name generated_schema first.is) w tt,
-      commits_due (versions - 1) w.next count first.state (first.is ∷ []) (moved (Init name generated_schema first.is) w) (omega arith)
+      init_made name generated_schema first.is w (up_rises 0 (count + 1) first.is ours),
+      commits_due (versions - 1) w.next count first.state (first.is ∷ []) (moved (Init name generated_schema first.is) w) (omega arith) (ours, tt)
           (long-append w.next 1 w.sets (set ∷ [])
           (long_none w.next 1 w.sets (λ d is same. omega (arith, some_number w.sets d is, ap (number_times w.sets) same, numbers.below w.next (omega arith))))
-          (λ same. refl, tt)),
+          (λ same. (refl, refl), tt)),
     )
 
 -- ---- a command
@@ -367,8 +438,8 @@ deed_due w s (asks.Migrate count) numbers has = next_steps_due count w numbers
 deed_due w s (asks.Layout cvd) numbers has = layout_due w s cvd (set_named w cvd)
 deed_due w s (asks.Log cvd) numbers has = log_due w s cvd (set_named w cvd)
 deed_due w s asks.Ls numbers has = tt
-deed_due w s (asks.DropCvd cvd) numbers has = drop_due w s cvd (set_named w cvd)
-deed_due w s asks.Checkpoint numbers has = (free_due Checkpoint w tt, tt)
+deed_due w s (asks.DropCvd cvd) numbers has = dropped_due w s cvd (set_named w cvd)
+deed_due w s asks.Checkpoint numbers has = (checkpoint_due w, tt)
 deed_due w s (asks.Generate cvd seed rows versions) numbers has =
     unless_due w s (init_refusal w cvd) (generate_by w s cvd (generated w.next cvd seed rows versions)) (λ none. generated_due w cvd seed rows versions numbers)
 deed_due w s (asks.CreateUser name) numbers has = tt

@@ -1,6 +1,7 @@
 pub mod CourseLines
 pub mod CourseMoves
 pub mod CourseNumbers
+pub mod CourseRows
 pub mod PlanBounds
 pub mod PlanCounts
 pub mod PlanFlips
