@@ -8,14 +8,21 @@ use Rattle.ov_graph.specs.Splits as splits
 use Rattle.ov_graph.specs.Splits.{AreBounded, IsPart, cuts_of, depth, first_of, in_order, leaves, members, records, sizes}
 use Rattle.ov_graph.specs.Trees.{VersionTree, all_members, all_records, fresh, total, tree_of, vids}
 use Rattle.ov_lyre.proofs.CutsFacts.{AreParts, split-bounded, split-sound}
+use Rattle.ov_model.specs.Act.{Session}
+use Rattle.ov_model.specs.Course.{Space, course, world_at}
+use Rattle.ov_model.specs.Forms.{Form}
 use Rattle.ov_model.specs.Lists.{IsIn}
 use Rattle.ov_model.specs.Placed.{times}
 use Rattle.ov_model.specs.Plans.{depth_at, nodes_of_set, parts_at, records_in, sizes_of}
 use Rattle.ov_model.specs.Records.{AllRise}
-use Rattle.ov_model.specs.World.{Part, Plan, Dataset, copied_records, cost, held, stored}
+use Rattle.ov_model.specs.World.{Part, Plan, Dataset, World, copied_records, cost, held, stored}
 use Rattle.ov_model.proofs.Counting.{one_if}
+use Rattle.ov_laws.specs.Courses.{HasPartitions, NameParents}
+use Rattle.ov_laws.specs.OldOrNew.{AreOldOrNew, IsOldOrNew}
 use Rattle.ov_laws.specs.PlanBounds.{AreExact, IsBounded}
-use Rattle.ov_laws.specs.PlanEnds.{HaveParents, IsPlanned, IsSplit, versions_of}
+use Rattle.ov_laws.specs.PlanEnds.{ArePlanned, HaveParents, IsPlanned, IsSplit, versions_of}
+use Rattle.ov_laws.proofs.OldTight.{old_at, old_in}
+use Rattle.ov_laws.proofs.PlanMoves.{planned_at, planned_in}
 use Rattle.ov_laws.proofs.PlanCounts.{part_size}
 use Rattle.ov_laws.proofs.PlanNodes.{node_is, sound, whole_part}
 use Rattle.ov_laws.proofs.PlanParts.{nodes_long, same_eqb, vid_once}
@@ -165,8 +172,8 @@ cost_are d (part ∷ parts) exact =
 none_copied : (plan : Option Plan) → plan ≡ None → copied_records plan ≡ 0
 none_copied plan e = ap copied_records e
 
-pub split_bounded : (d : Dataset) (p q : ℕ) → 0 < length d.cvd.versions → IsPlanned d → IsSplit d p q → d.plan ≡ None → AllRise d.cvd.schema d.cvd.versions → AreExact d → IsBounded d p q
-split_bounded d p q filled planned split idle rise exact =
+pub split_bounded : (d : Dataset) (p q : ℕ) → IsOldOrNew d → IsPlanned d → IsSplit d p q → d.plan ≡ None → AreExact d → IsBounded d p q
+split_bounded d p q old planned split idle exact =
     let stored_is : stored d ≡ splits.stored (sizes_of d (parts_at d p q)) =
     (let all : sum (map (λ part. length (held part)) d.parts) ≡ splits.stored (sizes_of d (parts_at d p q)) =
     stored_are d d.parts exact ∙ ap (λ vss. splits.stored (sizes_of d vss)) split.are
@@ -176,6 +183,13 @@ split_bounded d p q filled planned split idle rise exact =
       stored_is = stored_is;
       cost_is = cost_is;
       stored_bound =
-          subst (λ n. q ^ depth_at d p q * n ≤ (p + q) ^ depth_at d p q * all_records (nodes_of_set d)) (sym stored_is) (stored_bound d planned.parents rise filled p q split.up_to_q);
-      cost_bound = subst (λ n. p * n ≤ q * all_members (nodes_of_set d)) (sym cost_is) (cost_bound d planned.parents rise filled p q split.up_to_q);
+          subst (λ n. q ^ depth_at d p q * n ≤ (p + q) ^ depth_at d p q * all_records (nodes_of_set d)) (sym stored_is) (stored_bound d planned.parents planned.rows old.begun p q split.up_to_q);
+      cost_bound = subst (λ n. p * n ≤ q * all_members (nodes_of_set d)) (sym cost_is) (cost_bound d planned.parents planned.rows old.begun p q split.up_to_q);
     }
+
+pub bounded_at : (forms : List Form) (n : ℕ) (w : World) (s : Session) (lines : List (List ℕ)) (space : Space) → NameParents forms → HasPartitions w → AreOldOrNew w.sets → ArePlanned w.sets
+    → (k : ℕ) (d : Dataset) (p q : ℕ) → IsIn (world_at w (course forms n w s lines space).items k).sets d → IsSplit d p q → d.plan ≡ None → AreExact d → IsBounded d p q
+bounded_at forms n w s lines space names has old are k d p q there =
+    split_bounded d p q
+    (old_in (world_at w (course forms n w s lines space).items k).sets d (old_at forms n w s lines space names has old k) there)
+    (planned_in (world_at w (course forms n w s lines space).items k).sets d (planned_at forms n w s lines space names has old are k) there)

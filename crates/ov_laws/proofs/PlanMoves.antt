@@ -1,27 +1,32 @@
 -- Each move keeps what a plan makes of partitions, their order by number, and parents before their versions.
-use Rattle.std.proofs.Common.{◌≡◌, ◌≤◌, ◌<◌, ℕ, ◌+◌, Bool, true, false, ◌==◌, List, [], ◌∷◌, ◌++◌, length, map, filter, refl, sym, ap, subst, inl, inr, arith, append-nil}
+use Rattle.std.proofs.Common.{◌≡◌, ◌≤◌, ◌<◌, ℕ, ◌+◌, Bool, true, false, ◌==◌, List, [], ◌∷◌, ◌++◌, length, map, filter, refl, sym, ◌∙◌, ap, subst, inl, inr, arith, append-nil}
 use Rattle.std.specs.Prelude.{not, nat_lt, if◌then◌else◌, Option, Some, None}
 use Rattle.std.proofs.lemmas.List.{length-append, length-map}
 use Rattle.std.proofs.lemmas.Bool.{eqb-true}
 use Rattle.ov_place.specs.declared.place_facts.Place.{Place}
 use Rattle.ov_place.specs.declared.place_facts.Place.TheVariants.{Own, Join}
 use Rattle.ov_value.specs.declared.column.Column.{Column}
+use Rattle.ov_value.specs.declared.schema_err.SchemaErr.{SchemaErr}
+use Rattle.ov_value.specs.declared.schema_err.SchemaErr.TheVariants.{NoColumns}
+use Rattle.ov_value.specs.Making.{answer_of, column_refusal}
+use Rattle.ov_value.specs.Rows.{key_cmp}
 use Rattle.ov_value.specs.Shapes.{Shape}
 use Rattle.ov_model.specs.Act.{Session}
-use Rattle.ov_model.specs.Book.{Row, Version}
+use Rattle.ov_model.specs.Book.{Row, Version, extended}
 use Rattle.ov_model.specs.Course.{Space, course, world_at}
 use Rattle.ov_model.specs.Forms.{Form}
 use Rattle.ov_model.specs.Holding.{IsHeld, AreHeld}
-use Rattle.ov_model.specs.Lists.{IsIn}
-use Rattle.ov_model.specs.Moves.{Move, Init, Commit, BeginPlan, Copy, Flip, Drop, Checkpoint, moved, change, numbered, committed, with_version, version_of, wide, wide_part, wide_version, placed_at, parts_with, next_with, with_joined, own_part, new_set}
+use Rattle.ov_model.specs.Lists.{IsBelow, IsIn, Rises}
+use Rattle.ov_model.specs.Moves.{Move, Init, Commit, BeginPlan, Copy, Flip, Drop, Checkpoint, accepted_or, wide_schema, moved, change, numbered, committed, with_version, version_of, wide, wide_part, wide_version, placed_at, parts_with, next_with, with_joined, own_part, new_set}
 use Rattle.ov_model.specs.Placed.{PlanIs, IsPlaced, ArePlaced, AreThere, HasParents, AllHaveParents}
 use Rattle.ov_model.specs.Plans.{parts_at, targets_of, planned, current, copied_for, copied_more, leaving, left_parts, target_part, next_target, flipped_by, flipped}
-use Rattle.ov_model.specs.Records.{Rec, recs, records_of}
+use Rattle.ov_model.specs.Records.{AllRise, Rec, recs, records_of}
 use Rattle.ov_model.specs.World.{Part, Plan, Dataset, World}
-use Rattle.ov_laws.specs.Courses.{IsDue, HasPartitions, NameParents}
+use Rattle.ov_laws.specs.Courses.{AllRiseWith, IsDue, HasPartitions, NameParents}
 use Rattle.ov_laws.specs.OldOrNew.{Runs, IsOldOrNew, AreOldOrNew}
 use Rattle.ov_laws.specs.PlanEnds.{listed_by, HasAllVersions, HasAllIn, PlanHasAll, IsSplitting, Splits, AreByNumber, AreParents, HaveParents, IsPlanned, ArePlanned, IsSplit}
 use Rattle.ov_laws.proofs.CourseMoves.{course_due, due_at}
+use Rattle.ov_laws.proofs.CourseRows.{cmp_wide}
 use Rattle.ov_laws.proofs.OldMoves.{flip_old, planned_waits, wide_placed}
 use Rattle.ov_laws.proofs.OldParts.{targets_past}
 use Rattle.ov_laws.proofs.OldTight.{idle_tight, old_at, old_in, Both, both_kept}
@@ -77,6 +82,39 @@ wide_parents : (n before : ℕ) (versions : List Version) → HaveParents before
 wide_parents n before [] have = tt
 wide_parents n before (v ∷ versions) have = (have.0, wide_parents n (before + 1) versions have.1)
 
+-- ---- rows
+
+below_wide : (schema wider : Shape) (n : ℕ) (row : Row) (rows : List Row) → wider.key ≡ schema.key → IsBelow (key_cmp schema) row rows → IsBelow (key_cmp wider) (extended n row) (map (extended n) rows)
+below_wide schema wider n row [] same below = tt
+below_wide schema wider n row (x ∷ rows) same below = (cmp_wide schema wider n row x same ∙ below.0, below_wide schema wider n row rows same below.1)
+
+rises_wide : (schema wider : Shape) (n : ℕ) (rows : List Row) → wider.key ≡ schema.key → Rises (key_cmp schema) rows → Rises (key_cmp wider) (map (extended n) rows)
+rises_wide schema wider n [] same rise = tt
+rises_wide schema wider n (row ∷ rows) same rise = (below_wide schema wider n row rows same rise.0, rises_wide schema wider n rows same rise.1)
+
+all_rise_wide : (schema wider : Shape) (n : ℕ) (versions : List Version) → wider.key ≡ schema.key → AllRise schema versions → AllRise wider (map (wide_version n) versions)
+all_rise_wide schema wider n [] same rise = tt
+all_rise_wide schema wider n (v ∷ versions) same rise = (rises_wide schema wider n v.rows same rise.0, all_rise_wide schema wider n versions same rise.1)
+
+rise_append : (schema : Shape) (versions : List Version) (v : Version) → AllRise schema versions → Rises (key_cmp schema) v.rows → AllRise schema (versions ++ v ∷ [])
+rise_append schema [] v rise next = (next, tt)
+rise_append schema (x ∷ versions) v rise next = (rise.0, rise_append schema versions v rise.1 next)
+
+-- added columns leave the key as it is
+same_key_by : (schema wider : Shape) (refusal : Option SchemaErr) → wider.key ≡ schema.key → (accepted_or schema (answer_of refusal wider)).key ≡ schema.key
+same_key_by schema wider None same = same
+same_key_by schema wider (Some refusal) same = refl
+
+same_key : (schema : Shape) (added : List Column) → (wide_schema schema added).key ≡ schema.key
+same_key schema added =
+    same_key_by schema (record { columns = schema.columns ++ added; key = schema.key })
+    (if length added == 0 then Some NoColumns else column_refusal (schema.columns ++ added)) refl
+
+wide_rows : (added : List Column) (d : Dataset) → AllRise d.cvd.schema d.cvd.versions → AllRise (wide added d).cvd.schema (wide added d).cvd.versions
+wide_rows [] d rise = rise
+wide_rows (column ∷ added) d rise =
+    all_rise_wide d.cvd.schema (wide_schema d.cvd.schema (column ∷ added)) (length (column ∷ added)) d.cvd.versions (same_key d.cvd.schema (column ∷ added)) rise
+
 -- ---- a commit
 
 -- a plan hasn't a version that came later
@@ -97,8 +135,9 @@ wide_have : (added : List Column) (d : Dataset) → HaveParents 0 d.cvd.versions
 wide_have [] d have = have
 wide_have (column ∷ added) d have = wide_parents (length (column ∷ added)) 0 d.cvd.versions have
 
-commit_planned : (parents message : List ℕ) (added : List Column) (rows : List Row) (d : Dataset) → IsPlaced d → IsOldOrNew d → HasParents parents d → IsPlanned d → IsPlanned (committed parents message added rows d)
-commit_planned parents message added rows d placed old has is =
+commit_planned : (parents message : List ℕ) (added : List Column) (rows : List Row) (d : Dataset) → IsPlaced d → IsOldOrNew d → HasParents parents d → Rises (key_cmp (wide added d).cvd.schema) rows → IsPlanned d
+    → IsPlanned (committed parents message added rows d)
+commit_planned parents message added rows d placed old has rise is =
     let e : Dataset = wide added d
     in let v : Version = version_of parents message rows
     in let count : ℕ = length e.cvd.versions
@@ -113,6 +152,7 @@ commit_planned parents message added rows d placed old has is =
       splits = past_splits (with_version v e) count e.plan (wide_placed added d placed).targets (omega (arith, length-append e.cvd.versions (v ∷ [])));
       by_number = number_placed (placed_at e v) e.next_part (count + 1) (records_of v (recs e.cvd.versions [])) e.parts (wide_numbers added d is.by_number);
       parents = parents_append 0 e.cvd.versions v (wide_have added d is.parents) (subst (λ n. AreParents n parents) (sym behind) are);
+      rows = rise_append e.cvd.schema e.cvd.versions v (wide_rows added d is.rows) rise;
     }
 
 -- ---- a plan begins
@@ -138,6 +178,7 @@ plan_planned p q d from to holds old is = record {
   };
   by_number = is.by_number;
   parents = is.parents;
+  rows = is.rows;
 }
 
 -- ---- a copy
@@ -161,7 +202,7 @@ copied_splits d (Some plan) splits = λ all.
     }
 
 copy_planned : (d : Dataset) → IsPlanned d → IsPlanned (copied_more d)
-copy_planned d is = record { splits = copied_splits d d.plan is.splits; by_number = is.by_number; parents = is.parents }
+copy_planned d is = record { splits = copied_splits d d.plan is.splits; by_number = is.by_number; parents = is.parents; rows = is.rows }
 
 -- ---- a flip
 
@@ -174,15 +215,17 @@ flip_planned d (Some plan) e old is = record {
       (number_filter (λ part. not (length part.versions == 0)) 1 d.next_part (map (leaving (current plan).versions) d.parts)
       (number_map (leaving (current plan).versions) 1 d.next_part d.parts (λ part. refl) is.by_number));
   parents = is.parents;
+  rows = is.rows;
 }
 
 -- ---- Worlds
 
-new_planned : (number : ℕ) (name : List ℕ) (schema : Shape) (rows : List Row) → IsPlanned (new_set number name schema rows)
-new_planned number name schema rows = record {
+new_planned : (number : ℕ) (name : List ℕ) (schema : Shape) (rows : List Row) → Rises (key_cmp schema) rows → IsPlanned (new_set number name schema rows)
+new_planned number name schema rows rise = record {
   splits = tt;
   by_number = (omega arith, omega arith);
   parents = (record { first = λ none. refl; later = λ some. absurd (omega (arith, some)); there = tt }, tt);
+  rows = (rise, tt);
 }
 
 planned-append : (a b : List Dataset) → ArePlanned a → ArePlanned b → ArePlanned (a ++ b)
@@ -205,13 +248,13 @@ planned_changed : (cvd : ℕ) (f : Dataset → Dataset) (sets : List Dataset) �
 planned_changed cvd f [] more old are = tt
 planned_changed cvd f (d ∷ sets) more old are = (change_if (numbered cvd d) f d (λ t. more d old.0 are.0) are.0, planned_changed cvd f sets more old.1 are.1)
 
-planned_committed : (cvd : ℕ) (parents message : List ℕ) (added : List Column) (rows : List Row) (sets : List Dataset) → ArePlaced sets → AreOldOrNew sets → AllHaveParents cvd parents sets → ArePlanned sets
+planned_committed : (cvd : ℕ) (parents message : List ℕ) (added : List Column) (rows : List Row) (sets : List Dataset) → ArePlaced sets → AreOldOrNew sets → AllHaveParents cvd parents sets → AllRiseWith cvd added rows sets → ArePlanned sets
     → ArePlanned (change cvd (committed parents message added rows) sets)
-planned_committed cvd parents message added rows [] placed old has are = tt
-planned_committed cvd parents message added rows (d ∷ sets) placed old has are = (
+planned_committed cvd parents message added rows [] placed old has rise are = tt
+planned_committed cvd parents message added rows (d ∷ sets) placed old has rise are = (
   change_if (numbered cvd d) (committed parents message added rows) d
-      (λ t. commit_planned parents message added rows d placed.0 old.0 (has.0 (eqb-true d.cvd.number cvd t)) are.0) are.0,
-  planned_committed cvd parents message added rows sets placed.1 old.1 has.1 are.1,
+      (λ t. commit_planned parents message added rows d placed.0 old.0 (has.0 (eqb-true d.cvd.number cvd t)) (rise.0 (eqb-true d.cvd.number cvd t)) are.0) are.0,
+  planned_committed cvd parents message added rows sets placed.1 old.1 has.1 rise.1 are.1,
 )
 
 plans_begun : (cvd p q : ℕ) (sets : List Dataset) → 1 ≤ p → p ≤ q → AreHeld sets → AreOldOrNew sets → ArePlanned sets → ArePlanned (change cvd (planned p q) sets)
@@ -222,8 +265,8 @@ plans_begun cvd p q (d ∷ sets) from to holds old are = (
 )
 
 pub moved_planned : (m : Move) (w : World) → IsDue m w → HasPartitions w → AreOldOrNew w.sets → ArePlanned w.sets → ArePlanned (moved m w).sets
-moved_planned (Init name schema rows) w due has old are = planned-append w.sets (new_set w.next name schema rows ∷ []) are (new_planned w.next name schema rows, tt)
-moved_planned (Commit cvd parents message added rows) w due has old are = planned_committed cvd parents message added rows w.sets has.placed old due.names are
+moved_planned (Init name schema rows) w due has old are = planned-append w.sets (new_set w.next name schema rows ∷ []) are (new_planned w.next name schema rows due.rows, tt)
+moved_planned (Commit cvd parents message added rows) w due has old are = planned_committed cvd parents message added rows w.sets has.placed old due.names due.rows are
 moved_planned (BeginPlan cvd p q) w due has old are = plans_begun cvd p q w.sets due.begins.0.0 due.begins.0.1 has.held old are
 moved_planned (Copy cvd) w due has old are = planned_changed cvd copied_more w.sets (λ d was is. copy_planned d is) old are
 moved_planned (Flip cvd) w due has old are = planned_changed cvd flipped w.sets (λ d was is. flip_planned d d.plan refl was is) old are
@@ -283,7 +326,7 @@ finished d plan old planned e all ends =
     subst (λ found. IsSplit (flipped_by d found) plan.p plan.q) (sym e)
     (finished_by d plan e old planned all (subst (λ found. (flipped_by d found).plan ≡ None) e ends))
 
-planned_in : (sets : List Dataset) (d : Dataset) → ArePlanned sets → IsIn sets d → IsPlanned d
+pub planned_in : (sets : List Dataset) (d : Dataset) → ArePlanned sets → IsIn sets d → IsPlanned d
 planned_in [] d are is = absurd is
 planned_in (x ∷ sets) d are (inl same) = subst IsPlanned (sym same) are.0
 planned_in (x ∷ sets) d are (inr later) = planned_in sets d are.1 later

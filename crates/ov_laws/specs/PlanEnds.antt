@@ -7,6 +7,7 @@ use Rattle.ov_model.specs.Book.{Version}
 use Rattle.ov_model.specs.Lists.{IsIn}
 use Rattle.ov_model.specs.Placed.{AreThere}
 use Rattle.ov_model.specs.Plans.{parts_at}
+use Rattle.ov_model.specs.Records.{AllRise}
 use Rattle.ov_model.specs.World.{Part, Target, Plan, Dataset}
 use Rattle.ov_laws.specs.OldOrNew.{target_times, IsOld, IsNew, AllTight}
 
@@ -62,10 +63,12 @@ abbrev pub HaveParents : ℕ → List Version → Type 0
 HaveParents before [] = Unit {0}
 HaveParents before (v ∷ versions) = AreParents before v.parents × HaveParents (before + 1) versions
 
+-- What holds of a dataset, whether a plan runs or not. Each version's rows stand in key order, no key twice.
 pub record IsPlanned (d : Dataset) : Type 0 where
   pub splits : Splits d d.plan
   pub by_number : AreByNumber 1 d.next_part d.parts
   pub parents : HaveParents 0 d.cvd.versions
+  pub rows : AllRise d.cvd.schema d.cvd.versions
 
 abbrev pub ArePlanned : List Dataset → Type 0
 ArePlanned [] = Unit {0}

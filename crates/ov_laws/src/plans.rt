@@ -1,5 +1,5 @@
 // Laws of plans.
-ghost use Rattle.std.specs.Prelude.{◌≡◌, ◌≤◌, ◌<◌, ℕ, true, false, List, Some, None, length};
+ghost use Rattle.std.specs.Prelude.{◌≡◌, ◌≤◌, ℕ, true, false, List, Some, None};
 ghost use Rattle.ov_place.specs.declared.place_facts.Place.TheVariants.{Join};
 ghost use Rattle.ov_model.specs.Act.{Session};
 ghost use Rattle.ov_model.specs.Book.{Version};
@@ -9,7 +9,6 @@ ghost use Rattle.ov_model.specs.Lists.{IsIn};
 ghost use Rattle.ov_model.specs.Moves.{Move, moved, placed_at, with_version};
 ghost use Rattle.ov_model.specs.Placed.{HasParents, IsPlaced, times};
 ghost use Rattle.ov_model.specs.Plans.{copied_more, flipped, planned};
-ghost use Rattle.ov_model.specs.Records.{AllRise};
 ghost use Rattle.ov_model.specs.World.{Dataset, Part, Plan, World, empty_world, is_unmoved};
 ghost use Rattle.ov_laws.specs.Courses.{HasPartitions, IsDue, NameParents};
 ghost use Rattle.ov_laws.specs.OldOrNew.{AllTight, AreOldOrNew, IsOldOrNew};
@@ -67,6 +66,8 @@ pub fn a_finished_plan_is_the_split()
 /// Where no plan runs and the partitions are the parts of a split, each with the records of its versions once, what is stored and
 /// what checkouts read are as its optimize told, and both bounds of the split hold of them.
 pub fn a_finished_plan_meets_the_bounds()
-    ensures { (d : Dataset) (p q : ℕ) → 0 < length d.cvd.versions → IsPlanned d → IsSplit d p q → d.plan ≡ None → AllRise d.cvd.schema d.cvd.versions
-        → AreExact d → IsBounded d p q }
+    ensures set { (d : Dataset) (p q : ℕ) → IsOldOrNew d → IsPlanned d → IsSplit d p q → d.plan ≡ None → AreExact d → IsBounded d p q }
+    ensures course { (forms : List Form) (steps : ℕ) (w : World) (s : Session) (lines : List (List ℕ)) (space : Space) → NameParents forms → HasPartitions w
+        → AreOldOrNew w.sets → ArePlanned w.sets → (k : ℕ) (d : Dataset) (p q : ℕ) → IsIn (world_at w (course forms steps w s lines space).items k).sets d
+        → IsSplit d p q → d.plan ≡ None → AreExact d → IsBounded d p q }
 {}
