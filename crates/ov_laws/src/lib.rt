@@ -11,6 +11,7 @@ pub use courses::{
 };
 pub use plans::{
     a_finished_plan_is_the_split, a_finished_plan_meets_the_bounds,
-    a_plan_has_all_versions_until_a_commit, a_waiting_partition_takes_no_version,
-    partitions_are_old_or_new, partitions_are_tight_where_no_plan_runs,
+    a_plan_has_all_versions_until_a_commit, a_waiting_partition_goes,
+    a_waiting_partition_takes_no_version, partitions_are_old_or_new,
+    partitions_are_tight_where_no_plan_runs,
 };
