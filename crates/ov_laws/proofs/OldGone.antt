@@ -7,24 +7,20 @@ use Rattle.ov_place.specs.declared.place_facts.Place.TheVariants.{Own, Join}
 use Rattle.ov_model.specs.Book.{Version}
 use Rattle.ov_model.specs.Lists.{IsIn}
 use Rattle.ov_model.specs.Moves.{placed_at, parts_with, with_joined, with_version, own_part}
-use Rattle.ov_model.specs.Placed.{times, id_times, IsPlaced, HasParents}
+use Rattle.ov_model.specs.Placed.{id_times, IsPlaced, HasParents}
 use Rattle.ov_model.specs.Plans.{current, copied_for, copied_more, leaving, left_parts, target_part, flipped_by, flipped}
 use Rattle.ov_model.specs.Records.{Rec, recs, records_of}
 use Rattle.ov_model.specs.World.{Part, Plan, Dataset, is_unmoved}
 use Rattle.ov_model.proofs.Counting.{one_if, one_same}
 use Rattle.ov_laws.specs.OldOrNew.{Runs, IsOld, IsNew, IsOldOrNew}
 use Rattle.ov_laws.proofs.OldMoves.{flip_old, left_old}
-use Rattle.ov_laws.proofs.OldParts.{in_append, in_filter, in_map, joins_new}
+use Rattle.ov_laws.proofs.OldTight.{first_listed}
+use Rattle.ov_laws.proofs.OldParts.{in_append, in_filter, in_map, joins_new, some_id}
 
 clash : {X : Type 0} → true ≡ false → X
 clash e = cc
 
 -- ---- one partition of a number
-
-some_id : (parts : List Part) (part : Part) → IsIn parts part → 1 ≤ id_times parts part.id
-some_id [] part is = absurd is
-some_id (x ∷ parts) part (inl same) = omega (arith, one_same x.id part.id (λ i. (sym same i).id))
-some_id (x ∷ parts) part (inr later) = omega (arith, some_id parts part later)
 
 one_part : (parts : List Part) (a b : Part) → id_times parts a.id ≤ 1 → IsIn parts a → IsIn parts b → b.id ≡ a.id → b ≡ a
 one_part [] a b once is_a is_b same = absurd is_a
@@ -42,10 +38,6 @@ one_part (x ∷ parts) a b once (inr later) (inr too) same = one_part parts a b 
 next_is_new : (d : Dataset) (part : Part) → IsPlaced d → IsIn d.parts part → d.next_part ≡ part.id → ⊥
 next_is_new d part placed there same =
     omega (arith, some_id d.parts part there, placed.ids_below part.id (omega (arith, same)))
-
-first_listed : (vs : List ℕ) → 0 < length vs → (vid : ℕ) × (1 ≤ times vs vid)
-first_listed [] some = absurd (omega (arith, some))
-first_listed (v ∷ vs) some = (v, omega (arith, one_same v v refl))
 
 not_both : (plan : Option Plan) (part : Part) → 0 < length part.versions → IsOld plan part → IsNew plan part → ⊥
 not_both plan part some old new =

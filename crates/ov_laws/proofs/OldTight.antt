@@ -59,7 +59,7 @@ module _ (d : Dataset) (v : Version) (placed : IsPlaced d) (is : IsOldOrNew d) (
 
 -- ---- where no plan runs
 
-first_listed : (vs : List ℕ) → 0 < length vs → (vid : ℕ) × (1 ≤ times vs vid)
+pub first_listed : (vs : List ℕ) → 0 < length vs → (vid : ℕ) × (1 ≤ times vs vid)
 first_listed [] some = absurd (omega (arith, some))
 first_listed (v ∷ vs) some = (v, omega (arith, one_same v v refl))
 
