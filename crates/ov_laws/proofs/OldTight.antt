@@ -26,7 +26,7 @@ clash e = cc
 
 -- ---- a partition that waits stays
 
-in_left : (a b : List Part) (part : Part) → IsIn a part → IsIn (a ++ b) part
+pub in_left : (a b : List Part) (part : Part) → IsIn a part → IsIn (a ++ b) part
 in_left [] b part is = absurd is
 in_left (x ∷ a) b part (inl same) = inl same
 in_left (x ∷ a) b part (inr later) = inr (in_left a b part later)
