@@ -1,0 +1,14 @@
+pub mod CourseLines
+pub mod CourseMoves
+pub mod CourseNumbers
+pub mod CourseRows
+pub mod OldGone
+pub mod OldMoves
+pub mod OldParts
+pub mod OldTight
+pub mod PlanBounds
+pub mod PlanCounts
+pub mod PlanFlips
+pub mod PlanMoves
+pub mod PlanNodes
+pub mod PlanParts

@@ -1,0 +1,4 @@
+pub mod Courses
+pub mod OldOrNew
+pub mod PlanBounds
+pub mod PlanEnds
