@@ -1,0 +1,2 @@
+pub mod CountParts
+pub mod CountRuns

@@ -1,0 +1,21 @@
+// Laws of the steps that are left.
+ghost use Rattle.std.specs.Prelude.{◌≡◌, None};
+ghost use Rattle.ov_model.specs.Moves.{Move, moved};
+ghost use Rattle.ov_model.specs.Steps.{next_step, steps_left};
+ghost use Rattle.ov_model.specs.World.{World, AllBegun, empty_world};
+ghost use Rattle.ov_laws.specs.Countdown.{AllRun, AreNumbered};
+
+/// There are steps left exactly where a plan runs. That rests on a running plan having a target left, which stays so with
+/// every move where each dataset has a version.
+pub fn a_running_plan_has_steps_left()
+    ensures none { (w : World) → next_step w ≡ None → steps_left w ≡ 0 }
+    ensures no_plan { (w : World) → AllRun w.sets → steps_left w ≡ 0 → next_step w ≡ None }
+    ensures start { AllRun empty_world.sets }
+    ensures kept { (m : Move) (w : World) → AllBegun w.sets → AllRun w.sets → AllRun (moved m w).sets }
+{}
+
+/// No two datasets have one number, and stay so with every move: a new one gets a number above all that were given.
+pub fn numbers_of_datasets_are_given_once()
+    ensures start { AreNumbered empty_world }
+    ensures kept { (m : Move) (w : World) → AreNumbered w → AreNumbered (moved m w) }
+{}

@@ -1,0 +1,9 @@
+//! Laws of partitions, plans and steps: what holds in every World that moves reach.
+//!
+//! There is no code here. Each law is the contract of a function that does nothing, over the definitions of `ov_model`; the
+//! definitions in `specs/` are those that the laws need beside them.
+#![tactic(auto)]
+
+mod countdown;
+
+pub use countdown::{a_running_plan_has_steps_left, numbers_of_datasets_are_given_once};
