@@ -1,2 +1,6 @@
 pub mod CountParts
 pub mod CountRuns
+pub mod CountSteps
+pub mod MissingAfter
+pub mod PieceFlip
+pub mod PieceTimes

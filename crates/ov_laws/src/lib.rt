@@ -6,4 +6,6 @@
 
 mod countdown;
 
-pub use countdown::{a_running_plan_has_steps_left, numbers_of_datasets_are_given_once};
+pub use countdown::{
+    a_running_plan_has_steps_left, each_step_is_one_step_less, numbers_of_datasets_are_given_once,
+};
