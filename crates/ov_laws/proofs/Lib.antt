@@ -6,3 +6,4 @@ pub mod PieceFlip
 pub mod PieceLists
 pub mod PieceMore
 pub mod PieceTimes
+pub mod PieceWide
