@@ -3,7 +3,9 @@ pub mod CountRuns
 pub mod CountSteps
 pub mod MissingAfter
 pub mod PieceFlip
+pub mod PieceKept
 pub mod PieceLists
 pub mod PieceMore
+pub mod PiecePlan
 pub mod PieceTimes
 pub mod PieceWide

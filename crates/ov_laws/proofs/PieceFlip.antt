@@ -1,5 +1,5 @@
 -- What a flip leaves of the partitions that later targets keep pieces of.
-use Rattle.std.proofs.Common.{◌≡◌, ◌≤◌, ℕ, ◌+◌, Bool, true, false, ◌==◌, List, [], ◌∷◌, ◌++◌, length, map, filter, refl, sym, ◌∙◌, ap, inl, inr, arith}
+use Rattle.std.proofs.Common.{◌≡◌, ◌≤◌, ℕ, ◌+◌, Bool, true, false, ◌==◌, List, [], ◌∷◌, ◌++◌, length, map, filter, refl, sym, ◌∙◌, ap, subst, inl, inr, arith}
 use Rattle.std.specs.Prelude.{◌⊎◌, ◌||◌, if◌then◌else◌, not, slice_index_or}
 use Rattle.std.proofs.lemmas.Bool.{cases_Bool, eqb-true, ne_eqb}
 use Rattle.ov_model.specs.Placed.{times}
@@ -7,7 +7,7 @@ use Rattle.ov_model.specs.Plans.{pieces_of, meets, leaving, left_parts}
 use Rattle.ov_model.specs.Records.{Rec}
 use Rattle.ov_model.specs.World.{Part, Target, is_one}
 use Rattle.ov_model.proofs.Counting.{one_same, listed, not_listed, stays_times}
-use Rattle.ov_laws.specs.Pieces.{versions_of}
+use Rattle.ov_laws.specs.Pieces.{AreBelow, versions_of}
 
 -- ---- lists of versions that meet
 
@@ -124,3 +124,10 @@ module _ (vs : List ℕ) (parts more : List Part) (t : Target) (apart : (vid : �
   serves_still (inr serves) =
       let found = met t.versions (versions_of parts t.source) serves
       in inr (meeting t.versions (versions_of after t.source) found.0 found.1 (stays vs more t.source found.0 (not_gone found.0 found.1) parts found.2).1)
+
+  pub pieces_there : (t.kept ≡ []) ⊎ (meets t.versions (versions_of parts t.source) ≡ true)
+      → AreBelow (length (pieces_of parts t.source)) t.kept → AreBelow (length (pieces_of after t.source)) t.kept
+  pieces_there (inl none) low = subst (AreBelow (length (pieces_of after t.source))) (sym none) tt
+  pieces_there (inr serves) low =
+      let found = met t.versions (versions_of parts t.source) serves
+      in subst (λ pieces. AreBelow (length pieces) t.kept) (sym (stays vs more t.source found.0 (not_gone found.0 found.1) parts found.2).0) low

@@ -1,5 +1,5 @@
 -- Members of pieces, and records of versions.
-use Rattle.std.proofs.Common.{◌≡◌, ◌≤◌, ◌<◌, ℕ, zero, suc, ◌+◌, ◌-◌, Bool, true, false, ◌==◌, List, [], ◌∷◌, ◌++◌, length, map, filter, take, drop, get_or, refl, sym, ◌∙◌, ap, subst, inl, inr, arith}
+use Rattle.std.proofs.Common.{◌≡◌, ◌<◌, ℕ, zero, suc, ◌+◌, ◌-◌, Bool, true, false, List, [], ◌∷◌, ◌++◌, length, filter, take, get_or, refl, sym, ◌∙◌, ap, subst, inl, inr, arith}
 use Rattle.std.specs.Prelude.{◌⊎◌, ◌||◌, if◌then◌else◌, not}
 use Rattle.std.specs.List.{list_any}
 use Rattle.std.proofs.lemmas.Bool.{cases_Bool}
@@ -10,7 +10,7 @@ use Rattle.ov_model.specs.Moves.{piece_of}
 use Rattle.ov_model.specs.Records.{Rec, is_same_rec, is_among, lacking, of_version}
 use Rattle.ov_model.proofs.Holds.{same_recs}
 use Rattle.ov_model.proofs.Origins.{in_left, in_right, are_more}
-use Rattle.ov_laws.specs.Pieces.{rec_times, NoTwice, AllFull, IsOfOne, AreOf}
+use Rattle.ov_laws.specs.Pieces.{AllFull, IsOfOne, AreOf}
 
 -- ---- members
 

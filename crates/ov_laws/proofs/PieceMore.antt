@@ -1,24 +1,23 @@
 -- A version more: what a partition and a plan have.
-use Rattle.std.proofs.Common.{◌≡◌, ◌≤◌, ◌<◌, ℕ, zero, suc, ◌+◌, ◌-◌, Bool, true, false, ◌==◌, List, [], ◌∷◌, ◌++◌, length, map, filter, get_or, refl, sym, ◌∙◌, ap, subst, inl, inr, arith}
-use Rattle.std.specs.Prelude.{◌⊎◌, ◌||◌, if◌then◌else◌, not, slice_index_or, Option, Some, None}
-use Rattle.std.specs.List.{list_any}
+use Rattle.std.proofs.Common.{◌≡◌, ◌≤◌, ◌<◌, ℕ, zero, suc, ◌+◌, Bool, true, false, ◌==◌, List, [], ◌∷◌, ◌++◌, length, map, get_or, refl, sym, ◌∙◌, ap, subst, inl, inr, arith}
+use Rattle.std.specs.Prelude.{◌⊎◌, if◌then◌else◌, slice_index_or, Option, Some, None}
 use Rattle.std.proofs.lemmas.List.{append-nil, length-append}
 use Rattle.ov_place.specs.declared.place_facts.Place.{Place}
 use Rattle.ov_place.specs.declared.place_facts.Place.TheVariants.{Own, Join}
 use Rattle.ov_model.specs.Book.{Version}
 use Rattle.ov_model.specs.Holding.{VersionsAreIn}
-use Rattle.ov_model.specs.Lists.{IsIn, AreIn, joined}
+use Rattle.ov_model.specs.Lists.{joined}
 use Rattle.ov_model.specs.Moves.{piece_of, with_joined, own_part, parts_with, next_with, placed_at, with_version}
-use Rattle.ov_model.specs.Placed.{id_times, times}
+use Rattle.ov_model.specs.Placed.{id_times}
 use Rattle.ov_model.specs.Plans.{pieces_of, meets, kept_pieces, current, no_target}
-use Rattle.ov_model.specs.Records.{Rec, lacking, recs, records_of, of_version}
+use Rattle.ov_model.specs.Records.{Rec, lacking, recs, records_of}
 use Rattle.ov_model.specs.World.{Part, Target, Plan, Dataset, held, is_one, targets_from}
 use Rattle.ov_model.proofs.Counting.{one_if, one_other, ids-append, times-append, listed}
 use Rattle.ov_model.proofs.Growing.{recs_more, length_recs}
-use Rattle.ov_laws.specs.Pieces.{rec_times, NoTwice, AllFull, IsOfOne, AreOf, IsPieces, PartsArePieces, versions_of, AreBelow, IsKept, AllKept, target_times, IsUnderWay, PlanIsUnderWay, row_times, HaveNoRowTwice, HasPieces}
+use Rattle.ov_laws.specs.Pieces.{NoTwice, AllFull, AreOf, IsPieces, PartsArePieces, versions_of, AreBelow, IsKept, AllKept, IsUnderWay, PlanIsUnderWay, row_times, HaveNoRowTwice, HasPieces}
 use Rattle.ov_laws.proofs.CountRuns.{behind}
 use Rattle.ov_laws.proofs.PieceFlip.{picked, is_listed, met, meeting}
-use Rattle.ov_laws.proofs.PieceLists.{in_filtered, all_in, with_lacking, piece_all, piece_full, joined-append, full-append, are_of, of-append, of_left, of_right, of_longer, are_longer, versions_more, versions-append, last_in, last_of}
+use Rattle.ov_laws.proofs.PieceLists.{in_filtered, all_in, with_lacking, piece_all, piece_full, joined-append, full-append, are_of, of-append, of_left, of_right, are_longer, versions_more, versions-append, last_in, last_of}
 use Rattle.ov_laws.proofs.PieceTimes.{once-lacking, records_once}
 
 -- ---- partitions

@@ -1,6 +1,6 @@
 -- Columns more: pieces stay disjoint and together the records.
-use Rattle.std.proofs.Common.{◌≡◌, ◌≤◌, ◌<◌, ℕ, zero, suc, ◌+◌, ◌-◌, Bool, true, false, ◌==◌, List, [], ◌∷◌, ◌++◌, length, map, filter, get_or, refl, sym, ◌∙◌, ap, subst, inl, inr, arith}
-use Rattle.std.specs.Prelude.{◌⊎◌, ◌||◌, ◌&&◌, if◌then◌else◌, not, replicate, slice_index_or, Option, Some, None}
+use Rattle.std.proofs.Common.{◌≡◌, ◌≤◌, ℕ, zero, suc, ◌+◌, Bool, true, false, ◌==◌, List, [], ◌∷◌, ◌++◌, length, map, refl, sym, ◌∙◌, ap, subst, inl, inr, arith}
+use Rattle.std.specs.Prelude.{◌⊎◌, ◌&&◌, if◌then◌else◌, replicate, Option, Some, None}
 use Rattle.std.proofs.lemmas.Bool.{cases_Bool}
 use Rattle.std.proofs.lemmas.List.{length-map, append_cancel_right, map-append}
 use Rattle.std.proofs.Math.ListN.{get_or-map}
@@ -18,7 +18,7 @@ use Rattle.ov_model.proofs.Counting.{one_if}
 use Rattle.ov_model.proofs.Growing.{same_row-refl}
 use Rattle.ov_model.proofs.Holds.{same_recs}
 use Rattle.ov_model.proofs.Widening.{same_bool, same_rows, map_are_in, joined_map, wide_version_recs, wide_recs}
-use Rattle.ov_laws.specs.Pieces.{rec_times, NoTwice, AllFull, IsOfOne, AreOf, IsPieces, PartsArePieces, versions_of, AreBelow, IsKept, AllKept, target_times, IsUnderWay, PlanIsUnderWay, row_times, HaveNoRowTwice, HasPieces}
+use Rattle.ov_laws.specs.Pieces.{rec_times, NoTwice, AllFull, IsOfOne, AreOf, IsPieces, PartsArePieces, versions_of, AreBelow, IsKept, AllKept, IsUnderWay, PlanIsUnderWay, row_times, HaveNoRowTwice, HasPieces}
 use Rattle.ov_laws.proofs.PieceFlip.{picked}
 
 module _ (n : ℕ) where
