@@ -64,14 +64,14 @@ module _ (d : Dataset) (plan : Plan) where
 -- ---- the step that is next
 
 -- by whether nothing is missing
-abbrev move_of : Bool → ℕ → Move
+abbrev pub move_of : Bool → ℕ → Move
 move_of t n = if t then Flip n else Copy n
 
 abbrev after_of : Bool → Dataset → Dataset
 after_of true d = flipped d
 after_of false d = copied_more d
 
-some_missing : (n : ℕ) → (n == 0) ≡ false → 0 < n
+pub some_missing : (n : ℕ) → (n == 0) ≡ false → 0 < n
 some_missing zero e = cc
 some_missing (suc n) e = omega arith
 
@@ -101,7 +101,7 @@ pub record Lowers (sets : List Dataset) (m : Move) : Type 0 where
   pub there : 1 ≤ number_times sets number
   pub one_less : steps_of_all (change number (after_of test) sets) + 1 ≡ steps_of_all sets
 
-some_same : (a b : Move) → Some a ≡ Some b → a ≡ b
+pub some_same : (a b : Move) → Some a ≡ Some b → a ≡ b
 some_same a b e = cc
 
 lowers_if : (d : Dataset) (sets : List Dataset) (m : Move) (plan : Option Plan) → d.plan ≡ plan → step_or d plan (first_step sets) ≡ Some m

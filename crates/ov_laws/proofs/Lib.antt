@@ -1,5 +1,6 @@
 pub mod CountParts
 pub mod CountRuns
+pub mod CountSound
 pub mod CountSteps
 pub mod MissingAfter
 pub mod PieceFlip

@@ -1,2 +1,3 @@
 pub mod Countdown
 pub mod Pieces
+pub mod Sound

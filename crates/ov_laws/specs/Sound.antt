@@ -1,0 +1,27 @@
+-- What holds in every World that moves reach.
+--     IsSound w      what the laws of this crate say of a World, together
+--     MayMove m w      what is asked of a move, so that it stays so
+use Rattle.ov_model.specs.Holding.{AreHeld, MayFlip}
+use Rattle.ov_model.specs.Moves.{Move}
+use Rattle.ov_model.specs.Placed.{ArePlaced, NamesParents}
+use Rattle.ov_model.specs.World.{World, AllBegun}
+use Rattle.ov_laws.specs.Countdown.{AllRun, AreNumbered}
+use Rattle.ov_laws.specs.Pieces.{ArePieces, MayCopy, RowsRise}
+
+-- numbers of datasets are given once, each dataset has a version, a running plan has a target left, each version is in one
+-- partition and has its records there, and pieces are disjoint and together the records
+pub record IsSound (w : World) : Type 0 where
+  pub numbered : AreNumbered w
+  pub begun : AllBegun w.sets
+  pub run : AllRun w.sets
+  pub placed : ArePlaced w.sets
+  pub held : AreHeld w.sets
+  pub pieces : ArePieces w.sets
+
+-- a commit names parents that are there, a new version's rows rise by their keys, a copy finds a record missing, and a flip
+-- finds none missing
+pub record MayMove (m : Move) (w : World) : Type 0 where
+  pub parents : NamesParents m w
+  pub rows : RowsRise m w
+  pub copy : MayCopy m w
+  pub flip : MayFlip m w
