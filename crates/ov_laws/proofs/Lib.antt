@@ -1,3 +1,4 @@
+pub mod CountDeeds
 pub mod CountParts
 pub mod CountRuns
 pub mod CountSound

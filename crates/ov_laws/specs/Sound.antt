@@ -1,10 +1,14 @@
 -- What holds in every World that moves reach.
 --     IsSound w      what the laws of this crate say of a World, together
 --     MayMove m w      what is asked of a move, so that it stays so
+--     AllMay moves w      of each of these, one after another
+use Rattle.std.specs.Prelude.{◌≢◌, List, [], ◌∷◌}
 use Rattle.ov_model.specs.Holding.{AreHeld, MayFlip}
-use Rattle.ov_model.specs.Moves.{Move}
+use Rattle.ov_model.specs.Moves.{Move, moved}
 use Rattle.ov_model.specs.Placed.{ArePlaced, NamesParents}
 use Rattle.ov_model.specs.World.{World, AllBegun}
+use Rattle.ov_model.specs.declared.command.Command.{Command}
+use Rattle.ov_model.specs.declared.command.Command.TheVariants as asks
 use Rattle.ov_laws.specs.Countdown.{AllRun, AreNumbered}
 use Rattle.ov_laws.specs.Pieces.{ArePieces, MayCopy, RowsRise}
 
@@ -25,3 +29,14 @@ pub record MayMove (m : Move) (w : World) : Type 0 where
   pub rows : RowsRise m w
   pub copy : MayCopy m w
   pub flip : MayFlip m w
+
+-- each of them may be made after those before it
+abbrev pub AllMay : List Move → World → Type 0
+AllMay [] w = Unit {0}
+AllMay (m ∷ moves) w = MayMove m w × AllMay moves (moved m w)
+
+-- A commit lists a version, as in each line that asks for one. What is generated isn't among these commands yet.
+abbrev pub NamesVersions : Command → Type 0
+NamesVersions (asks.Commit cvd vids file message added) = vids ≢ []
+NamesVersions (asks.Generate cvd seed rows versions) = ⊥
+NamesVersions _ = Unit {0}
