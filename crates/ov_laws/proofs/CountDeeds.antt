@@ -9,9 +9,10 @@ use Rattle.ov_value.specs.Rows.{key_cmp}
 use Rattle.ov_value.specs.Shapes.{Shape}
 use Rattle.ov_value.specs.declared.column.Column.{Column}
 use Rattle.ov_value.specs.declared.schema_err.SchemaErr.{SchemaErr}
-use Rattle.ov_model.specs.Act.{Session, Deed, unless, if_so, does, vids_refusal, repeated_key, format_one, rows_refusal, with_rows, with_file, from_file, init_refusal, init_deed, gives, merge_of, checkout_deed, columns_of, fresh_of, records_refusal, commit_rows, schema_with, commit_under, commit_refusal, commit_deed, optimize_refusal, optimized, optimize_deed, drop_deed, log_deed, layout_deed, deed}
+use Rattle.ov_model.specs.Act.{Session, Deed, unless, if_so, does, vids_refusal, repeated_key, format_one, rows_refusal, with_rows, with_file, from_file, init_refusal, init_deed, gives, merge_of, checkout_deed, columns_of, fresh_of, records_refusal, commit_rows, schema_with, commit_under, commit_refusal, commit_deed, optimize_refusal, optimized, optimize_deed, drop_deed, log_deed, layout_deed, generate_by, deed}
 use Rattle.ov_model.specs.Book.{Row}
 use Rattle.ov_model.specs.Csv.{rows_of}
+use Rattle.ov_model.specs.Generator.{generated}
 use Rattle.ov_model.specs.Lists.{Rises}
 use Rattle.ov_model.specs.Merge.{has_key, firsts, in_key_order}
 use Rattle.ov_model.specs.Moves.{Move, Init, Commit, BeginPlan, moved, wide, accepted_or}
@@ -29,6 +30,7 @@ use Rattle.ov_model.proofs.Merging.{merged_rises}
 use Rattle.ov_laws.specs.Countdown.{number_times}
 use Rattle.ov_laws.specs.Pieces.{AllRiseWith}
 use Rattle.ov_laws.specs.Sound.{IsSound, MayMove, AllMay, NamesVersions}
+use Rattle.ov_laws.proofs.CountDrawn.{generated_may}
 use Rattle.ov_laws.proofs.CountSound.{moved_sound, next_may}
 
 -- ---- rows of a file, none with a key of another
@@ -262,7 +264,8 @@ deed_may w s (asks.Log cvd) names is = log_all w s is cvd (set_named w cvd)
 deed_may w s asks.Ls names is = tt
 deed_may w s (asks.DropCvd cvd) names is = drop_all w s is cvd (set_named w cvd)
 deed_may w s asks.Checkpoint names is = (record { parents = tt; rows = tt; copy = tt; flip = tt }, tt)
-deed_may w s (asks.Generate cvd seed rows versions) names is = absurd names
+deed_may w s (asks.Generate cvd seed rows versions) names is =
+    unless_may w s (init_refusal w cvd) (generate_by w s cvd (generated w.next cvd seed rows versions)) (λ e. generated_may w cvd seed rows versions is.numbered)
 deed_may w s (asks.CreateUser name) names is = tt
 deed_may w s (asks.Config name) names is = tt
 deed_may w s asks.Whoami names is = tt

@@ -1,4 +1,5 @@
 pub mod CountDeeds
+pub mod CountDrawn
 pub mod CountParts
 pub mod CountRuns
 pub mod CountSound

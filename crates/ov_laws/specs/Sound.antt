@@ -35,8 +35,7 @@ abbrev pub AllMay : List Move → World → Type 0
 AllMay [] w = Unit {0}
 AllMay (m ∷ moves) w = MayMove m w × AllMay moves (moved m w)
 
--- A commit lists a version, as in each line that asks for one. What is generated isn't among these commands yet.
+-- a commit lists a version
 abbrev pub NamesVersions : Command → Type 0
 NamesVersions (asks.Commit cvd vids file message added) = vids ≢ []
-NamesVersions (asks.Generate cvd seed rows versions) = ⊥
 NamesVersions _ = Unit {0}
