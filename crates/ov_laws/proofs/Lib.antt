@@ -1,3 +1,4 @@
+pub mod CountCourse
 pub mod CountDeeds
 pub mod CountDrawn
 pub mod CountParts

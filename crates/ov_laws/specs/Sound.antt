@@ -2,8 +2,10 @@
 --     IsSound w      what the laws of this crate say of a World, together
 --     MayMove m w      what is asked of a move, so that it stays so
 --     AllMay moves w      of each of these, one after another
-use Rattle.std.specs.Prelude.{◌≢◌, List, [], ◌∷◌}
+use Rattle.std.specs.Prelude.{◌≢◌, ℕ, List, [], ◌∷◌}
+use Rattle.ov_model.specs.Forms.{Form}
 use Rattle.ov_model.specs.Holding.{AreHeld, MayFlip}
+use Rattle.ov_model.specs.Line.{Line, Asks, line_of}
 use Rattle.ov_model.specs.Moves.{Move, moved}
 use Rattle.ov_model.specs.Placed.{ArePlaced, NamesParents}
 use Rattle.ov_model.specs.World.{World, AllBegun}
@@ -39,3 +41,12 @@ AllMay (m ∷ moves) w = MayMove m w × AllMay moves (moved m w)
 abbrev pub NamesVersions : Command → Type 0
 NamesVersions (asks.Commit cvd vids file message added) = vids ≢ []
 NamesVersions _ = Unit {0}
+
+abbrev pub LineNames : Line → Type 0
+LineNames (Asks command) = NamesVersions command
+LineNames _ = Unit {0}
+
+-- each of these lines that asks for a commit lists a version
+abbrev pub AllNameVersions : List Form → List (List ℕ) → Type 0
+AllNameVersions forms [] = Unit {0}
+AllNameVersions forms (line ∷ lines) = LineNames (line_of forms line) × AllNameVersions forms lines

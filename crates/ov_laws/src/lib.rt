@@ -12,4 +12,7 @@ pub use countdown::{
     a_running_plan_has_steps_left, each_step_is_one_step_less, numbers_of_datasets_are_given_once,
 };
 pub use pieces::pieces_are_disjoint_and_together_the_records;
-pub use sound::{commands_do_what_may_be_done, steps_end_all_plans, worlds_stay_sound};
+pub use sound::{
+    commands_do_what_may_be_done, each_world_of_a_run_is_sound, steps_end_all_plans,
+    worlds_stay_sound,
+};

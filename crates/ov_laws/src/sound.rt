@@ -1,12 +1,14 @@
 // Laws of all that holds in a World, together.
-ghost use Rattle.std.specs.Prelude.{◌≡◌, ◌-◌, ℕ, length, min, Some, None};
+ghost use Rattle.std.specs.Prelude.{◌≡◌, ◌-◌, ℕ, List, length, min, Some, None};
 ghost use Rattle.ov_model.specs.Act.{Session, deed};
+ghost use Rattle.ov_model.specs.Course.{Space, course, world_at};
+ghost use Rattle.ov_model.specs.Forms.{Form};
 ghost use Rattle.ov_model.specs.Moves.{Move, moved};
 ghost use Rattle.ov_model.specs.Steps.{all_moved, next_step, next_steps, steps_left};
 ghost use Rattle.ov_model.specs.World.{World, empty_world};
 ghost use Rattle.ov_model.specs.declared.command.Command.{Command};
 ghost use Rattle.ov_laws.specs.Countdown.{AreNumbered};
-ghost use Rattle.ov_laws.specs.Sound.{AllMay, IsSound, MayMove, NamesVersions};
+ghost use Rattle.ov_laws.specs.Sound.{AllMay, AllNameVersions, IsSound, MayMove, NamesVersions};
 
 /// What the laws say of a World holds in the empty one and stays so with every move that may be made. The step that is next
 /// is always such a move.
@@ -26,4 +28,10 @@ pub fn steps_end_all_plans()
 /// What a command does may be done, one move after another: its refusals keep out all else.
 pub fn commands_do_what_may_be_done()
     ensures { (w : World) (s : Session) (command : Command) → NamesVersions command → IsSound w → AllMay (deed w s command).moves w }
+{}
+
+/// Each World of a run from a sound one, as from the empty one, is sound: after each of its moves all of these laws hold.
+pub fn each_world_of_a_run_is_sound()
+    ensures { (forms : List Form) (steps : ℕ) (w : World) (s : Session) (lines : List (List ℕ)) (space : Space) (k : ℕ)
+        → AllNameVersions forms lines → IsSound w → IsSound (world_at w (course forms steps w s lines space).items k) }
 {}
