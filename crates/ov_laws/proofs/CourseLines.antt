@@ -20,17 +20,18 @@ use Rattle.ov_model.specs.declared.given.Reading.{Reading}
 use Rattle.ov_model.specs.declared.given.Reading.TheVariants.{ListOfVids, SchemaItems}
 use Rattle.ov_model.specs.declared.refusal.Refusal.{Refusal}
 use Rattle.ov_model.specs.declared.refusal.Refusal.TheVariants as no
-use Rattle.ov_laws.specs.Courses.{HasParent, NameParents}
+use Rattle.ov_laws.specs.Courses.{NameParents}
+use Rattle.ov_laws.specs.Sound.{NamesVersions}
 
 -- ---- what a command or a line that was made has
 
 abbrev OkHas : Result Command Refusal → Type 0
-OkHas (Ok command) = HasParent command
+OkHas (Ok command) = NamesVersions command
 OkHas (Err refusal) = Unit {0}
 
 abbrev LineHas : Line → Type 0
 LineHas Comment = Unit {0}
-LineHas (Asks command) = HasParent command
+LineHas (Asks command) = NamesVersions command
 LineHas (Refused refusal) = Unit {0}
 
 answer_has : (made : Result Command Refusal) → OkHas made → LineHas (answer made)
@@ -263,7 +264,7 @@ make_init_has v =
     made_if (is_name (text_in (word_of v 0))) _ (Err (no.BadName (text_in (word_of v 0))))
     (init_has (text_in (word_of v 0)) (text_in (choice v (codes "-f"))) (or_schema_refusal (schema_of (columns_in (choice v (codes "-s"))) (names_in (choice v (codes "-k")))))) tt
 
-optimize_has : (cvd : List ℕ) (ratio budget : Option Given) → HasParent (optimize_by cvd ratio budget)
+optimize_has : (cvd : List ℕ) (ratio budget : Option Given) → NamesVersions (optimize_by cvd ratio budget)
 optimize_has cvd None budget = tt
 optimize_has cvd (Some ratio) budget = tt
 

@@ -31,9 +31,12 @@ use Rattle.ov_model.specs.declared.reply.Reply.TheVariants as says
 use Rattle.ov_model.proofs.Courses.{world_append}
 use Rattle.ov_model.proofs.Placing.{moved_placed}
 use Rattle.ov_model.proofs.Holds.{moved_held}
-use Rattle.ov_laws.specs.Courses.{AllDue, AllIdle, AllLackSome, AllRiseWith, AreNumbered, HasParent, HasPartitions, IsDue, LacksSome, NameParents, number_times}
+use Rattle.ov_laws.specs.Courses.{AllDue, AllIdle, HasPartitions, IsDue, NameParents}
 use Rattle.ov_laws.proofs.CourseRows.{Up, file_rises, up_child, up_fresh, up_more, up_rises}
 use Rattle.ov_laws.proofs.CourseNumbers.{moved_numbered, named_in, one_dataset, some_number, committed_number}
+use Rattle.ov_laws.specs.Countdown.{AreNumbered, number_times}
+use Rattle.ov_laws.specs.Pieces.{AllLackSome, AllRiseWith, LacksSome}
+use Rattle.ov_laws.specs.Sound.{NamesVersions}
 
 -- ---- a list of moves, each due where it is made
 
@@ -424,7 +427,7 @@ generated_due w name seed count versions numbers =
 
 -- ---- a command
 
-pub deed_due : (w : World) (s : Session) (command : Command) → AreNumbered w → HasParent command → AreDue w (deed w s command).moves
+pub deed_due : (w : World) (s : Session) (command : Command) → AreNumbered w → NamesVersions command → AreDue w (deed w s command).moves
 deed_due w s (asks.Init cvd schema file) numbers has = init_due w s cvd schema file
 deed_due w s (asks.Checkout cvd vids file None) numbers has = checkout_due w s vids file cvd (set_named w cvd)
 deed_due w s (asks.Checkout cvd vids file (Some table)) numbers has = tt
@@ -504,7 +507,7 @@ both_due w a b numbers one more =
 then_due : (n : ℕ) (w : World) (a : Served) → AreNumbered w → IsServed w a → IsServed w (and_steps n a)
 then_due n w a numbers due = both_due w a (steps n a.session a.world a.left) numbers due (steps_due n a.session a.world a.left)
 
-line_due : (n : ℕ) (w : World) (s : Session) (space : Space) (line : Line) → ((command : Command) → line ≡ Asks command → HasParent command) → AreNumbered w → IsServed w (line_served n w s space line)
+line_due : (n : ℕ) (w : World) (s : Session) (space : Space) (line : Line) → ((command : Command) → line ≡ Asks command → NamesVersions command) → AreNumbered w → IsServed w (line_served n w s space line)
 line_due n w s space Comment has numbers = (tt, refl)
 line_due n w s space (Asks command) has numbers =
     then_due n w (attempts (deed w s command) s 0 (deed w s command).moves w space) numbers

@@ -9,7 +9,7 @@ use Rattle.ov_model.specs.Moves.{Move, Init, Commit, BeginPlan, Copy, Flip, Drop
 use Rattle.ov_model.specs.Plans.{planned, copied_more, flipped_by, flipped}
 use Rattle.ov_model.specs.World.{Plan, Dataset, World, first_set, set_named, named}
 use Rattle.ov_model.proofs.Counting.{one_if, one_most, one_same, one_other}
-use Rattle.ov_laws.specs.Courses.{number_times, AreNumbered}
+use Rattle.ov_laws.specs.Countdown.{AreNumbered, number_times}
 
 pub numbers-append : (a b : List Dataset) (number : ℕ) → number_times (a ++ b) number ≡ number_times a number + number_times b number
 numbers-append [] b number = omega arith

@@ -9,6 +9,7 @@ pub mod CourseLines
 pub mod CourseMoves
 pub mod CourseNumbers
 pub mod CourseRows
+pub mod CourseWhole
 pub mod MissingAfter
 pub mod OldMoves
 pub mod OldParts

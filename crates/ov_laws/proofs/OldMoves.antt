@@ -19,9 +19,10 @@ use Rattle.ov_model.specs.World.{Part, Target, Plan, Dataset, World, held, is_on
 use Rattle.ov_model.proofs.Counting.{one_if, one_same, filter_times, gone_times, listed, not_listed, range_versions, times-append}
 use Rattle.ov_model.proofs.Growing.{length_recs}
 use Rattle.ov_laws.specs.Courses.{IsDue, HasPartitions}
-use Rattle.ov_laws.specs.OldOrNew.{target_times, IsRunning, Runs, IsOld, IsNew, IsOldOrNew, AreOldOrNew}
+use Rattle.ov_laws.specs.OldOrNew.{IsRunning, Runs, IsOld, IsNew, IsOldOrNew, AreOldOrNew}
 use Rattle.ov_laws.proofs.OldParts.{Either, Waits, in_append, in_map, in_filter, single, waits, waits_not, from_first, from_at, from_past, from_fewer, in_at, moved_past, joins_new}
 use Rattle.ov_laws.proofs.PlanParts.{parts_times, parts_full, targets_times, targets_full, vid_once}
+use Rattle.ov_laws.specs.Pieces.{target_times}
 
 clash : {X : Type 0} → true ≡ false → X
 clash e = cc

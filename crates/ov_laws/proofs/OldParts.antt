@@ -14,7 +14,8 @@ use Rattle.ov_model.specs.Plans.{no_target}
 use Rattle.ov_model.specs.Records.{Rec, recs, records_of, of_version, weight, weights}
 use Rattle.ov_model.specs.World.{Part, Target, Plan, Dataset, is_one, part_of, stored, is_unmoved, targets_from}
 use Rattle.ov_model.proofs.Counting.{one_if, one_same, listed, not_listed}
-use Rattle.ov_laws.specs.OldOrNew.{target_times, IsOld, IsNew, IsOldOrNew}
+use Rattle.ov_laws.specs.OldOrNew.{IsOld, IsNew, IsOldOrNew}
+use Rattle.ov_laws.specs.Pieces.{target_times}
 
 clash : {X : Type 0} → true ≡ false → X
 clash e = cc

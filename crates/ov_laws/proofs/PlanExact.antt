@@ -1,8 +1,8 @@
 -- A tight partition whose pieces are its records has the records of its versions, each once.
-use Rattle.std.proofs.Common.{◌≡◌, ◌≤◌, ◌<◌, ◌⊎◌, ℕ, zero, suc, ◌+◌, ◌-◌, Bool, true, false, ◌==◌, List, [], ◌∷◌, ◌++◌, length, filter, refl, sym, ◌∙◌, ap, subst, inl, inr, arith}
+use Rattle.std.proofs.Common.{◌≡◌, ◌≤◌, ◌⊎◌, ℕ, ◌+◌, ◌-◌, Bool, true, false, List, [], ◌∷◌, length, filter, refl, sym, ◌∙◌, ap, subst, inl, inr, arith}
 use Rattle.std.specs.Prelude.{◌&&◌, ◌||◌, if◌then◌else◌}
 use Rattle.std.specs.List.{list_any}
-use Rattle.std.proofs.lemmas.Bool.{cases_Bool, cond-true, cond-false}
+use Rattle.std.proofs.lemmas.Bool.{cases_Bool, cond-true}
 use Rattle.ov_model.specs.Holding.{VersionsAreIn}
 use Rattle.ov_model.specs.Lists.{IsIn, AreIn, AllAreIn}
 use Rattle.ov_model.specs.Plans.{records_in}
@@ -16,7 +16,7 @@ use Rattle.ov_model.proofs.Rids.{order_of_once}
 use Rattle.ov_laws.specs.OldOrNew.{AllTight}
 use Rattle.ov_laws.specs.Pieces.{AreOf, HasPieces, IsOfOne, IsPieces, NoTwice, PartsArePieces, rec_times}
 use Rattle.ov_laws.specs.PlanBounds.{AreExact}
-use Rattle.ov_laws.proofs.PlanCounts.{Apart, Once, listed_pass, passing}
+use Rattle.ov_laws.proofs.PlanCounts.{Apart, Once, listed_pass}
 
 clash : {X : Type 0} → true ≡ false → X
 clash e = cc

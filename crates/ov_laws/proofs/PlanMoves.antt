@@ -22,7 +22,7 @@ use Rattle.ov_model.specs.Placed.{PlanIs, IsPlaced, ArePlaced, AreThere, HasPare
 use Rattle.ov_model.specs.Plans.{parts_at, targets_of, planned, current, copied_for, copied_more, leaving, left_parts, target_part, next_target, flipped_by, flipped}
 use Rattle.ov_model.specs.Records.{AllRise, Rec, recs, records_of}
 use Rattle.ov_model.specs.World.{Part, Plan, Dataset, World}
-use Rattle.ov_laws.specs.Courses.{AllRiseWith, IsDue, HasPartitions, NameParents}
+use Rattle.ov_laws.specs.Courses.{IsDue, HasPartitions, NameParents}
 use Rattle.ov_laws.specs.OldOrNew.{Runs, IsOldOrNew, AreOldOrNew}
 use Rattle.ov_laws.specs.PlanEnds.{listed_by, HasAllVersions, HasAllIn, PlanHasAll, IsSplitting, Splits, AreByNumber, AreParents, HaveParents, IsPlanned, ArePlanned, IsSplit}
 use Rattle.ov_laws.proofs.CourseMoves.{course_due, due_at}
@@ -32,6 +32,7 @@ use Rattle.ov_laws.proofs.OldParts.{targets_past}
 use Rattle.ov_laws.proofs.OldTight.{idle_tight, old_at, old_in, Both, both_kept}
 use Rattle.ov_laws.proofs.PlanFlips.{next_splits, last_split}
 use Rattle.ov_laws.proofs.PlanParts.{parts_times, targets_times, vid_once}
+use Rattle.ov_laws.specs.Pieces.{AllRiseWith}
 
 -- ---- by number
 

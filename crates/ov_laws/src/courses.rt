@@ -4,12 +4,15 @@ ghost use Rattle.ov_model.specs.Act.{Session};
 ghost use Rattle.ov_model.specs.Course.{Space, course, world_at};
 ghost use Rattle.ov_model.specs.Forms.{Form, all_forms, built_forms};
 ghost use Rattle.ov_model.specs.World.{World, empty_world};
-ghost use Rattle.ov_laws.specs.Courses.{AllDue, AreNumbered, HasPartitions, NameParents};
+ghost use Rattle.ov_laws.specs.Courses.{AllDue, HasPartitions, NameParents};
+ghost use Rattle.ov_laws.specs.Countdown.{AreNumbered};
+ghost use Rattle.ov_laws.specs.Sound.{AllNameVersions};
 
 /// A commit that a line asks for has a parent.
 pub fn lines_name_parents()
     ensures all { NameParents all_forms }
     ensures built { NameParents built_forms }
+    ensures lines { (forms : List Form) (lines : List (List ℕ)) → NameParents forms → AllNameVersions forms lines }
 {}
 
 /// At the World in which it is made, each move of a run meets what keeps partitions right: a commit's parents are there, a flip

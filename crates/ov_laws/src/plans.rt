@@ -12,8 +12,10 @@ ghost use Rattle.ov_model.specs.Plans.{copied_more, flipped, planned};
 ghost use Rattle.ov_model.specs.World.{Dataset, Part, Plan, World, empty_world, is_unmoved};
 ghost use Rattle.ov_laws.specs.Courses.{HasPartitions, IsDue, NameParents};
 ghost use Rattle.ov_laws.specs.OldOrNew.{AllTight, AreOldOrNew, IsOldOrNew};
+ghost use Rattle.ov_laws.specs.Pieces.{HasPieces};
 ghost use Rattle.ov_laws.specs.PlanBounds.{AreExact, IsBounded};
 ghost use Rattle.ov_laws.specs.PlanEnds.{ArePlanned, HasAllVersions, IsPlanned, IsSplit, PlanHasAll};
+ghost use Rattle.ov_laws.specs.Sound.{IsSound};
 
 /// While a plan runs, all versions of a partition wait in targets that weren't flipped yet, or none does, and then the partition
 /// keeps the records of its own versions alone.
@@ -63,11 +65,16 @@ pub fn a_finished_plan_is_the_split()
         → d.plan ≡ Some plan → HasAllVersions d plan → (flipped d).plan ≡ None → IsSplit (flipped d) plan.p plan.q }
 {}
 
+/// A partition whose pieces share no record and that keeps the records of its own versions alone has each of them once.
+pub fn tight_partitions_are_exact()
+    ensures { (d : Dataset) → IsPlanned d → HasPieces d → AllTight d.parts → AreExact d }
+{}
+
 /// Where no plan runs and the partitions are the parts of a split, each with the records of its versions once, what is stored and
-/// what checkouts read are as its optimize told, and both bounds of the split hold of them.
+/// what checkouts read are as its optimize told, and both bounds of the split hold of them. So it is in every World of a run.
 pub fn a_finished_plan_meets_the_bounds()
     ensures set { (d : Dataset) (p q : ℕ) → IsOldOrNew d → IsPlanned d → IsSplit d p q → d.plan ≡ None → AreExact d → IsBounded d p q }
-    ensures course { (forms : List Form) (steps : ℕ) (w : World) (s : Session) (lines : List (List ℕ)) (space : Space) → NameParents forms → HasPartitions w
+    ensures course { (forms : List Form) (steps : ℕ) (w : World) (s : Session) (lines : List (List ℕ)) (space : Space) → NameParents forms → IsSound w
         → AreOldOrNew w.sets → ArePlanned w.sets → (k : ℕ) (d : Dataset) (p q : ℕ) → IsIn (world_at w (course forms steps w s lines space).items k).sets d
-        → IsSplit d p q → d.plan ≡ None → AreExact d → IsBounded d p q }
+        → IsSplit d p q → d.plan ≡ None → IsBounded d p q }
 {}
