@@ -1,6 +1,8 @@
 pub mod CountCourse
 pub mod CountDeeds
 pub mod CountDrawn
+pub mod CountForms
+pub mod CountLines
 pub mod CountParts
 pub mod CountRuns
 pub mod CountSound
