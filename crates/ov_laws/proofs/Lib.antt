@@ -1,11 +1,5 @@
-pub mod CountCourse
-pub mod CountDeeds
-pub mod CountDrawn
-pub mod CountForms
-pub mod CountLines
 pub mod CountParts
 pub mod CountRuns
-pub mod CountSound
 pub mod CountSteps
 pub mod MissingAfter
 pub mod PieceFlip
@@ -15,3 +9,9 @@ pub mod PieceMore
 pub mod PiecePlan
 pub mod PieceTimes
 pub mod PieceWide
+pub mod SoundDeeds
+pub mod SoundDrawn
+pub mod SoundForms
+pub mod SoundLines
+pub mod SoundMoves
+pub mod SoundRuns

@@ -3,9 +3,9 @@ use Rattle.ov_model.specs.Act.{Session}
 use Rattle.ov_model.specs.Course.{Space}
 use Rattle.ov_model.specs.Forms.{all_forms, built_forms}
 use Rattle.ov_model.specs.World.{empty_world}
-use Rattle.ov_laws.proofs.CountCourse.{each_sound}
-use Rattle.ov_laws.proofs.CountForms.{all_name, built_name}
-use Rattle.ov_laws.proofs.CountSound.{empty_sound}
+use Rattle.ov_laws.proofs.SoundRuns.{each_sound}
+use Rattle.ov_laws.proofs.SoundForms.{all_name, built_name}
+use Rattle.ov_laws.proofs.SoundMoves.{empty_sound}
 use Rattle.ov_laws.proofs.sound.each_world_of_a_run_is_sound.Goals as goal
 
 pub returns-clause-all : goal.returns-clause-all

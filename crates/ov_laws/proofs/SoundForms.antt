@@ -11,7 +11,7 @@ use Rattle.ov_model.specs.declared.command.Command.TheVariants as asks
 use Rattle.ov_model.specs.declared.given.Reading.TheVariants.{FileName, SchemaItems}
 use Rattle.ov_model.specs.declared.refusal.Refusal.TheVariants as no
 use Rattle.ov_laws.specs.Sound.{NamesVersions, AllNameVersions}
-use Rattle.ov_laws.proofs.CountLines.{AllRead, MadeNames, IsForm, AreForms, no_blank, has_versions, first_there, commit_names, init_if, generate_if, optimize_names, lines_name}
+use Rattle.ov_laws.proofs.SoundLines.{AllRead, MadeNames, IsForm, AreForms, no_blank, has_versions, first_there, commit_names, init_if, generate_if, optimize_names, lines_name}
 
 off : {A : Type 0} → false ≡ true → A
 off e = cc
