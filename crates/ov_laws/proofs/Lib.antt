@@ -1,9 +1,5 @@
-pub mod CountCourse
-pub mod CountDeeds
-pub mod CountDrawn
 pub mod CountParts
 pub mod CountRuns
-pub mod CountSound
 pub mod CountSteps
 pub mod CourseLines
 pub mod CourseMoves
@@ -28,3 +24,9 @@ pub mod PlanFlips
 pub mod PlanMoves
 pub mod PlanNodes
 pub mod PlanParts
+pub mod SoundDeeds
+pub mod SoundDrawn
+pub mod SoundForms
+pub mod SoundLines
+pub mod SoundMoves
+pub mod SoundRuns

@@ -9,6 +9,7 @@ use Rattle.ov_model.specs.Records.{Rec, is_same_rec, is_among, lacking, order_of
 use Rattle.ov_model.specs.World.{Target, Plan, Dataset, targets_from}
 use Rattle.ov_laws.specs.Pieces.{rec_times, NoTwice, HaveNoRowTwice}
 use Rattle.ov_laws.proofs.CountRuns.{from_at}
+use Rattle.ov_laws.proofs.PieceLists.{append_assoc, joined-append}
 use Rattle.ov_laws.proofs.PieceTimes.{times-filter, is_times, not_times, one_self, take_times, all_once}
 
 -- ---- lacking some, and then others
@@ -64,16 +65,7 @@ lacking_front n rs once =
     ∙ none_gone (drop n rs) (take n rs) (λ r. omega (arith, take_times n rs r, once r))
 
 joined-last : (a : List (List Rec)) (b : List Rec) → joined (a ++ b ∷ []) ≡ joined a ++ b
-joined-last [] b = append-nil b
-joined-last (x ∷ a) b = ap (λ l. x ++ l) (joined-last a b) ∙ sym (append_assoc x (joined a) b)
-  where
-    append_assoc : (xs ys zs : List Rec) → (xs ++ ys) ++ zs ≡ xs ++ (ys ++ zs)
-    append_assoc [] ys zs = refl
-    append_assoc (y ∷ xs) ys zs = ap (λ l. y ∷ l) (append_assoc xs ys zs)
-
-append_assoc : (xs ys zs : List Rec) → (xs ++ ys) ++ zs ≡ xs ++ (ys ++ zs)
-append_assoc [] ys zs = refl
-append_assoc (y ∷ xs) ys zs = ap (λ l. y ∷ l) (append_assoc xs ys zs)
+joined-last a b = joined-append a (b ∷ []) ∙ ap (λ l. joined a ++ l) (append-nil b)
 
 module _ (d : Dataset) (t : Target) (copied : List (List Rec)) (rows : HaveNoRowTwice d.cvd.versions) where
   abbrev ours : List Rec

@@ -4,7 +4,7 @@ use Rattle.std.specs.Prelude.{codes, if◌then◌else◌, not, nat_lt, Option, S
 use Rattle.std.specs.declared.cmp.Ordering.{Ordering}
 use Rattle.std.specs.declared.cmp.Ordering.TheVariants.{Less, Equal}
 use Rattle.std.proofs.lemmas.Bool.{cases_Bool, cond-true, eqb-true, eq-eqb, ltb-true}
-use Rattle.std.proofs.lemmas.List.{length-take}
+use Rattle.std.proofs.lemmas.List.{length-take, append-nil}
 use Rattle.ov_value.specs.Order.{key_cmp-ties_decide}
 use Rattle.ov_value.specs.Rows.{key_cmp, key_of}
 use Rattle.ov_value.specs.Shapes.{Shape}
@@ -81,11 +81,7 @@ module _ (d : Dataset) (plan : Plan) (is : HasPieces d) (way : IsUnderWay d plan
       within q = times-filter _ (order_of d.cvd.versions) q
 
   joined-last : joined (plan.copied ++ more ∷ []) ≡ joined plan.copied ++ more
-  joined-last = joined-append plan.copied (more ∷ []) ∙ ap (λ l. joined plan.copied ++ l) (alone more)
-    where
-      alone : (l : List Rec) → joined (l ∷ []) ≡ l
-      alone [] = refl
-      alone (r ∷ l) = ap (λ rest. r ∷ rest) (alone l)
+  joined-last = joined-append plan.copied (more ∷ []) ∙ ap (λ l. joined plan.copied ++ l) (append-nil more)
 
   copied_once : NoTwice (kept ++ joined (plan.copied ++ more ∷ []))
   copied_once r =

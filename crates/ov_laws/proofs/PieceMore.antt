@@ -98,11 +98,7 @@ Grow before after = (id : ℕ) → Longer (pieces_of before id) (pieces_of after
 
 own_if : (t : Bool) (part : Part) (pieces after : List (List Rec)) (versions later : List ℕ) → Longer pieces after × Wider versions later
     → Longer (if t then part.pieces else pieces) (if t then part.pieces else after) × Wider (if t then part.versions else versions) (if t then part.versions else later)
-own_if true part pieces after versions later grow = (([], sym (append-nil_pieces part.pieces)), λ vid e. e)
-  where
-    append-nil_pieces : (xs : List (List Rec)) → xs ++ [] ≡ xs
-    append-nil_pieces [] = refl
-    append-nil_pieces (x ∷ xs) = ap (λ l. x ∷ l) (append-nil_pieces xs)
+own_if true part pieces after versions later grow = (([], sym (append-nil part.pieces)), λ vid e. e)
 own_if false part pieces after versions later grow = grow
 
 own_grow : (own : Part) (parts : List Part) → Grow parts (parts ++ own ∷ [])
@@ -116,11 +112,7 @@ with_id false vid rs part = refl
 
 with_pieces : (t : Bool) (vid : ℕ) (rs : List Rec) (part : Part) → Longer part.pieces (if t then with_joined vid rs part else part).pieces
 with_pieces true vid rs part = (piece_of (lacking rs (held part)), refl)
-with_pieces false vid rs part = ([], sym (append-nil_pieces part.pieces))
-  where
-    append-nil_pieces : (xs : List (List Rec)) → xs ++ [] ≡ xs
-    append-nil_pieces [] = refl
-    append-nil_pieces (x ∷ xs) = ap (λ l. x ∷ l) (append-nil_pieces xs)
+with_pieces false vid rs part = ([], sym (append-nil part.pieces))
 
 with_versions : (t : Bool) (vid : ℕ) (rs : List Rec) (part : Part) → Wider part.versions (if t then with_joined vid rs part else part).versions
 with_versions true vid rs part other there =

@@ -1,6 +1,6 @@
 -- What a plan's targets keep when it begins.
 use Rattle.std.proofs.Common.{◌≡◌, ◌≤◌, ◌<◌, ℕ, suc, ◌+◌, Bool, true, false, ◌==◌, List, [], ◌∷◌, ◌++◌, length, filter, get_or, refl, sym, ◌∙◌, ap, subst, inl, inr, arith}
-use Rattle.std.specs.Prelude.{◌⊎◌, ◌&&◌, if◌then◌else◌, not, nat_lt, nat_le, Option, Some, None}
+use Rattle.std.specs.Prelude.{◌⊎◌, if◌then◌else◌, not, nat_lt, nat_le, Option, Some, None}
 use Rattle.std.specs.List.{list_all, list_any}
 use Rattle.std.proofs.lemmas.Bool.{cond-false}
 use Rattle.std.proofs.lemmas.List.{append-nil}
@@ -17,15 +17,7 @@ use Rattle.ov_laws.proofs.CountRuns.{all_from}
 use Rattle.ov_laws.proofs.PieceFlip.{picked}
 use Rattle.ov_laws.proofs.PieceLists.{among_in, in_filtered, of_any, of-append}
 use Rattle.ov_laws.proofs.PieceMore.{current_kept}
-use Rattle.ov_laws.proofs.PieceTimes.{times-append}
-
-left_true : (a b : Bool) → (a && b) ≡ true → a ≡ true
-left_true true b e = refl
-left_true false b e = cc
-
-right_true : (a b : Bool) → (a && b) ≡ true → b ≡ true
-right_true true b e = e
-right_true false b e = cc
+use Rattle.ov_laws.proofs.PieceTimes.{left_true, right_true, times-append}
 
 -- the records of some versions together are records of them
 pub records_of_some : (d : Dataset) (vids : List ℕ) (r : Rec) → IsIn (records_in d.cvd vids) r → IsOfOne (recs d.cvd.versions []) vids r

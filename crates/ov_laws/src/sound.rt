@@ -2,7 +2,7 @@
 ghost use Rattle.std.specs.Prelude.{◌≡◌, ◌-◌, ℕ, List, length, min, Some, None};
 ghost use Rattle.ov_model.specs.Act.{Session, deed};
 ghost use Rattle.ov_model.specs.Course.{Space, course, world_at};
-ghost use Rattle.ov_model.specs.Forms.{Form};
+ghost use Rattle.ov_model.specs.Forms.{Form, all_forms, built_forms};
 ghost use Rattle.ov_model.specs.Moves.{Move, moved};
 ghost use Rattle.ov_model.specs.Steps.{all_moved, next_step, next_steps, steps_left};
 ghost use Rattle.ov_model.specs.World.{World, empty_world};
@@ -30,8 +30,14 @@ pub fn commands_do_what_may_be_done()
     ensures { (w : World) (s : Session) (command : Command) → NamesVersions command → IsSound w → AllMay (deed w s command).moves w }
 {}
 
-/// Each World of a run from a sound one, as from the empty one, is sound: after each of its moves all of these laws hold.
+/// Each World of a run from an empty store is sound: after each of its moves all of these laws hold. So is each World of a run
+/// from a sound one, by any forms of commands, where the lines that ask for a commit list a version, as by these forms they do.
 pub fn each_world_of_a_run_is_sound()
-    ensures { (forms : List Form) (steps : ℕ) (w : World) (s : Session) (lines : List (List ℕ)) (space : Space) (k : ℕ)
+    ensures all { (steps : ℕ) (s : Session) (lines : List (List ℕ)) (space : Space) (k : ℕ)
+        → IsSound (world_at empty_world (course all_forms steps empty_world s lines space).items k) }
+    ensures built { (steps : ℕ) (s : Session) (lines : List (List ℕ)) (space : Space) (k : ℕ)
+        → IsSound (world_at empty_world (course built_forms steps empty_world s lines space).items k) }
+    ensures kept { (forms : List Form) (steps : ℕ) (w : World) (s : Session) (lines : List (List ℕ)) (space : Space) (k : ℕ)
         → AllNameVersions forms lines → IsSound w → IsSound (world_at w (course forms steps w s lines space).items k) }
+    ensures names { (lines : List (List ℕ)) → AllNameVersions all_forms lines }
 {}

@@ -1,7 +1,7 @@
 use Rattle.std.proofs.Common.{ℕ}
 use Rattle.ov_model.specs.World.{World}
 use Rattle.ov_laws.specs.Sound.{IsSound}
-use Rattle.ov_laws.proofs.CountSound.{steps_come, steps_end}
+use Rattle.ov_laws.proofs.SoundMoves.{steps_come, steps_end}
 use Rattle.ov_laws.proofs.sound.steps_end_all_plans.Goals as goal
 
 pub returns-clause-left : goal.returns-clause-left

@@ -1,4 +1,4 @@
-use Rattle.ov_laws.proofs.CountSound.{empty_sound, moved_sound, next_may}
+use Rattle.ov_laws.proofs.SoundMoves.{empty_sound, moved_sound, next_may}
 use Rattle.ov_laws.proofs.sound.worlds_stay_sound.Goals as goal
 
 pub returns-clause-start : goal.returns-clause-start

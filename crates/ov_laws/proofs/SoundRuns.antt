@@ -10,8 +10,8 @@ use Rattle.ov_model.specs.Steps.{next_step}
 use Rattle.ov_model.specs.World.{World}
 use Rattle.ov_model.specs.declared.reply.Reply.TheVariants as says
 use Rattle.ov_laws.specs.Sound.{IsSound, MayMove, AllMay, LineNames, AllNameVersions}
-use Rattle.ov_laws.proofs.CountDeeds.{deed_may}
-use Rattle.ov_laws.proofs.CountSound.{moved_sound, next_may}
+use Rattle.ov_laws.proofs.SoundDeeds.{deed_may}
+use Rattle.ov_laws.proofs.SoundMoves.{moved_sound, next_may}
 
 -- each move may be made after those before it
 abbrev pub Go : List Item → World → Type 0

@@ -30,8 +30,8 @@ use Rattle.ov_model.proofs.Merging.{merged_rises}
 use Rattle.ov_laws.specs.Countdown.{number_times}
 use Rattle.ov_laws.specs.Pieces.{AllRiseWith}
 use Rattle.ov_laws.specs.Sound.{IsSound, MayMove, AllMay, NamesVersions}
-use Rattle.ov_laws.proofs.CountDrawn.{generated_may}
-use Rattle.ov_laws.proofs.CountSound.{moved_sound, next_may}
+use Rattle.ov_laws.proofs.SoundDrawn.{generated_may}
+use Rattle.ov_laws.proofs.SoundMoves.{moved_sound, next_may}
 
 -- ---- rows of a file, none with a key of another
 
