@@ -31,12 +31,13 @@ use Rattle.ov_model.specs.declared.reply.Reply.TheVariants as says
 use Rattle.ov_model.proofs.Courses.{world_append}
 use Rattle.ov_model.proofs.Placing.{moved_placed}
 use Rattle.ov_model.proofs.Holds.{moved_held}
-use Rattle.ov_laws.specs.Courses.{AllDue, AllIdle, HasPartitions, IsDue, NameParents}
+use Rattle.ov_laws.specs.Courses.{AllDue, AllIdle, HasPartitions, IsDue}
 use Rattle.ov_laws.proofs.CourseRows.{Up, file_rises, up_child, up_fresh, up_more, up_rises}
-use Rattle.ov_laws.proofs.CourseNumbers.{moved_numbered, named_in, one_dataset, some_number, committed_number}
+use Rattle.ov_laws.proofs.CountRuns.{moved_numbered}
+use Rattle.ov_laws.proofs.CourseNumbers.{named_in, one_dataset, some_number, committed_number}
 use Rattle.ov_laws.specs.Countdown.{AreNumbered, number_times}
 use Rattle.ov_laws.specs.Pieces.{AllLackSome, AllRiseWith, LacksSome}
-use Rattle.ov_laws.specs.Sound.{NamesVersions}
+use Rattle.ov_laws.specs.Sound.{AllNameVersions, LineNames, NamesVersions}
 
 -- ---- a list of moves, each due where it is made
 
@@ -507,22 +508,22 @@ both_due w a b numbers one more =
 then_due : (n : ℕ) (w : World) (a : Served) → AreNumbered w → IsServed w a → IsServed w (and_steps n a)
 then_due n w a numbers due = both_due w a (steps n a.session a.world a.left) numbers due (steps_due n a.session a.world a.left)
 
-line_due : (n : ℕ) (w : World) (s : Session) (space : Space) (line : Line) → ((command : Command) → line ≡ Asks command → NamesVersions command) → AreNumbered w → IsServed w (line_served n w s space line)
-line_due n w s space Comment has numbers = (tt, refl)
-line_due n w s space (Asks command) has numbers =
+line_due : (n : ℕ) (w : World) (s : Session) (space : Space) (line : Line) → LineNames line → AreNumbered w → IsServed w (line_served n w s space line)
+line_due n w s space Comment names numbers = (tt, refl)
+line_due n w s space (Asks command) names numbers =
     then_due n w (attempts (deed w s command) s 0 (deed w s command).moves w space) numbers
-    (attempts_due (deed w s command) s 0 (deed w s command).moves w space (deed_due w s command numbers (has command refl)))
-line_due n w s space (Refused refusal) has numbers = then_due n w (replied (says.Refused refusal) w s space) numbers (tt, refl)
+    (attempts_due (deed w s command) s 0 (deed w s command).moves w space (deed_due w s command numbers names))
+line_due n w s space (Refused refusal) names numbers = then_due n w (replied (says.Refused refusal) w s space) numbers (tt, refl)
 
-course_served : (forms : List Form) (n : ℕ) (w : World) (s : Session) (lines : List (List ℕ)) (space : Space) → NameParents forms → AreNumbered w → IsServed w (course forms n w s lines space)
+course_served : (forms : List Form) (n : ℕ) (w : World) (s : Session) (lines : List (List ℕ)) (space : Space) → AllNameVersions forms lines → AreNumbered w → IsServed w (course forms n w s lines space)
 course_served forms n w s [] space has numbers = (tt, refl)
 course_served forms n w s (line ∷ lines) space has numbers =
     let one = served forms n w s line space
     in both_due w one (course forms n one.world one.session lines one.left) numbers
-    (line_due n w s space (line_of forms line) (has line) numbers)
-    (course_served forms n one.world one.session lines one.left has)
+    (line_due n w s space (line_of forms line) has.0 numbers)
+    (course_served forms n one.world one.session lines one.left has.1)
 
-pub course_due : (forms : List Form) (n : ℕ) (w : World) (s : Session) (lines : List (List ℕ)) (space : Space) → NameParents forms → AreNumbered w → AllDue w (course forms n w s lines space).items
+pub course_due : (forms : List Form) (n : ℕ) (w : World) (s : Session) (lines : List (List ℕ)) (space : Space) → AllNameVersions forms lines → AreNumbered w → AllDue w (course forms n w s lines space).items
 course_due forms n w s lines space has numbers = (course_served forms n w s lines space has numbers).0
 
 -- ---- what every move keeps holds in every World
@@ -540,7 +541,7 @@ partitions_kept m w due has = record {
   held = moved_held m w due.flips has.placed has.held;
 }
 
-pub partitions_at : (forms : List Form) (n : ℕ) (w : World) (s : Session) (lines : List (List ℕ)) (space : Space) → NameParents forms → HasPartitions w → (k : ℕ)
+pub partitions_at : (forms : List Form) (n : ℕ) (w : World) (s : Session) (lines : List (List ℕ)) (space : Space) → AllNameVersions forms lines → HasPartitions w → (k : ℕ)
     → HasPartitions (world_at w (course forms n w s lines space).items k)
 partitions_at forms n w s lines space names has k =
     due_at HasPartitions partitions_kept w (course forms n w s lines space).items k (course_due forms n w s lines space names has.numbered) has

@@ -1,7 +1,6 @@
 pub mod CountParts
 pub mod CountRuns
 pub mod CountSteps
-pub mod CourseLines
 pub mod CourseMoves
 pub mod CourseNumbers
 pub mod CourseRows
@@ -24,9 +23,6 @@ pub mod PlanFlips
 pub mod PlanMoves
 pub mod PlanNodes
 pub mod PlanParts
-pub mod SoundDeeds
-pub mod SoundDrawn
 pub mod SoundForms
 pub mod SoundLines
 pub mod SoundMoves
-pub mod SoundRuns

@@ -39,10 +39,6 @@ AllDue w [] = Unit {0}
 AllDue w (Makes m ∷ items) = IsDue m w × AllDue (moved m w) items
 AllDue w (Says reply ∷ items) = AllDue w items
 
--- each commit that a line of these forms asks for has a parent
-abbrev pub NameParents : List Form → Type 0
-NameParents forms = (text : List ℕ) (command : Command) → line_of forms text ≡ Asks command → NamesVersions command
-
 -- what holds of partitions in every World of a course
 pub record HasPartitions (w : World) : Type 0 where
   pub numbered : AreNumbered w

@@ -1,4 +1,4 @@
-use Rattle.ov_laws.proofs.SoundDeeds.{deed_may}
+use Rattle.ov_laws.proofs.CourseWhole.{deed_may}
 use Rattle.ov_laws.proofs.sound.commands_do_what_may_be_done.Goals as goal
 
 pub returns : goal.returns

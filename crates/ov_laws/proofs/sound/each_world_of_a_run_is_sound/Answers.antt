@@ -3,7 +3,7 @@ use Rattle.ov_model.specs.Act.{Session}
 use Rattle.ov_model.specs.Course.{Space}
 use Rattle.ov_model.specs.Forms.{all_forms, built_forms}
 use Rattle.ov_model.specs.World.{empty_world}
-use Rattle.ov_laws.proofs.SoundRuns.{each_sound}
+use Rattle.ov_laws.proofs.CourseWhole.{each_sound}
 use Rattle.ov_laws.proofs.SoundForms.{all_name, built_name}
 use Rattle.ov_laws.proofs.SoundMoves.{empty_sound}
 use Rattle.ov_laws.proofs.sound.each_world_of_a_run_is_sound.Goals as goal
