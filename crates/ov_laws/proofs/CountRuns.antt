@@ -12,7 +12,7 @@ use Rattle.ov_model.specs.Steps.{step_of, step_or, first_step, steps_of_all}
 use Rattle.ov_model.specs.World.{Target, Plan, Dataset, World, targets_from, AllBegun}
 use Rattle.ov_model.proofs.Counting.{one_if, one_most, one_other}
 use Rattle.ov_laws.specs.Countdown.{PlanRuns, AllRun, number_times, AreNumbered}
-use Rattle.ov_laws.proofs.CountParts.{list_times, parts_times}
+use Rattle.ov_laws.proofs.PlanParts.{list_times, parts_times}
 
 -- ---- the targets that are left
 

@@ -46,13 +46,13 @@ AreDue w [] = Unit {0}
 AreDue w (m ∷ ms) = IsDue m w × AreDue (moved m w) ms
 
 drop_due : (cvd : ℕ) (w : World) → IsDue (Drop cvd) w
-drop_due cvd w = record { names = tt; rows = tt; copies = tt; flips = tt; begins = tt }
+drop_due cvd w = record { may = record { parents = tt; rows = tt; copy = tt; flip = tt }; begins = tt }
 
 checkpoint_due : (w : World) → IsDue Checkpoint w
-checkpoint_due w = record { names = tt; rows = tt; copies = tt; flips = tt; begins = tt }
+checkpoint_due w = record { may = record { parents = tt; rows = tt; copy = tt; flip = tt }; begins = tt }
 
 init_made : (name : List ℕ) (schema : Shape) (rows : List Row) (w : World) → Rises (key_cmp schema) rows → IsDue (Init name schema rows) w
-init_made name schema rows w rise = record { names = tt; rows = rise; copies = tt; flips = tt; begins = tt }
+init_made name schema rows w rise = record { may = record { parents = tt; rows = rise; copy = tt; flip = tt }; begins = tt }
 
 -- ---- what is asked of all datasets of a number
 
@@ -165,10 +165,7 @@ checkout_due w s vids file name (Some d) =
 commit_made : (w : World) (d : Dataset) (parents message : List ℕ) (added : List Column) (rows : List Row) → AreNumbered w → IsIn w.sets d → parents ≢ [] → AreThere (length d.cvd.versions) parents
     → Rises (key_cmp (wide added d).cvd.schema) rows → IsDue (Commit d.cvd.number parents message added rows) w
 commit_made w d parents message added rows numbers is some there rise = record {
-  names = all_parents d.cvd.number parents w.sets (only (HasParents parents) w d numbers is (some, there));
-  rows = all_rise d.cvd.number added rows w.sets (only (λ x. Rises (key_cmp (wide added x).cvd.schema) rows) w d numbers is rise);
-  copies = tt;
-  flips = tt;
+  may = record { parents = all_parents d.cvd.number parents w.sets (only (HasParents parents) w d numbers is (some, there)); rows = all_rise d.cvd.number added rows w.sets (only (λ x. Rises (key_cmp (wide added x).cvd.schema) rows) w d numbers is rise); copy = tt; flip = tt };
   begins = tt;
 }
 
@@ -234,10 +231,7 @@ optimize_due w s name p q (Some d) e numbers =
     in let upper = both_true (nat_le p q) (nat_le q 1000000) bounds.1
     in (
       record {
-        names = tt;
-        rows = tt;
-        copies = tt;
-        flips = tt;
+        may = record { parents = tt; rows = tt; copy = tt; flip = tt };
         begins = ((leb-true 1 p bounds.0, leb-true p q upper.0), all_idle d.cvd.number w.sets (only (λ x. x.plan ≡ None) w d numbers (named_in w name d e) idle));
       },
       tt,
@@ -262,17 +256,11 @@ some_left (suc n) e = omega arith
 step_made : (t : Bool) (w : World) (d : Dataset) (plan : Plan) → d.plan ≡ Some plan → (t ≡ true → missing d plan ≡ []) → (t ≡ false → 0 < length (missing d plan)) → AreNumbered w → IsIn w.sets d
     → IsDue (if t then Flip d.cvd.number else Copy d.cvd.number) w
 step_made true w d plan e nothing_left some numbers is = record {
-  names = tt;
-  rows = tt;
-  copies = tt;
-  flips = all_have d.cvd.number w.sets (only (λ x. HasAll x x.plan) w d numbers is (subst (HasAll d) (sym e) (nothing_left refl)));
+  may = record { parents = tt; rows = tt; copy = tt; flip = all_have d.cvd.number w.sets (only (λ x. HasAll x x.plan) w d numbers is (subst (HasAll d) (sym e) (nothing_left refl))) };
   begins = tt;
 }
 step_made false w d plan e nothing_left some numbers is = record {
-  names = tt;
-  rows = tt;
-  copies = all_lack d.cvd.number w.sets (only (λ x. LacksSome x x.plan) w d numbers is (subst (LacksSome d) (sym e) (some refl)));
-  flips = tt;
+  may = record { parents = tt; rows = tt; copy = all_lack d.cvd.number w.sets (only (λ x. LacksSome x x.plan) w d numbers is (subst (LacksSome d) (sym e) (some refl))); flip = tt };
   begins = tt;
 }
 
@@ -390,10 +378,7 @@ commits_due (suc left) number count x done w some up long =
     up_child count (length done + 1) (count + length done) parent.state (slice_index_or done (parent.is - 1) []) (omega arith) (up_at (count + length done) done (parent.is - 1) up)
     in (
       record {
-        names = long_parents number (length done) parent.is w.sets there.0 there.1 long;
-        rows = long_rise number (length done) rows.is w.sets (up_rises 0 (count + (length done + 1)) rows.is ours) long;
-        copies = tt;
-        flips = tt;
+        may = record { parents = long_parents number (length done) parent.is w.sets there.0 there.1 long; rows = long_rise number (length done) rows.is w.sets (up_rises 0 (count + (length done + 1)) rows.is ours) long; copy = tt; flip = tt };
         begins = tt;
       },
       commits_due left number count rows.state (done ++ rows.is ∷ []) (moved (Commit number (parent.is ∷ []) (codes "gen") [] rows.is) w)
@@ -537,8 +522,8 @@ due_at P kept w (Says reply ∷ items) (suc k) due holds = due_at P kept w items
 pub partitions_kept : (m : Move) (w : World) → IsDue m w → HasPartitions w → HasPartitions (moved m w)
 partitions_kept m w due has = record {
   numbered = moved_numbered m w has.numbered;
-  placed = moved_placed m w due.names has.placed;
-  held = moved_held m w due.flips has.placed has.held;
+  placed = moved_placed m w due.may.parents has.placed;
+  held = moved_held m w due.may.flip has.placed has.held;
 }
 
 pub partitions_at : (forms : List Form) (n : ℕ) (w : World) (s : Session) (lines : List (List ℕ)) (space : Space) → AllNameVersions forms lines → HasPartitions w → (k : ℕ)

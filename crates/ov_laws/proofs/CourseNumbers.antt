@@ -1,15 +1,13 @@
 -- Numbers of datasets: each is that of one dataset.
-use Rattle.std.proofs.Common.{◌≡◌, ◌≤◌, ℕ, ◌+◌, Bool, true, false, ◌==◌, List, [], ◌∷◌, ◌++◌, filter, refl, sym, ◌∙◌, ap, subst, inl, inr, arith}
-use Rattle.std.specs.Prelude.{not, if◌then◌else◌, Option, Some, None}
-use Rattle.std.proofs.lemmas.Bool.{cases_Bool, eqb-true}
+use Rattle.std.proofs.Common.{◌≡◌, ◌≤◌, ℕ, Bool, true, false, ◌==◌, List, [], ◌∷◌, refl, sym, ◌∙◌, subst, inl, inr, arith}
+use Rattle.std.specs.Prelude.{if◌then◌else◌, Option, Some}
 use Rattle.ov_value.specs.declared.column.Column.{Column}
 use Rattle.ov_model.specs.Book.{Row}
 use Rattle.ov_model.specs.Lists.{IsIn}
-use Rattle.ov_model.specs.Moves.{Move, Init, Commit, BeginPlan, Copy, Flip, Drop, Checkpoint, moved, change, numbered, committed, wide, new_set}
-use Rattle.ov_model.specs.Plans.{planned, copied_more, flipped_by, flipped}
-use Rattle.ov_model.specs.World.{Plan, Dataset, World, first_set, set_named, named}
-use Rattle.ov_model.proofs.Counting.{one_if, one_most, one_same, one_other}
-use Rattle.ov_laws.specs.Countdown.{AreNumbered, number_times}
+use Rattle.ov_model.specs.Moves.{committed, wide}
+use Rattle.ov_model.specs.World.{Dataset, World, first_set, set_named, named}
+use Rattle.ov_model.proofs.Counting.{one_if, one_same}
+use Rattle.ov_laws.specs.Countdown.{number_times}
 
 -- a change keeps numbers
 wide_number : (added : List Column) (d : Dataset) → (wide added d).cvd.number ≡ d.cvd.number

@@ -1,5 +1,5 @@
 -- In a run from a sound World partitions have the records of their versions, so that a finished plan meets its bounds.
-use Rattle.std.proofs.Common.{◌≡◌, ℕ, List, [], ◌∷◌, refl, sym, subst, inl, inr}
+use Rattle.std.proofs.Common.{◌≡◌, ℕ, List, [], ◌∷◌, sym, subst, inl, inr}
 use Rattle.std.specs.Prelude.{None}
 use Rattle.ov_model.specs.Act.{Session, deed}
 use Rattle.ov_model.specs.Course.{Space, course, world_at}
@@ -8,25 +8,21 @@ use Rattle.ov_model.specs.Lists.{IsIn}
 use Rattle.ov_model.specs.Moves.{Move, moved}
 use Rattle.ov_model.specs.World.{Dataset, World}
 use Rattle.ov_model.specs.declared.command.Command.{Command}
-use Rattle.ov_laws.specs.Courses.{HasPartitions, IsDue}
+use Rattle.ov_laws.specs.Courses.{HasPartitions}
 use Rattle.ov_laws.specs.OldOrNew.{AllTight, AreOldOrNew}
 use Rattle.ov_laws.specs.Pieces.{ArePieces, HasPieces}
 use Rattle.ov_laws.specs.PlanBounds.{AreExact, IsBounded}
 use Rattle.ov_laws.specs.PlanEnds.{ArePlanned, IsPlanned, IsSplit}
-use Rattle.ov_laws.specs.Sound.{AllMay, AllNameVersions, IsSound, MayMove, NamesVersions}
+use Rattle.ov_laws.specs.Sound.{AllMay, AllNameVersions, IsSound, NamesVersions}
 use Rattle.ov_laws.proofs.CourseMoves.{AreDue, course_due, deed_due, due_at}
 use Rattle.ov_laws.proofs.SoundMoves.{moved_sound}
 use Rattle.ov_laws.proofs.PlanBounds.{bounded_at}
 use Rattle.ov_laws.proofs.PlanExact.{parts_exact}
 use Rattle.ov_laws.proofs.PlanMoves.{planned_at, planned_in}
 
--- a move that is due may be made
-may_of : (m : Move) (w : World) → IsDue m w → MayMove m w
-may_of m w due = record { parents = due.names; rows = due.rows; copy = due.copies; flip = due.flips }
-
 all_may : (ms : List Move) (w : World) → AreDue w ms → AllMay ms w
 all_may [] w due = tt
-all_may (m ∷ ms) w due = (may_of m w due.0, all_may ms (moved m w) due.1)
+all_may (m ∷ ms) w due = (due.0.may, all_may ms (moved m w) due.1)
 
 pub deed_may : (w : World) (s : Session) (command : Command) → NamesVersions command → IsSound w → AllMay (deed w s command).moves w
 deed_may w s command names sound = all_may (deed w s command).moves w (deed_due w s command sound.numbered names)
@@ -34,7 +30,7 @@ deed_may w s command names sound = all_may (deed w s command).moves w (deed_due 
 pub each_sound : (forms : List Form) (n : ℕ) (w : World) (s : Session) (lines : List (List ℕ)) (space : Space) (k : ℕ) → AllNameVersions forms lines → IsSound w
     → IsSound (world_at w (course forms n w s lines space).items k)
 each_sound forms n w s lines space k names sound =
-    due_at IsSound (λ m v due is. moved_sound m v (may_of m v due) is) w (course forms n w s lines space).items k (course_due forms n w s lines space names sound.numbered) sound
+    due_at IsSound (λ m v due is. moved_sound m v due.may is) w (course forms n w s lines space).items k (course_due forms n w s lines space names sound.numbered) sound
 
 partitions_of : (w : World) → IsSound w → HasPartitions w
 partitions_of w sound = record { numbered = sound.numbered; placed = sound.placed; held = sound.held }

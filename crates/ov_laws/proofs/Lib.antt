@@ -1,4 +1,3 @@
-pub mod CountParts
 pub mod CountRuns
 pub mod CountSteps
 pub mod CourseMoves

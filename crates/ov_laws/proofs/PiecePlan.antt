@@ -12,7 +12,7 @@ use Rattle.ov_model.specs.Records.{Rec, is_among, recs, order_of}
 use Rattle.ov_model.specs.World.{Part, Target, Plan, Dataset, targets_from}
 use Rattle.ov_model.proofs.Counting.{one_if, one_same, range_versions}
 use Rattle.ov_laws.specs.Pieces.{rec_times, NoTwice, AllFull, IsOfOne, AreOf, PartsArePieces, versions_of, AreBelow, IsKept, AllKept, target_times, HasPieces}
-use Rattle.ov_laws.proofs.CountParts.{list_times, parts_times}
+use Rattle.ov_laws.proofs.PlanParts.{list_times, parts_times}
 use Rattle.ov_laws.proofs.CountRuns.{all_from}
 use Rattle.ov_laws.proofs.PieceFlip.{picked}
 use Rattle.ov_laws.proofs.PieceLists.{among_in, in_filtered, of_any, of-append}

@@ -267,8 +267,8 @@ plans_begun cvd p q (d ∷ sets) from to holds old are = (
 )
 
 pub moved_planned : (m : Move) (w : World) → IsDue m w → HasPartitions w → AreOldOrNew w.sets → ArePlanned w.sets → ArePlanned (moved m w).sets
-moved_planned (Init name schema rows) w due has old are = planned-append w.sets (new_set w.next name schema rows ∷ []) are (new_planned w.next name schema rows due.rows, tt)
-moved_planned (Commit cvd parents message added rows) w due has old are = planned_committed cvd parents message added rows w.sets has.placed old due.names due.rows are
+moved_planned (Init name schema rows) w due has old are = planned-append w.sets (new_set w.next name schema rows ∷ []) are (new_planned w.next name schema rows due.may.rows, tt)
+moved_planned (Commit cvd parents message added rows) w due has old are = planned_committed cvd parents message added rows w.sets has.placed old due.may.parents due.may.rows are
 moved_planned (BeginPlan cvd p q) w due has old are = plans_begun cvd p q w.sets due.begins.0.0 due.begins.0.1 has.held old are
 moved_planned (Copy cvd) w due has old are = planned_changed cvd copied_more w.sets (λ d was is. copy_planned d is) old are
 moved_planned (Flip cvd) w due has old are = planned_changed cvd flipped w.sets (λ d was is. flip_planned d d.plan refl was is) old are

@@ -13,9 +13,7 @@ mod sound;
 pub use countdown::{
     a_running_plan_has_steps_left, each_step_is_one_step_less, numbers_of_datasets_are_given_once,
 };
-pub use courses::{
-    moves_of_a_course_are_due, worlds_of_a_course_keep_their_partitions,
-};
+pub use courses::{moves_of_a_course_are_due, worlds_of_a_course_keep_their_partitions};
 pub use pieces::pieces_are_disjoint_and_together_the_records;
 pub use plans::{
     a_finished_plan_is_the_split, a_finished_plan_meets_the_bounds,
