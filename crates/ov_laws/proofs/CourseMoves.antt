@@ -298,7 +298,7 @@ abbrev AllLong : ℕ → ℕ → List Dataset → Type 0
 AllLong cvd count [] = Unit {0}
 AllLong cvd count (d ∷ sets) = (d.cvd.number ≡ cvd → (length d.cvd.versions ≡ count) × (d.cvd.schema ≡ generated_schema)) × AllLong cvd count sets
 
-wide_long : (added : List Column) (d : Dataset) → length (wide added d).cvd.versions ≡ length d.cvd.versions
+pub wide_long : (added : List Column) (d : Dataset) → length (wide added d).cvd.versions ≡ length d.cvd.versions
 wide_long [] d = refl
 wide_long (column ∷ added) d = length-map d.cvd.versions (wide_version (length (column ∷ added)))
 

@@ -5,6 +5,7 @@ pub mod CourseNumbers
 pub mod CourseRows
 pub mod CourseWhole
 pub mod MissingAfter
+pub mod OldGone
 pub mod OldMoves
 pub mod OldParts
 pub mod OldTight

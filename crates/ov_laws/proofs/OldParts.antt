@@ -139,7 +139,7 @@ part_there (part ∷ parts) vid some =
     part_if (is_one part.versions vid) part.id (part_of parts vid) parts
     (λ other. part_there parts vid (omega (arith, some, not_listed part.versions vid other)))
 
-some_id : (parts : List Part) (part : Part) → IsIn parts part → 1 ≤ id_times parts part.id
+pub some_id : (parts : List Part) (part : Part) → IsIn parts part → 1 ≤ id_times parts part.id
 some_id [] part is = absurd is
 some_id (x ∷ parts) part (inl same) = omega (arith, one_same x.id part.id (λ i. (sym same i).id))
 some_id (x ∷ parts) part (inr later) = omega (arith, some_id parts part later)

@@ -27,7 +27,7 @@ clash e = cc
 
 -- ---- a partition that waits stays
 
-in_left : (a b : List Part) (part : Part) → IsIn a part → IsIn (a ++ b) part
+pub in_left : (a b : List Part) (part : Part) → IsIn a part → IsIn (a ++ b) part
 in_left [] b part is = absurd is
 in_left (x ∷ a) b part (inl same) = inl same
 in_left (x ∷ a) b part (inr later) = inr (in_left a b part later)
@@ -60,7 +60,7 @@ module _ (d : Dataset) (v : Version) (placed : IsPlaced d) (is : IsOldOrNew d) (
 
 -- ---- where no plan runs
 
-first_listed : (vs : List ℕ) → 0 < length vs → (vid : ℕ) × (1 ≤ times vs vid)
+pub first_listed : (vs : List ℕ) → 0 < length vs → (vid : ℕ) × (1 ≤ times vs vid)
 first_listed [] some = absurd (omega (arith, some))
 first_listed (v ∷ vs) some = (v, omega (arith, one_same v v refl))
 

@@ -1,6 +1,6 @@
 -- Both bounds of a split, of the records that the partitions have.
-use Rattle.std.proofs.Common.{◌≡◌, ◌≤◌, ◌<◌, ℕ, zero, suc, ◌+◌, ◌*◌, ◌^◌, Bool, true, false, ◌==◌, List, [], ◌∷◌, ◌++◌, length, map, filter, refl, sym, ◌∙◌, ap, subst, inl, inr, arith, mul-le-mul_left}
-use Rattle.std.specs.Prelude.{if◌then◌else◌, Option, None}
+use Rattle.std.proofs.Common.{◌≡◌, ◌≤◌, ◌<◌, ℕ, zero, suc, ◌+◌, ◌*◌, ◌^◌, List, [], ◌∷◌, length, map, refl, sym, ◌∙◌, ap, subst, inl, inr, arith, mul-le-mul_left}
+use Rattle.std.specs.Prelude.{Option, None}
 use Rattle.std.specs.List.{sum}
 use Rattle.std.proofs.lemmas.List.Sums.{sum_by-cons}
 use Rattle.ov_graph.specs.declared.nodes.Node.{Node}
@@ -16,7 +16,6 @@ use Rattle.ov_model.specs.Placed.{times}
 use Rattle.ov_model.specs.Plans.{depth_at, nodes_of_set, parts_at, records_in, sizes_of}
 use Rattle.ov_model.specs.Records.{AllRise}
 use Rattle.ov_model.specs.World.{Part, Plan, Dataset, World, copied_records, cost, held, stored}
-use Rattle.ov_model.proofs.Counting.{one_if}
 use Rattle.ov_laws.specs.Courses.{HasPartitions}
 use Rattle.ov_laws.specs.OldOrNew.{AreOldOrNew, IsOldOrNew}
 use Rattle.ov_laws.specs.PlanBounds.{AreExact, IsBounded}
@@ -26,53 +25,19 @@ use Rattle.ov_laws.proofs.OldTight.{old_at, old_in}
 use Rattle.ov_laws.proofs.PlanMoves.{planned_at, planned_in}
 use Rattle.ov_laws.proofs.PlanCounts.{part_size}
 use Rattle.ov_laws.proofs.PlanNodes.{node_is, sound, whole_part}
-use Rattle.ov_laws.proofs.PlanParts.{nodes_long, same_eqb, vid_once}
+use Rattle.ov_laws.proofs.PlanParts.{keyed_by, nodes_long, order_total, total_by, vid_once}
 
--- ---- a sum over parts, in any order
-
-abbrev total_by : (List ℕ → ℕ) → List (List ℕ) → ℕ
-total_by f [] = 0
-total_by f (vs ∷ vss) = f vs + total_by f vss
-
-total-append : (f : List ℕ → ℕ) (a b : List (List ℕ)) → total_by f (a ++ b) ≡ total_by f a + total_by f b
-total-append f [] b = omega arith
-total-append f (vs ∷ a) b = omega (arith, total-append f a b)
-
-abbrev keyed_by : (List ℕ → ℕ) → List ℕ → List (List ℕ) → ℕ
-keyed_by f keys [] = 0
-keyed_by f keys (vs ∷ vss) = times keys (first_of vs) * f vs + keyed_by f keys vss
-
-keyed_if : (f : List ℕ → ℕ) (t u : Bool) (n m rest : ℕ) (vs : List ℕ) (vss : List (List ℕ)) → t ≡ u → total_by f vss + rest ≡ m
-    → total_by f (if t then vs ∷ vss else vss) + (n * f vs + rest) ≡ (one_if u + n) * f vs + m
-keyed_if f true true n m rest vs vss e is = let more : (1 + n) * f vs ≡ f vs + n * f vs = grind arith in omega (arith, is, more)
-keyed_if f true false n m rest vs vss e is = cc
-keyed_if f false true n m rest vs vss e is = cc
-keyed_if f false false n m rest vs vss e is = let more : (0 + n) * f vs ≡ n * f vs = grind arith in omega (arith, is, more)
-
-one_key : (f : List ℕ → ℕ) (k : ℕ) (keys : List ℕ) (vss : List (List ℕ)) → total_by f (filter (λ vs. first_of vs == k) vss) + keyed_by f keys vss ≡ keyed_by f (k ∷ keys) vss
-one_key f k keys [] = omega arith
-one_key f k keys (vs ∷ vss) =
-    keyed_if f (first_of vs == k) (k == first_of vs) (times keys (first_of vs)) (keyed_by f (k ∷ keys) vss) (keyed_by f keys vss) vs (filter (λ x. first_of x == k) vss)
-    (same_eqb (first_of vs) k) (one_key f k keys vss)
-
-no_keys : (f : List ℕ → ℕ) (vss : List (List ℕ)) → keyed_by f [] vss ≡ 0
-no_keys f [] = refl
-no_keys f (vs ∷ vss) = let none : 0 * f vs ≡ 0 = omega arith in omega (arith, none, no_keys f vss)
-
-order_total : (f : List ℕ → ℕ) (keys : List ℕ) (vss : List (List ℕ)) → total_by f (in_order first_of keys vss) ≡ keyed_by f keys vss
-order_total f [] vss = sym (no_keys f vss)
-order_total f (k ∷ keys) vss =
-    omega (arith, total-append f (filter (λ vs. first_of vs == k) vss) (in_order first_of keys vss), order_total f keys vss, one_key f k keys vss)
+-- ---- a sum over the parts of a split, in any order
 
 first_there : (tree : VersionTree) (count : ℕ) (part : List ℕ) → IsPart tree count part → times (vids count) (first_of part) ≡ 1
 first_there tree count [] is = absurd (omega (arith, is.some))
 first_there tree count (top ∷ rest) is = let up = is.ascends in vid_once count top (omega (arith, up.0)) up.1
 
-keyed_all : (f : List ℕ → ℕ) (tree : VersionTree) (count : ℕ) (vss : List (List ℕ)) → AreParts tree count vss → keyed_by f (vids count) vss ≡ total_by f vss
-keyed_all f tree count [] are = refl
-keyed_all f tree count (vs ∷ vss) are =
+keyed_parts : (f : List ℕ → ℕ) (tree : VersionTree) (count : ℕ) (vss : List (List ℕ)) → AreParts tree count vss → keyed_by f (vids count) vss ≡ total_by f vss
+keyed_parts f tree count [] are = refl
+keyed_parts f tree count (vs ∷ vss) are =
     let one : times (vids count) (first_of vs) * f vs ≡ f vs = ap (λ n. n * f vs) (first_there tree count vs are.0) ∙ one_mul (f vs)
-    in omega (arith, one, keyed_all f tree count vss are.1)
+    in omega (arith, one, keyed_parts f tree count vss are.1)
   where
     one_mul : (n : ℕ) → 1 * n ≡ n
     one_mul n = omega arith
@@ -134,12 +99,12 @@ module _ (d : Dataset) (have : HaveParents 0 d.cvd.versions) (rise : AllRise d.c
 
   stored_less : splits.stored (sizes_of d (parts_at d p q)) ≤ splits.stored (sizes tree pieces)
   stored_less =
-      omega (arith, stored_total (parts_at d p q), order_total size (vids long) pieces, keyed_all size tree long pieces are_parts, smaller pieces are_parts)
+      omega (arith, stored_total (parts_at d p q), order_total size (vids long) pieces, keyed_parts size tree long pieces are_parts, smaller pieces are_parts)
 
   cost_less : splits.cost (sizes_of d (parts_at d p q)) ≤ splits.cost (sizes tree pieces)
   cost_less =
       let f : List ℕ → ℕ = λ vs. length vs * size vs
-      in omega (arith, cost_total (parts_at d p q), order_total f (vids long) pieces, keyed_all f tree long pieces are_parts, cheaper pieces are_parts)
+      in omega (arith, cost_total (parts_at d p q), order_total f (vids long) pieces, keyed_parts f tree long pieces are_parts, cheaper pieces are_parts)
 
   pub stored_bound : q ^ depth_at d p q * splits.stored (sizes_of d (parts_at d p q)) ≤ (p + q) ^ depth_at d p q * all_records nodes
   stored_bound =

@@ -14,7 +14,7 @@ use Rattle.ov_model.proofs.Counting.{one_if}
 use Rattle.ov_model.proofs.Holds.{same_recs}
 use Rattle.ov_model.proofs.Rids.{order_of_once}
 use Rattle.ov_laws.specs.PlanEnds.{HaveParents}
-use Rattle.ov_laws.proofs.PlanNodes.{IsNode, node_is, sound}
+use Rattle.ov_laws.proofs.PlanNodes.{filter_most, IsNode, node_is, sound}
 
 -- none of these records is this one
 abbrev pub Apart : Rec → List Rec → Type 0
@@ -205,14 +205,6 @@ module _ (d : Dataset) (have : HaveParents 0 d.cvd.versions) (rise : AllRise d.c
       one_of : (t : Bool) → (t || false) ≡ true → (t && true) ≡ true
       one_of true e = refl
       one_of false e = cc
-
-      more_if : (t : Bool) (r : Rec) (rs : List Rec) → length (if t then r ∷ rs else rs) ≤ 1 + length rs
-      more_if true r rs = omega arith
-      more_if false r rs = omega arith
-
-      filter_most : (p : Rec → Bool) (rs : List Rec) → length (filter p rs) ≤ length rs
-      filter_most p [] = omega arith
-      filter_most p (r ∷ rs) = omega (arith, more_if (p r) r (filter p rs), filter_most p rs)
 
   -- a version whose tree parent is there adds those that it doesn't share
   fresh_size : (vid : ℕ) → 1 < vid → vid ≤ count → passing (λ r. has vid r && not (has (tree.parent vid) r)) all ≤ fresh tree vid

@@ -1,5 +1,5 @@
 -- A tight partition whose pieces are its records has the records of its versions, each once.
-use Rattle.std.proofs.Common.{◌≡◌, ◌≤◌, ◌⊎◌, ℕ, ◌+◌, ◌-◌, Bool, true, false, List, [], ◌∷◌, length, filter, refl, sym, ◌∙◌, ap, subst, inl, inr, arith}
+use Rattle.std.proofs.Common.{◌≡◌, ◌≤◌, ◌⊎◌, ℕ, ◌-◌, Bool, true, false, List, [], ◌∷◌, length, filter, refl, sym, ◌∙◌, ap, subst, inl, inr, arith}
 use Rattle.std.specs.Prelude.{◌&&◌, ◌||◌, if◌then◌else◌}
 use Rattle.std.specs.List.{list_any}
 use Rattle.std.proofs.lemmas.Bool.{cases_Bool, cond-true}
@@ -16,6 +16,7 @@ use Rattle.ov_model.proofs.Rids.{order_of_once}
 use Rattle.ov_laws.specs.OldOrNew.{AllTight}
 use Rattle.ov_laws.specs.Pieces.{AreOf, HasPieces, IsOfOne, IsPieces, NoTwice, PartsArePieces, rec_times}
 use Rattle.ov_laws.specs.PlanBounds.{AreExact}
+use Rattle.ov_laws.proofs.PlanNodes.{filter_most}
 use Rattle.ov_laws.proofs.PlanCounts.{Apart, Once, listed_pass}
 
 clash : {X : Type 0} → true ≡ false → X
@@ -95,14 +96,6 @@ all_pass p (r ∷ rs) each =
 and_true : (t : Bool) → t ≡ true → (t && true) ≡ true
 and_true true e = refl
 and_true false e = cc
-
-more_if : (t : Bool) (r : Rec) (rs : List Rec) → length (if t then r ∷ rs else rs) ≤ 1 + length rs
-more_if true r rs = omega arith
-more_if false r rs = omega arith
-
-filter_most : (p : Rec → Bool) (rs : List Rec) → length (filter p rs) ≤ length rs
-filter_most p [] = omega arith
-filter_most p (r ∷ rs) = omega (arith, more_if (p r) r (filter p rs), filter_most p rs)
 
 shorter : (xs ys : List Rec) → Once xs → ((r : Rec) → IsIn xs r → IsIn ys r) → length xs ≤ length ys
 shorter xs ys once within =

@@ -12,6 +12,7 @@ use Rattle.ov_model.proofs.Counting.{one_same}
 use Rattle.ov_laws.specs.OldOrNew.{IsRunning, IsOld, IsNew}
 use Rattle.ov_laws.specs.PlanEnds.{versions_of, listed_by, HasAllVersions, AreFlipped, IsSplitting, Splits}
 use Rattle.ov_laws.proofs.OldMoves.{left_old, none_left, still_new, target_new}
+use Rattle.ov_laws.proofs.OldTight.{in_left}
 use Rattle.ov_laws.proofs.OldParts.{in_append, in_map, in_filter}
 
 -- ---- a flip
@@ -125,11 +126,6 @@ module _ (d : Dataset) (plan : Plan) (runs : IsRunning plan) (some : (part : Par
   last_if : (t : Bool) → next_if t ≡ None → t ≡ false
   last_if true e = cc
   last_if false e = refl
-
-  in_left : (a b : List Part) (part : Part) → IsIn a part → IsIn (a ++ b) part
-  in_left [] b part is = absurd is
-  in_left (x ∷ a) b part (inl same) = inl same
-  in_left (x ∷ a) b part (inr later) = inr (in_left a b part later)
 
   pub last_split : IsSplitting d plan → next_target plan ≡ None → ((part : Part) → IsIn (flipped_by d (Some plan)).parts part → 0 < length part.versions)
       → versions_of (flipped_by d (Some plan)).parts ≡ parts_at d plan.p plan.q

@@ -1,7 +1,7 @@
 -- Each move keeps what a plan makes of partitions, their order by number, and parents before their versions.
 use Rattle.std.proofs.Common.{◌≡◌, ◌≤◌, ◌<◌, ℕ, ◌+◌, Bool, true, false, ◌==◌, List, [], ◌∷◌, ◌++◌, length, map, filter, refl, sym, ◌∙◌, ap, subst, inl, inr, arith, append-nil}
 use Rattle.std.specs.Prelude.{not, nat_lt, if◌then◌else◌, Option, Some, None}
-use Rattle.std.proofs.lemmas.List.{length-append, length-map}
+use Rattle.std.proofs.lemmas.List.{length-append}
 use Rattle.std.proofs.lemmas.Bool.{eqb-true}
 use Rattle.ov_place.specs.declared.place_facts.Place.{Place}
 use Rattle.ov_place.specs.declared.place_facts.Place.TheVariants.{Own, Join}
@@ -25,7 +25,7 @@ use Rattle.ov_model.specs.World.{Part, Plan, Dataset, World}
 use Rattle.ov_laws.specs.Courses.{IsDue, HasPartitions}
 use Rattle.ov_laws.specs.OldOrNew.{Runs, IsOldOrNew, AreOldOrNew}
 use Rattle.ov_laws.specs.PlanEnds.{listed_by, HasAllVersions, HasAllIn, PlanHasAll, IsSplitting, Splits, AreByNumber, AreParents, HaveParents, IsPlanned, ArePlanned, IsSplit}
-use Rattle.ov_laws.proofs.CourseMoves.{course_due, due_at}
+use Rattle.ov_laws.proofs.CourseMoves.{course_due, due_at, wide_long}
 use Rattle.ov_laws.proofs.CourseRows.{cmp_wide}
 use Rattle.ov_laws.proofs.OldMoves.{flip_old, planned_waits, wide_placed}
 use Rattle.ov_laws.proofs.OldParts.{targets_past}
@@ -124,10 +124,6 @@ past_splits : (d : Dataset) (count : ℕ) (plan : Option Plan) → PlanIs count 
 past_splits d count None are past = tt
 past_splits d count (Some plan) are past = λ all.
     absurd (omega (arith, all (length d.cvd.versions) (omega (arith, past)) (omega arith), targets_past count plan.targets (length d.cvd.versions) are past))
-
-wide_long : (added : List Column) (d : Dataset) → length (wide added d).cvd.versions ≡ length d.cvd.versions
-wide_long [] d = refl
-wide_long (column ∷ added) d = length-map d.cvd.versions (wide_version (length (column ∷ added)))
 
 wide_numbers : (added : List Column) (d : Dataset) → AreByNumber 1 d.next_part d.parts → AreByNumber 1 (wide added d).next_part (wide added d).parts
 wide_numbers [] d are = are

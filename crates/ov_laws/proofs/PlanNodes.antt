@@ -116,6 +116,14 @@ each_node (v ∷ vs) done (suc j) have low =
     in subst (λ k. IsNode (recs (v ∷ vs) done) k (slice_index_or (reduced (graph_of vs (done ++ ours ∷ []))) j no_node)) same
     (each_node vs (done ++ ours ∷ []) j (subst (λ n. HaveParents n vs) (sym (longer done ours)) have.1) (omega (arith, low)))
 
+more_if : (t : Bool) (r : Rec) (rs : List Rec) → length (if t then r ∷ rs else rs) ≤ 1 + length rs
+more_if true r rs = omega arith
+more_if false r rs = omega arith
+
+pub filter_most : (p : Rec → Bool) (rs : List Rec) → length (filter p rs) ≤ length rs
+filter_most p [] = omega arith
+filter_most p (r ∷ rs) = omega (arith, more_if (p r) r (filter p rs), filter_most p rs)
+
 module _ (d : Dataset) (have : HaveParents 0 d.cvd.versions) where
   abbrev nodes : List Node
   nodes = nodes_of_set d
@@ -133,14 +141,6 @@ module _ (d : Dataset) (have : HaveParents 0 d.cvd.versions) where
 
   weight_most : (a b : List Rec) → weight a b ≤ length a
   weight_most a b = omega (arith, length-filter (is_among b) a, filter_most (is_among b) a)
-    where
-      more_if : (t : Bool) (r : Rec) (rs : List Rec) → length (if t then r ∷ rs else rs) ≤ 1 + length rs
-      more_if true r rs = omega arith
-      more_if false r rs = omega arith
-
-      filter_most : (p : Rec → Bool) (rs : List Rec) → length (filter p rs) ≤ length rs
-      filter_most p [] = omega arith
-      filter_most p (r ∷ rs) = omega (arith, more_if (p r) r (filter p rs), filter_most p rs)
 
   within_at : (k : ℕ) → k < length d.cvd.versions → (slice_index_or nodes k no_node).weight ≤ (slice_index_or nodes k no_node).records
   within_at k low =

@@ -15,14 +15,59 @@ use Rattle.ov_model.specs.World.{Target, Dataset}
 use Rattle.ov_model.proofs.Counting.{one_if, one_same, range_versions}
 use Rattle.ov_laws.specs.Pieces.{target_times}
 
+-- ---- a sum over lists, in the order of their first versions
+
+pub same_eqb : (a b : ℕ) → (a == b) ≡ (b == a)
+same_eqb a b =
+    elim (cases_Bool (a == b)) [
+      | inl same ↦ same ∙ sym (eq-eqb b a (sym (eqb-true a b same)))
+      | inr other ↦
+          elim (cases_Bool (b == a)) [
+            | inl back ↦ absurd (clash (sym (eq-eqb a b (sym (eqb-true b a back))) ∙ other))
+            | inr also ↦ other ∙ sym also
+          ]
+    ]
+  where
+    clash : true ≡ false → ⊥
+    clash e = cc
+
+abbrev pub total_by : (List ℕ → ℕ) → List (List ℕ) → ℕ
+total_by f [] = 0
+total_by f (vs ∷ vss) = f vs + total_by f vss
+
+pub total-append : (f : List ℕ → ℕ) (a b : List (List ℕ)) → total_by f (a ++ b) ≡ total_by f a + total_by f b
+total-append f [] b = omega arith
+total-append f (vs ∷ a) b = omega (arith, total-append f a b)
+
+abbrev pub keyed_by : (List ℕ → ℕ) → List ℕ → List (List ℕ) → ℕ
+keyed_by f keys [] = 0
+keyed_by f keys (vs ∷ vss) = times keys (first_of vs) * f vs + keyed_by f keys vss
+
+keyed_if : (f : List ℕ → ℕ) (t u : Bool) (n m rest : ℕ) (vs : List ℕ) (vss : List (List ℕ)) → t ≡ u → total_by f vss + rest ≡ m
+    → total_by f (if t then vs ∷ vss else vss) + (n * f vs + rest) ≡ (one_if u + n) * f vs + m
+keyed_if f true true n m rest vs vss e is = let more : (1 + n) * f vs ≡ f vs + n * f vs = grind arith in omega (arith, is, more)
+keyed_if f true false n m rest vs vss e is = cc
+keyed_if f false true n m rest vs vss e is = cc
+keyed_if f false false n m rest vs vss e is = let more : (0 + n) * f vs ≡ n * f vs = grind arith in omega (arith, is, more)
+
+one_key : (f : List ℕ → ℕ) (k : ℕ) (keys : List ℕ) (vss : List (List ℕ)) → total_by f (filter (λ vs. first_of vs == k) vss) + keyed_by f keys vss ≡ keyed_by f (k ∷ keys) vss
+one_key f k keys [] = omega arith
+one_key f k keys (vs ∷ vss) =
+    keyed_if f (first_of vs == k) (k == first_of vs) (times keys (first_of vs)) (keyed_by f (k ∷ keys) vss) (keyed_by f keys vss) vs (filter (λ x. first_of x == k) vss)
+    (same_eqb (first_of vs) k) (one_key f k keys vss)
+
+no_keys : (f : List ℕ → ℕ) (vss : List (List ℕ)) → keyed_by f [] vss ≡ 0
+no_keys f [] = refl
+no_keys f (vs ∷ vss) = let none : 0 * f vs ≡ 0 = omega arith in omega (arith, none, no_keys f vss)
+
+pub order_total : (f : List ℕ → ℕ) (keys : List ℕ) (vss : List (List ℕ)) → total_by f (in_order first_of keys vss) ≡ keyed_by f keys vss
+order_total f [] vss = sym (no_keys f vss)
+order_total f (k ∷ keys) vss =
+    omega (arith, total-append f (filter (λ vs. first_of vs == k) vss) (in_order first_of keys vss), order_total f keys vss, one_key f k keys vss)
+
 -- how often a version is listed, over lists
 abbrev pub list_times : List (List ℕ) → ℕ → ℕ
-list_times [] vid = 0
-list_times (vs ∷ vss) vid = times vs vid + list_times vss vid
-
-pub lists-append : (a b : List (List ℕ)) (vid : ℕ) → list_times (a ++ b) vid ≡ list_times a vid + list_times b vid
-lists-append [] b vid = omega arith
-lists-append (vs ∷ a) b vid = omega (arith, lists-append a b vid)
+list_times vss vid = total_by (λ vs. times vs vid) vss
 
 -- ---- a version is on one side of a cut
 
@@ -46,58 +91,15 @@ leaves_times (suc levels) tree p q part vid =
       | None ↦ omega arith
       | Some at ↦ omega (
         arith,
-        lists-append (leaves (cuts_within levels tree p q (upper tree at part))) (leaves (cuts_within levels tree p q (lower tree at part))) vid,
+        total-append (λ vs. times vs vid) (leaves (cuts_within levels tree p q (upper tree at part))) (leaves (cuts_within levels tree p q (lower tree at part))),
         leaves_times levels tree p q (upper tree at part) vid,
         leaves_times levels tree p q (lower tree at part) vid,
         split_times (λ version. is_under tree at version) part vid,
       )
     ]
 
--- ---- in the order of their first versions
-
--- each list as often as its first version is a key
-abbrev keyed : List ℕ → List (List ℕ) → ℕ → ℕ
-keyed keys [] vid = 0
-keyed keys (vs ∷ vss) vid = times keys (first_of vs) * times vs vid + keyed keys vss vid
-
-keyed_if : (t u : Bool) (n m rest : ℕ) (vs : List ℕ) (vss : List (List ℕ)) (vid : ℕ) → t ≡ u → list_times vss vid + rest ≡ m
-    → list_times (if t then vs ∷ vss else vss) vid + (n * times vs vid + rest) ≡ (one_if u + n) * times vs vid + m
-keyed_if true true n m rest vs vss vid e is = let more : (1 + n) * times vs vid ≡ times vs vid + n * times vs vid = grind arith in omega (arith, is, more)
-keyed_if true false n m rest vs vss vid e is = cc
-keyed_if false true n m rest vs vss vid e is = cc
-keyed_if false false n m rest vs vss vid e is = let more : (0 + n) * times vs vid ≡ n * times vs vid = grind arith in omega (arith, is, more)
-
-pub same_eqb : (a b : ℕ) → (a == b) ≡ (b == a)
-same_eqb a b =
-    elim (cases_Bool (a == b)) [
-      | inl same ↦ same ∙ sym (eq-eqb b a (sym (eqb-true a b same)))
-      | inr other ↦
-          elim (cases_Bool (b == a)) [
-            | inl back ↦ absurd (clash (sym (eq-eqb a b (sym (eqb-true b a back))) ∙ other))
-            | inr also ↦ other ∙ sym also
-          ]
-    ]
-  where
-    clash : true ≡ false → ⊥
-    clash e = cc
-
-one_key : (k : ℕ) (keys : List ℕ) (vss : List (List ℕ)) (vid : ℕ) → list_times (filter (λ vs. first_of vs == k) vss) vid + keyed keys vss vid ≡ keyed (k ∷ keys) vss vid
-one_key k keys [] vid = omega arith
-one_key k keys (vs ∷ vss) vid =
-    keyed_if (first_of vs == k) (k == first_of vs) (times keys (first_of vs)) (keyed (k ∷ keys) vss vid) (keyed keys vss vid) vs (filter (λ x. first_of x == k) vss) vid
-    (same_eqb (first_of vs) k) (one_key k keys vss vid)
-
-no_keys : (vss : List (List ℕ)) (vid : ℕ) → keyed [] vss vid ≡ 0
-no_keys [] vid = refl
-no_keys (vs ∷ vss) vid = let none : 0 * times vs vid ≡ 0 = omega arith in omega (arith, none, no_keys vss vid)
-
-order_times : (keys : List ℕ) (vss : List (List ℕ)) (vid : ℕ) → list_times (in_order first_of keys vss) vid ≡ keyed keys vss vid
-order_times [] vss vid = sym (no_keys vss vid)
-order_times (k ∷ keys) vss vid =
-    omega (arith, lists-append (filter (λ vs. first_of vs == k) vss) (in_order first_of keys vss) vid, order_times keys vss vid, one_key k keys vss vid)
-
 -- where each of their versions is a key once
-keyed_all : (keys : List ℕ) (vss : List (List ℕ)) (vid : ℕ) → ((v : ℕ) → 1 ≤ list_times vss v → times keys v ≡ 1) → keyed keys vss vid ≡ list_times vss vid
+keyed_all : (keys : List ℕ) (vss : List (List ℕ)) (vid : ℕ) → ((v : ℕ) → 1 ≤ list_times vss v → times keys v ≡ 1) → keyed_by (λ vs. times vs vid) keys vss ≡ list_times vss vid
 keyed_all keys [] vid one = refl
 keyed_all keys ([] ∷ vss) vid one =
     let none : times keys 0 * 0 ≡ 0 = mul-zero (times keys 0)
@@ -137,7 +139,7 @@ parts_times d p q vid =
     let size : ℕ = length (nodes_of_set d)
     in let pieces : List (List ℕ) = leaves (cuts_of (tree_of (nodes_of_set d)) p q (vids size))
     in let all : (v : ℕ) → list_times pieces v ≡ times (vids size) v = leaves_times (length (vids size)) (tree_of (nodes_of_set d)) p q (vids size)
-    in order_times (vids size) pieces vid
+    in order_total (λ vs. times vs vid) (vids size) pieces
     ∙ keyed_all (vids size) pieces vid (λ v some. omega (arith, (range_versions size).once v, all v, some))
     ∙ all vid
     ∙ ap (λ n. times (vids n) vid) (nodes_long d)

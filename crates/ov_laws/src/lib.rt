@@ -17,8 +17,9 @@ pub use courses::{moves_of_a_course_are_due, worlds_of_a_course_keep_their_parti
 pub use pieces::pieces_are_disjoint_and_together_the_records;
 pub use plans::{
     a_finished_plan_is_the_split, a_finished_plan_meets_the_bounds,
-    a_plan_has_all_versions_until_a_commit, a_waiting_partition_takes_no_version,
-    partitions_are_old_or_new, partitions_are_tight_where_no_plan_runs, tight_partitions_are_exact,
+    a_plan_has_all_versions_until_a_commit, a_waiting_partition_goes,
+    a_waiting_partition_takes_no_version, partitions_are_old_or_new,
+    partitions_are_tight_where_no_plan_runs, tight_partitions_are_exact,
 };
 pub use sound::{
     commands_do_what_may_be_done, each_world_of_a_run_is_sound, steps_end_all_plans,

@@ -1,5 +1,5 @@
 // Laws of plans.
-ghost use Rattle.std.specs.Prelude.{◌≡◌, ◌≤◌, ℕ, true, false, List, Some, None};
+ghost use Rattle.std.specs.Prelude.{◌≡◌, ◌≢◌, ◌≤◌, ℕ, true, false, List, Some, None};
 ghost use Rattle.ov_place.specs.declared.place_facts.Place.TheVariants.{Join};
 ghost use Rattle.ov_model.specs.Act.{Session};
 ghost use Rattle.ov_model.specs.Book.{Version};
@@ -11,7 +11,7 @@ ghost use Rattle.ov_model.specs.Placed.{HasParents, IsPlaced, times};
 ghost use Rattle.ov_model.specs.Plans.{copied_more, flipped, planned};
 ghost use Rattle.ov_model.specs.World.{Dataset, Part, Plan, World, empty_world, is_unmoved};
 ghost use Rattle.ov_laws.specs.Courses.{HasPartitions, IsDue};
-ghost use Rattle.ov_laws.specs.OldOrNew.{AllTight, AreOldOrNew, IsOldOrNew};
+ghost use Rattle.ov_laws.specs.OldOrNew.{AllTight, AreOldOrNew, IsOld, IsOldOrNew};
 ghost use Rattle.ov_laws.specs.Pieces.{HasPieces};
 ghost use Rattle.ov_laws.specs.PlanBounds.{AreExact, IsBounded};
 ghost use Rattle.ov_laws.specs.PlanEnds.{ArePlanned, HasAllVersions, IsPlanned, IsSplit, PlanHasAll};
@@ -32,6 +32,19 @@ pub fn a_waiting_partition_takes_no_version()
         → (part : Part) → IsIn d.parts part → part.id ≡ id → (vid : ℕ) → 1 ≤ times part.versions vid → is_unmoved d.plan vid ≡ false }
     ensures stays { (d : Dataset) (v : Version) → IsPlaced d → IsOldOrNew d → HasParents v.parents d
         → (part : Part) (vid : ℕ) → IsIn d.parts part → 1 ≤ times part.versions vid → is_unmoved d.plan vid ≡ true → IsIn (with_version v d).parts part }
+{}
+
+/// A partition that has a version in a target not yet flipped goes on to wait as a whole, with commits and with steps, and after
+/// the plan's last flip it is gone.
+pub fn a_waiting_partition_goes()
+    ensures version { (d : Dataset) → IsPlaced d → IsOldOrNew d → (part : Part) → IsIn d.parts part → IsOld d.plan part
+        → (v : Version) → HasParents v.parents d → (after : Part) → IsIn (with_version v d).parts after → after.id ≡ part.id → IsOld (with_version v d).plan after }
+    ensures copied { (d : Dataset) → IsPlaced d → IsOldOrNew d → (part : Part) → IsIn d.parts part → IsOld d.plan part
+        → (after : Part) → IsIn (copied_more d).parts after → after.id ≡ part.id → IsOld (copied_more d).plan after }
+    ensures flipped { (d : Dataset) → IsPlaced d → IsOldOrNew d → (part : Part) → IsIn d.parts part → IsOld d.plan part
+        → (after : Part) → IsIn (flipped d).parts after → after.id ≡ part.id → IsOld (flipped d).plan after }
+    ensures gone { (d : Dataset) → IsPlaced d → IsOldOrNew d → (part : Part) → IsIn d.parts part → IsOld d.plan part
+        → (flipped d).plan ≡ None → (after : Part) → IsIn (flipped d).parts after → after.id ≢ part.id }
 {}
 
 /// Where no plan of a dataset runs, each of its partitions keeps the records of its own versions alone. So it is after any flip
