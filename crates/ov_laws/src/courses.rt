@@ -12,8 +12,8 @@ pub fn lines_name_parents()
     ensures built { NameParents built_forms }
 {}
 
-/// At the World in which it is made, each move of a run meets what keeps partitions right: a commit's parents are there, a flip
-/// finds no record missing, and a plan begins where none runs.
+/// At the World in which it is made, each move of a run meets what keeps partitions right: a commit's parents are there, a new
+/// version's rows rise by their keys, a copy finds a record missing and a flip none, and a plan begins where none runs.
 pub fn moves_of_a_course_are_due()
     ensures { (forms : List Form) (steps : ℕ) (w : World) (s : Session) (lines : List (List ℕ)) (space : Space) → NameParents forms → AreNumbered w
         → AllDue w (course forms steps w s lines space).items }
