@@ -8,8 +8,8 @@ ghost use Rattle.ov_laws.specs.Courses.{AllDue, HasPartitions};
 ghost use Rattle.ov_laws.specs.Countdown.{AreNumbered};
 ghost use Rattle.ov_laws.specs.Sound.{AllNameVersions};
 
-/// At the World in which it is made, each move of a run meets what keeps partitions right: a commit's parents are there, a flip
-/// finds no record missing, and a plan begins where none runs.
+/// At the World in which it is made, each move of a run meets what keeps partitions right: a commit's parents are there, a new
+/// version's rows rise by their keys, a copy finds a record missing and a flip none, and a plan begins where none runs.
 pub fn moves_of_a_course_are_due()
     ensures { (forms : List Form) (steps : ℕ) (w : World) (s : Session) (lines : List (List ℕ)) (space : Space) → AllNameVersions forms lines → AreNumbered w
         → AllDue w (course forms steps w s lines space).items }
