@@ -31,9 +31,13 @@ use Rattle.ov_model.specs.declared.reply.Reply.TheVariants as says
 use Rattle.ov_model.proofs.Courses.{world_append}
 use Rattle.ov_model.proofs.Placing.{moved_placed}
 use Rattle.ov_model.proofs.Holds.{moved_held}
-use Rattle.ov_laws.specs.Courses.{AllDue, AllIdle, AllLackSome, AllRiseWith, AreNumbered, HasParent, HasPartitions, IsDue, LacksSome, NameParents, number_times}
+use Rattle.ov_laws.specs.Courses.{AllDue, AllIdle, HasPartitions, IsDue}
 use Rattle.ov_laws.proofs.CourseRows.{Up, file_rises, up_child, up_fresh, up_more, up_rises}
-use Rattle.ov_laws.proofs.CourseNumbers.{moved_numbered, named_in, one_dataset, some_number, committed_number}
+use Rattle.ov_laws.proofs.CountRuns.{moved_numbered}
+use Rattle.ov_laws.proofs.CourseNumbers.{named_in, one_dataset, some_number, committed_number}
+use Rattle.ov_laws.specs.Countdown.{AreNumbered, number_times}
+use Rattle.ov_laws.specs.Pieces.{AllLackSome, AllRiseWith, LacksSome}
+use Rattle.ov_laws.specs.Sound.{AllNameVersions, LineNames, NamesVersions}
 
 -- ---- a list of moves, each due where it is made
 
@@ -42,13 +46,13 @@ AreDue w [] = Unit {0}
 AreDue w (m ∷ ms) = IsDue m w × AreDue (moved m w) ms
 
 drop_due : (cvd : ℕ) (w : World) → IsDue (Drop cvd) w
-drop_due cvd w = record { names = tt; rows = tt; copies = tt; flips = tt; begins = tt }
+drop_due cvd w = record { may = record { parents = tt; rows = tt; copy = tt; flip = tt }; begins = tt }
 
 checkpoint_due : (w : World) → IsDue Checkpoint w
-checkpoint_due w = record { names = tt; rows = tt; copies = tt; flips = tt; begins = tt }
+checkpoint_due w = record { may = record { parents = tt; rows = tt; copy = tt; flip = tt }; begins = tt }
 
 init_made : (name : List ℕ) (schema : Shape) (rows : List Row) (w : World) → Rises (key_cmp schema) rows → IsDue (Init name schema rows) w
-init_made name schema rows w rise = record { names = tt; rows = rise; copies = tt; flips = tt; begins = tt }
+init_made name schema rows w rise = record { may = record { parents = tt; rows = rise; copy = tt; flip = tt }; begins = tt }
 
 -- ---- what is asked of all datasets of a number
 
@@ -161,10 +165,7 @@ checkout_due w s vids file name (Some d) =
 commit_made : (w : World) (d : Dataset) (parents message : List ℕ) (added : List Column) (rows : List Row) → AreNumbered w → IsIn w.sets d → parents ≢ [] → AreThere (length d.cvd.versions) parents
     → Rises (key_cmp (wide added d).cvd.schema) rows → IsDue (Commit d.cvd.number parents message added rows) w
 commit_made w d parents message added rows numbers is some there rise = record {
-  names = all_parents d.cvd.number parents w.sets (only (HasParents parents) w d numbers is (some, there));
-  rows = all_rise d.cvd.number added rows w.sets (only (λ x. Rises (key_cmp (wide added x).cvd.schema) rows) w d numbers is rise);
-  copies = tt;
-  flips = tt;
+  may = record { parents = all_parents d.cvd.number parents w.sets (only (HasParents parents) w d numbers is (some, there)); rows = all_rise d.cvd.number added rows w.sets (only (λ x. Rises (key_cmp (wide added x).cvd.schema) rows) w d numbers is rise); copy = tt; flip = tt };
   begins = tt;
 }
 
@@ -230,10 +231,7 @@ optimize_due w s name p q (Some d) e numbers =
     in let upper = both_true (nat_le p q) (nat_le q 1000000) bounds.1
     in (
       record {
-        names = tt;
-        rows = tt;
-        copies = tt;
-        flips = tt;
+        may = record { parents = tt; rows = tt; copy = tt; flip = tt };
         begins = ((leb-true 1 p bounds.0, leb-true p q upper.0), all_idle d.cvd.number w.sets (only (λ x. x.plan ≡ None) w d numbers (named_in w name d e) idle));
       },
       tt,
@@ -258,17 +256,11 @@ some_left (suc n) e = omega arith
 step_made : (t : Bool) (w : World) (d : Dataset) (plan : Plan) → d.plan ≡ Some plan → (t ≡ true → missing d plan ≡ []) → (t ≡ false → 0 < length (missing d plan)) → AreNumbered w → IsIn w.sets d
     → IsDue (if t then Flip d.cvd.number else Copy d.cvd.number) w
 step_made true w d plan e nothing_left some numbers is = record {
-  names = tt;
-  rows = tt;
-  copies = tt;
-  flips = all_have d.cvd.number w.sets (only (λ x. HasAll x x.plan) w d numbers is (subst (HasAll d) (sym e) (nothing_left refl)));
+  may = record { parents = tt; rows = tt; copy = tt; flip = all_have d.cvd.number w.sets (only (λ x. HasAll x x.plan) w d numbers is (subst (HasAll d) (sym e) (nothing_left refl))) };
   begins = tt;
 }
 step_made false w d plan e nothing_left some numbers is = record {
-  names = tt;
-  rows = tt;
-  copies = all_lack d.cvd.number w.sets (only (λ x. LacksSome x x.plan) w d numbers is (subst (LacksSome d) (sym e) (some refl)));
-  flips = tt;
+  may = record { parents = tt; rows = tt; copy = all_lack d.cvd.number w.sets (only (λ x. LacksSome x x.plan) w d numbers is (subst (LacksSome d) (sym e) (some refl))); flip = tt };
   begins = tt;
 }
 
@@ -386,10 +378,7 @@ commits_due (suc left) number count x done w some up long =
     up_child count (length done + 1) (count + length done) parent.state (slice_index_or done (parent.is - 1) []) (omega arith) (up_at (count + length done) done (parent.is - 1) up)
     in (
       record {
-        names = long_parents number (length done) parent.is w.sets there.0 there.1 long;
-        rows = long_rise number (length done) rows.is w.sets (up_rises 0 (count + (length done + 1)) rows.is ours) long;
-        copies = tt;
-        flips = tt;
+        may = record { parents = long_parents number (length done) parent.is w.sets there.0 there.1 long; rows = long_rise number (length done) rows.is w.sets (up_rises 0 (count + (length done + 1)) rows.is ours) long; copy = tt; flip = tt };
         begins = tt;
       },
       commits_due left number count rows.state (done ++ rows.is ∷ []) (moved (Commit number (parent.is ∷ []) (codes "gen") [] rows.is) w)
@@ -424,7 +413,7 @@ generated_due w name seed count versions numbers =
 
 -- ---- a command
 
-pub deed_due : (w : World) (s : Session) (command : Command) → AreNumbered w → HasParent command → AreDue w (deed w s command).moves
+pub deed_due : (w : World) (s : Session) (command : Command) → AreNumbered w → NamesVersions command → AreDue w (deed w s command).moves
 deed_due w s (asks.Init cvd schema file) numbers has = init_due w s cvd schema file
 deed_due w s (asks.Checkout cvd vids file None) numbers has = checkout_due w s vids file cvd (set_named w cvd)
 deed_due w s (asks.Checkout cvd vids file (Some table)) numbers has = tt
@@ -504,22 +493,22 @@ both_due w a b numbers one more =
 then_due : (n : ℕ) (w : World) (a : Served) → AreNumbered w → IsServed w a → IsServed w (and_steps n a)
 then_due n w a numbers due = both_due w a (steps n a.session a.world a.left) numbers due (steps_due n a.session a.world a.left)
 
-line_due : (n : ℕ) (w : World) (s : Session) (space : Space) (line : Line) → ((command : Command) → line ≡ Asks command → HasParent command) → AreNumbered w → IsServed w (line_served n w s space line)
-line_due n w s space Comment has numbers = (tt, refl)
-line_due n w s space (Asks command) has numbers =
+line_due : (n : ℕ) (w : World) (s : Session) (space : Space) (line : Line) → LineNames line → AreNumbered w → IsServed w (line_served n w s space line)
+line_due n w s space Comment names numbers = (tt, refl)
+line_due n w s space (Asks command) names numbers =
     then_due n w (attempts (deed w s command) s 0 (deed w s command).moves w space) numbers
-    (attempts_due (deed w s command) s 0 (deed w s command).moves w space (deed_due w s command numbers (has command refl)))
-line_due n w s space (Refused refusal) has numbers = then_due n w (replied (says.Refused refusal) w s space) numbers (tt, refl)
+    (attempts_due (deed w s command) s 0 (deed w s command).moves w space (deed_due w s command numbers names))
+line_due n w s space (Refused refusal) names numbers = then_due n w (replied (says.Refused refusal) w s space) numbers (tt, refl)
 
-course_served : (forms : List Form) (n : ℕ) (w : World) (s : Session) (lines : List (List ℕ)) (space : Space) → NameParents forms → AreNumbered w → IsServed w (course forms n w s lines space)
+course_served : (forms : List Form) (n : ℕ) (w : World) (s : Session) (lines : List (List ℕ)) (space : Space) → AllNameVersions forms lines → AreNumbered w → IsServed w (course forms n w s lines space)
 course_served forms n w s [] space has numbers = (tt, refl)
 course_served forms n w s (line ∷ lines) space has numbers =
     let one = served forms n w s line space
     in both_due w one (course forms n one.world one.session lines one.left) numbers
-    (line_due n w s space (line_of forms line) (has line) numbers)
-    (course_served forms n one.world one.session lines one.left has)
+    (line_due n w s space (line_of forms line) has.0 numbers)
+    (course_served forms n one.world one.session lines one.left has.1)
 
-pub course_due : (forms : List Form) (n : ℕ) (w : World) (s : Session) (lines : List (List ℕ)) (space : Space) → NameParents forms → AreNumbered w → AllDue w (course forms n w s lines space).items
+pub course_due : (forms : List Form) (n : ℕ) (w : World) (s : Session) (lines : List (List ℕ)) (space : Space) → AllNameVersions forms lines → AreNumbered w → AllDue w (course forms n w s lines space).items
 course_due forms n w s lines space has numbers = (course_served forms n w s lines space has numbers).0
 
 -- ---- what every move keeps holds in every World
@@ -533,11 +522,11 @@ due_at P kept w (Says reply ∷ items) (suc k) due holds = due_at P kept w items
 pub partitions_kept : (m : Move) (w : World) → IsDue m w → HasPartitions w → HasPartitions (moved m w)
 partitions_kept m w due has = record {
   numbered = moved_numbered m w has.numbered;
-  placed = moved_placed m w due.names has.placed;
-  held = moved_held m w due.flips has.placed has.held;
+  placed = moved_placed m w due.may.parents has.placed;
+  held = moved_held m w due.may.flip has.placed has.held;
 }
 
-pub partitions_at : (forms : List Form) (n : ℕ) (w : World) (s : Session) (lines : List (List ℕ)) (space : Space) → NameParents forms → HasPartitions w → (k : ℕ)
+pub partitions_at : (forms : List Form) (n : ℕ) (w : World) (s : Session) (lines : List (List ℕ)) (space : Space) → AllNameVersions forms lines → HasPartitions w → (k : ℕ)
     → HasPartitions (world_at w (course forms n w s lines space).items k)
 partitions_at forms n w s lines space names has k =
     due_at HasPartitions partitions_kept w (course forms n w s lines space).items k (course_due forms n w s lines space names has.numbered) has

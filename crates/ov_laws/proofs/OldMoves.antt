@@ -19,9 +19,11 @@ use Rattle.ov_model.specs.World.{Part, Target, Plan, Dataset, World, held, is_on
 use Rattle.ov_model.proofs.Counting.{one_if, one_same, filter_times, gone_times, listed, not_listed, range_versions, times-append}
 use Rattle.ov_model.proofs.Growing.{length_recs}
 use Rattle.ov_laws.specs.Courses.{IsDue, HasPartitions}
-use Rattle.ov_laws.specs.OldOrNew.{target_times, IsRunning, Runs, IsOld, IsNew, IsOldOrNew, AreOldOrNew}
-use Rattle.ov_laws.proofs.OldParts.{Either, Waits, in_append, in_map, in_filter, single, waits, waits_not, from_first, from_at, from_past, from_fewer, in_at, moved_past, joins_new}
+use Rattle.ov_laws.specs.OldOrNew.{IsRunning, Runs, IsOld, IsNew, IsOldOrNew, AreOldOrNew}
+use Rattle.ov_laws.proofs.CountRuns.{all_from, from_at, none_from}
+use Rattle.ov_laws.proofs.OldParts.{Either, Waits, in_append, in_map, in_filter, single, waits, waits_not, from_fewer, in_at, moved_past, joins_new}
 use Rattle.ov_laws.proofs.PlanParts.{parts_times, parts_full, targets_times, targets_full, vid_once}
+use Rattle.ov_laws.specs.Pieces.{target_times}
 
 clash : {X : Type 0} → true ≡ false → X
 clash e = cc
@@ -184,7 +186,7 @@ module _ (p q : ℕ) (d : Dataset) (holds : IsHeld d) (is : IsOldOrNew d) where
   planned_waits part there vid some =
       let number : length (recs d.cvd.versions []) ≡ length d.cvd.versions = length_recs d.cvd.versions [] ∙ omega arith
       in let is_there = there_of (recs d.cvd.versions []) part.versions (held part) vid (part_versions (recs d.cvd.versions []) d.parts part holds there) some
-      in ap (λ ts. Waits ts vid) (from_first begun_with)
+      in ap (λ ts. Waits ts vid) (all_from begun_with)
       ∙ waits begun_with vid (omega (arith, all_times vid, vid_once (length d.cvd.versions) vid is_there.0 (omega (arith, number, is_there.1))))
 
   planned_old : IsOldOrNew (planned p q d)
@@ -255,7 +257,7 @@ module _ (d : Dataset) (plan : Plan) (runs : IsRunning plan) where
 
   next_waits_if : (t : Bool) (vid : ℕ) → (t ≡ false → length plan.targets ≤ plan.at + 1) → is_unmoved (next_if t) vid ≡ Waits later vid
   next_waits_if true vid past = let one : plan.at + 1 ≡ suc plan.at = omega arith in ap (λ k. Waits (targets_from k plan.targets) vid) one
-  next_waits_if false vid past = sym (ap (λ ts. Waits ts vid) (from_past (suc plan.at) plan.targets (omega (arith, past refl))))
+  next_waits_if false vid past = sym (ap (λ ts. Waits ts vid) (none_from (suc plan.at) plan.targets (omega (arith, past refl))))
 
   pub next_waits : (vid : ℕ) → is_unmoved (next_target plan) vid ≡ Waits later vid
   next_waits vid = next_waits_if (nat_lt (plan.at + 1) (length plan.targets)) vid (λ past. ltb-false (plan.at + 1) (length plan.targets) past)
@@ -396,7 +398,7 @@ old_planned cvd p q (d ∷ sets) holds are = (
 
 pub moved_old : (m : Move) (w : World) → IsDue m w → HasPartitions w → AreOldOrNew w.sets → AreOldOrNew (moved m w).sets
 moved_old (Init name schema rows) w due has are = old-append w.sets (new_set w.next name schema rows ∷ []) are (new_old w.next name schema rows, tt)
-moved_old (Commit cvd parents message added rows) w due has are = old_committed cvd parents message added rows w.sets has.placed due.names are
+moved_old (Commit cvd parents message added rows) w due has are = old_committed cvd parents message added rows w.sets has.placed due.may.parents are
 moved_old (BeginPlan cvd p q) w due has are = old_planned cvd p q w.sets has.held are
 moved_old (Copy cvd) w due has are = old_changed cvd copied_more w.sets copied_old are
 moved_old (Flip cvd) w due has are = old_changed cvd flipped w.sets (λ d is. flip_old d d.plan refl is) are

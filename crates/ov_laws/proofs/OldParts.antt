@@ -1,8 +1,8 @@
 -- While a plan runs, each partition is old or new, and stays so with every move.
-use Rattle.std.proofs.Common.{◌≡◌, ◌≤◌, ◌<◌, ◌⊎◌, ℕ, zero, suc, ◌+◌, ◌-◌, Bool, true, false, ◌==◌, List, [], ◌∷◌, ◌++◌, length, map, filter, refl, sym, ◌∙◌, ap, subst, inl, inr, arith}
+use Rattle.std.proofs.Common.{◌≡◌, ◌≤◌, ◌<◌, ◌⊎◌, ℕ, zero, suc, ◌+◌, Bool, true, false, ◌==◌, List, [], ◌∷◌, ◌++◌, length, map, filter, refl, sym, ◌∙◌, ap, subst, inl, inr, arith}
 use Rattle.std.specs.Prelude.{◌≢◌, ◌||◌, nat_lt, slice_index_or, if◌then◌else◌, Option, Some, None}
 use Rattle.std.specs.List.{list_any}
-use Rattle.std.proofs.lemmas.Bool.{cases_Bool, cond-true, cond-false, eqb-true, eq-eqb, ne_eqb, ltb-true}
+use Rattle.std.proofs.lemmas.Bool.{cases_Bool, eqb-true, ltb-true}
 use Rattle.ov_graph.specs.Versions.{heaviest}
 use Rattle.ov_place.specs.Placement.{is_budgeted}
 use Rattle.ov_place.specs.declared.place_facts.Place.TheVariants.{Own, Join}
@@ -14,7 +14,9 @@ use Rattle.ov_model.specs.Plans.{no_target}
 use Rattle.ov_model.specs.Records.{Rec, recs, records_of, of_version, weight, weights}
 use Rattle.ov_model.specs.World.{Part, Target, Plan, Dataset, is_one, part_of, stored, is_unmoved, targets_from}
 use Rattle.ov_model.proofs.Counting.{one_if, one_same, listed, not_listed}
-use Rattle.ov_laws.specs.OldOrNew.{target_times, IsOld, IsNew, IsOldOrNew}
+use Rattle.ov_laws.proofs.CountRuns.{all_from, behind}
+use Rattle.ov_laws.specs.OldOrNew.{IsOld, IsNew, IsOldOrNew}
+use Rattle.ov_laws.specs.Pieces.{target_times}
 
 clash : {X : Type 0} → true ≡ false → X
 clash e = cc
@@ -93,32 +95,10 @@ waits_not ts vid none =
       | inr no_ ↦ no_
     ]
 
--- the targets from one on
-from_next : (k : ℕ) (t : Target) (ts : List Target) → targets_from (suc k) (t ∷ ts) ≡ targets_from k ts
-from_next k t ts =
-    let below : suc k - 1 ≡ k = omega arith
-    in cond-false (suc k == 0) (t ∷ ts) (targets_from (suc k - 1) ts) (ne_eqb (suc k) 0 (λ e. omega (arith, e)))
-    ∙ ap (λ n. targets_from n ts) below
-
-pub from_first : (ts : List Target) → targets_from 0 ts ≡ ts
-from_first [] = refl
-from_first (t ∷ ts) = cond-true (0 == 0) (t ∷ ts) (targets_from (0 - 1) ts) (eq-eqb 0 0 refl)
-
-pub from_at : (k : ℕ) (ts : List Target) → k < length ts → targets_from k ts ≡ slice_index_or ts k no_target ∷ targets_from (suc k) ts
-from_at k [] low = absurd (omega (arith, low))
-from_at zero (t ∷ ts) low = from_first (t ∷ ts) ∙ ap (λ l. t ∷ l) (sym (from_next 0 t ts ∙ from_first ts))
-from_at (suc k) (t ∷ ts) low =
-    from_next k t ts ∙ from_at k ts (omega (arith, low)) ∙ ap (λ l. slice_index_or ts k no_target ∷ l) (sym (from_next (suc k) t ts))
-
-pub from_past : (k : ℕ) (ts : List Target) → length ts ≤ k → targets_from k ts ≡ []
-from_past k [] past = refl
-from_past zero (t ∷ ts) past = absurd (omega (arith, past))
-from_past (suc k) (t ∷ ts) past = from_next k t ts ∙ from_past k ts (omega (arith, past))
-
 pub from_fewer : (k : ℕ) (ts : List Target) (vid : ℕ) → target_times (targets_from k ts) vid ≤ target_times ts vid
 from_fewer k [] vid = omega arith
-from_fewer zero (t ∷ ts) vid = let all = ap (λ l. target_times l vid) (from_first (t ∷ ts)) in omega (arith, all)
-from_fewer (suc k) (t ∷ ts) vid = let all = ap (λ l. target_times l vid) (from_next k t ts) in omega (arith, all, from_fewer k ts vid)
+from_fewer zero (t ∷ ts) vid = let all = ap (λ l. target_times l vid) (all_from (t ∷ ts)) in omega (arith, all)
+from_fewer (suc k) (t ∷ ts) vid = let all = ap (λ l. target_times l vid) (behind k t ts) in omega (arith, all, from_fewer k ts vid)
 
 pub in_at : (k : ℕ) (ts : List Target) → k < length ts → IsIn ts (slice_index_or ts k no_target)
 in_at k [] low = absurd (omega (arith, low))

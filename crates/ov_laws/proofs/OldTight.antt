@@ -15,8 +15,9 @@ use Rattle.ov_model.specs.Plans.{flipped}
 use Rattle.ov_model.specs.Records.{Rec, recs, records_of}
 use Rattle.ov_model.specs.World.{Part, Dataset, World, is_unmoved}
 use Rattle.ov_model.proofs.Counting.{one_same}
-use Rattle.ov_laws.specs.Courses.{IsDue, HasPartitions, NameParents}
+use Rattle.ov_laws.specs.Courses.{IsDue, HasPartitions}
 use Rattle.ov_laws.specs.OldOrNew.{IsTight, IsOldOrNew, AreOldOrNew, AllTight}
+use Rattle.ov_laws.specs.Sound.{AllNameVersions}
 use Rattle.ov_laws.proofs.CourseMoves.{course_due, due_at, partitions_kept}
 use Rattle.ov_laws.proofs.OldMoves.{flip_old, moved_old}
 use Rattle.ov_laws.proofs.OldParts.{Either, joins_new}
@@ -81,7 +82,7 @@ Both w = HasPartitions w × AreOldOrNew w.sets
 pub both_kept : (m : Move) (w : World) → IsDue m w → Both w → Both (moved m w)
 both_kept m w due has = (partitions_kept m w due has.0, moved_old m w due has.0 has.1)
 
-pub old_at : (forms : List Form) (n : ℕ) (w : World) (s : Session) (lines : List (List ℕ)) (space : Space) → NameParents forms → HasPartitions w → AreOldOrNew w.sets → (k : ℕ)
+pub old_at : (forms : List Form) (n : ℕ) (w : World) (s : Session) (lines : List (List ℕ)) (space : Space) → AllNameVersions forms lines → HasPartitions w → AreOldOrNew w.sets → (k : ℕ)
     → AreOldOrNew (world_at w (course forms n w s lines space).items k).sets
 old_at forms n w s lines space names has are k =
     (due_at Both both_kept w (course forms n w s lines space).items k (course_due forms n w s lines space names has.numbered) (has, are)).1
@@ -91,7 +92,7 @@ old_in [] d are is = absurd is
 old_in (x ∷ sets) d are (inl same) = subst IsOldOrNew (sym same) are.0
 old_in (x ∷ sets) d are (inr later) = old_in sets d are.1 later
 
-pub tight_at : (forms : List Form) (n : ℕ) (w : World) (s : Session) (lines : List (List ℕ)) (space : Space) → NameParents forms → HasPartitions w → AreOldOrNew w.sets → (k : ℕ) (d : Dataset)
+pub tight_at : (forms : List Form) (n : ℕ) (w : World) (s : Session) (lines : List (List ℕ)) (space : Space) → AllNameVersions forms lines → HasPartitions w → AreOldOrNew w.sets → (k : ℕ) (d : Dataset)
     → IsIn (world_at w (course forms n w s lines space).items k).sets d → d.plan ≡ None → AllTight d.parts
 tight_at forms n w s lines space names has are k d there e =
     idle_tight d (old_in (world_at w (course forms n w s lines space).items k).sets d (old_at forms n w s lines space names has are k) there) e

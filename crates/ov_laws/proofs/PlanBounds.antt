@@ -16,10 +16,11 @@ use Rattle.ov_model.specs.Placed.{times}
 use Rattle.ov_model.specs.Plans.{depth_at, nodes_of_set, parts_at, records_in, sizes_of}
 use Rattle.ov_model.specs.Records.{AllRise}
 use Rattle.ov_model.specs.World.{Part, Plan, Dataset, World, copied_records, cost, held, stored}
-use Rattle.ov_laws.specs.Courses.{HasPartitions, NameParents}
+use Rattle.ov_laws.specs.Courses.{HasPartitions}
 use Rattle.ov_laws.specs.OldOrNew.{AreOldOrNew, IsOldOrNew}
 use Rattle.ov_laws.specs.PlanBounds.{AreExact, IsBounded}
 use Rattle.ov_laws.specs.PlanEnds.{ArePlanned, HaveParents, IsPlanned, IsSplit, versions_of}
+use Rattle.ov_laws.specs.Sound.{AllNameVersions}
 use Rattle.ov_laws.proofs.OldTight.{old_at, old_in}
 use Rattle.ov_laws.proofs.PlanMoves.{planned_at, planned_in}
 use Rattle.ov_laws.proofs.PlanCounts.{part_size}
@@ -152,7 +153,7 @@ split_bounded d p q old planned split idle exact =
       cost_bound = subst (λ n. p * n ≤ q * all_members (nodes_of_set d)) (sym cost_is) (cost_bound d planned.parents planned.rows old.begun p q split.up_to_q);
     }
 
-pub bounded_at : (forms : List Form) (n : ℕ) (w : World) (s : Session) (lines : List (List ℕ)) (space : Space) → NameParents forms → HasPartitions w → AreOldOrNew w.sets → ArePlanned w.sets
+pub bounded_at : (forms : List Form) (n : ℕ) (w : World) (s : Session) (lines : List (List ℕ)) (space : Space) → AllNameVersions forms lines → HasPartitions w → AreOldOrNew w.sets → ArePlanned w.sets
     → (k : ℕ) (d : Dataset) (p q : ℕ) → IsIn (world_at w (course forms n w s lines space).items k).sets d → IsSplit d p q → d.plan ≡ None → AreExact d → IsBounded d p q
 bounded_at forms n w s lines space names has old are k d p q there =
     split_bounded d p q

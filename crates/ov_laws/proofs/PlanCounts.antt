@@ -17,18 +17,18 @@ use Rattle.ov_laws.specs.PlanEnds.{HaveParents}
 use Rattle.ov_laws.proofs.PlanNodes.{filter_most, IsNode, node_is, sound}
 
 -- none of these records is this one
-abbrev Apart : Rec → List Rec → Type 0
+abbrev pub Apart : Rec → List Rec → Type 0
 Apart x [] = Unit {0}
 Apart x (r ∷ rs) = (is_same_rec r x ≡ false) × Apart x rs
 
 -- no record stands twice
-abbrev Once : List Rec → Type 0
+abbrev pub Once : List Rec → Type 0
 Once [] = Unit {0}
 Once (r ∷ rs) = Apart r rs × Once rs
 
 -- ---- how many records pass a test
 
-abbrev passing : (Rec → Bool) → List Rec → ℕ
+abbrev pub passing : (Rec → Bool) → List Rec → ℕ
 passing p rs = length (filter p rs)
 
 pass_if : (t : Bool) (r : Rec) (rs : List Rec) → length (if t then r ∷ rs else rs) ≡ (if t then 1 else 0) + length rs
@@ -115,7 +115,7 @@ one_passes q x false all e once = omega (arith, none_pass (λ r. is_same_rec r x
     off r true same = ap q (same_recs r x same) ∙ e
     off r false same = refl
 
-listed_pass : (q : Rec → Bool) (list all : List Rec) → Once all → passing (λ r. is_among list r && q r) all ≤ passing q list
+pub listed_pass : (q : Rec → Bool) (list all : List Rec) → Once all → passing (λ r. is_among list r && q r) all ≤ passing q list
 listed_pass q [] all once = omega (arith, none_pass (λ r. false && q r) all (λ r. refl))
 listed_pass q (x ∷ list) all once =
     omega (

@@ -22,7 +22,7 @@ use Rattle.ov_model.specs.Placed.{PlanIs, IsPlaced, ArePlaced, AreThere, HasPare
 use Rattle.ov_model.specs.Plans.{parts_at, targets_of, planned, current, copied_for, copied_more, leaving, left_parts, target_part, next_target, flipped_by, flipped}
 use Rattle.ov_model.specs.Records.{AllRise, Rec, recs, records_of}
 use Rattle.ov_model.specs.World.{Part, Plan, Dataset, World}
-use Rattle.ov_laws.specs.Courses.{AllRiseWith, IsDue, HasPartitions, NameParents}
+use Rattle.ov_laws.specs.Courses.{IsDue, HasPartitions}
 use Rattle.ov_laws.specs.OldOrNew.{Runs, IsOldOrNew, AreOldOrNew}
 use Rattle.ov_laws.specs.PlanEnds.{listed_by, HasAllVersions, HasAllIn, PlanHasAll, IsSplitting, Splits, AreByNumber, AreParents, HaveParents, IsPlanned, ArePlanned, IsSplit}
 use Rattle.ov_laws.proofs.CourseMoves.{course_due, due_at, wide_long}
@@ -32,6 +32,8 @@ use Rattle.ov_laws.proofs.OldParts.{targets_past}
 use Rattle.ov_laws.proofs.OldTight.{idle_tight, old_at, old_in, Both, both_kept}
 use Rattle.ov_laws.proofs.PlanFlips.{next_splits, last_split}
 use Rattle.ov_laws.proofs.PlanParts.{parts_times, targets_times, vid_once}
+use Rattle.ov_laws.specs.Pieces.{AllRiseWith}
+use Rattle.ov_laws.specs.Sound.{AllNameVersions}
 
 -- ---- by number
 
@@ -261,8 +263,8 @@ plans_begun cvd p q (d ∷ sets) from to holds old are = (
 )
 
 pub moved_planned : (m : Move) (w : World) → IsDue m w → HasPartitions w → AreOldOrNew w.sets → ArePlanned w.sets → ArePlanned (moved m w).sets
-moved_planned (Init name schema rows) w due has old are = planned-append w.sets (new_set w.next name schema rows ∷ []) are (new_planned w.next name schema rows due.rows, tt)
-moved_planned (Commit cvd parents message added rows) w due has old are = planned_committed cvd parents message added rows w.sets has.placed old due.names due.rows are
+moved_planned (Init name schema rows) w due has old are = planned-append w.sets (new_set w.next name schema rows ∷ []) are (new_planned w.next name schema rows due.may.rows, tt)
+moved_planned (Commit cvd parents message added rows) w due has old are = planned_committed cvd parents message added rows w.sets has.placed old due.may.parents due.may.rows are
 moved_planned (BeginPlan cvd p q) w due has old are = plans_begun cvd p q w.sets due.begins.0.0 due.begins.0.1 has.held old are
 moved_planned (Copy cvd) w due has old are = planned_changed cvd copied_more w.sets (λ d was is. copy_planned d is) old are
 moved_planned (Flip cvd) w due has old are = planned_changed cvd flipped w.sets (λ d was is. flip_planned d d.plan refl was is) old are
@@ -275,7 +277,7 @@ AllKept w = Both w × ArePlanned w.sets
 pub all_kept : (m : Move) (w : World) → IsDue m w → AllKept w → AllKept (moved m w)
 all_kept m w due has = (both_kept m w due has.0, moved_planned m w due has.0.0 has.0.1 has.1)
 
-pub planned_at : (forms : List Form) (n : ℕ) (w : World) (s : Session) (lines : List (List ℕ)) (space : Space) → NameParents forms → HasPartitions w → AreOldOrNew w.sets → ArePlanned w.sets → (k : ℕ)
+pub planned_at : (forms : List Form) (n : ℕ) (w : World) (s : Session) (lines : List (List ℕ)) (space : Space) → AllNameVersions forms lines → HasPartitions w → AreOldOrNew w.sets → ArePlanned w.sets → (k : ℕ)
     → ArePlanned (world_at w (course forms n w s lines space).items k).sets
 planned_at forms n w s lines space names has old are k =
     (due_at AllKept all_kept w (course forms n w s lines space).items k (course_due forms n w s lines space names has.numbered) ((has, old), are)).1
@@ -327,7 +329,7 @@ planned_in [] d are is = absurd is
 planned_in (x ∷ sets) d are (inl same) = subst IsPlanned (sym same) are.0
 planned_in (x ∷ sets) d are (inr later) = planned_in sets d are.1 later
 
-pub finished_at : (forms : List Form) (n : ℕ) (w : World) (s : Session) (lines : List (List ℕ)) (space : Space) → NameParents forms → HasPartitions w → AreOldOrNew w.sets → ArePlanned w.sets
+pub finished_at : (forms : List Form) (n : ℕ) (w : World) (s : Session) (lines : List (List ℕ)) (space : Space) → AllNameVersions forms lines → HasPartitions w → AreOldOrNew w.sets → ArePlanned w.sets
     → (k : ℕ) (d : Dataset) (plan : Plan) → IsIn (world_at w (course forms n w s lines space).items k).sets d → d.plan ≡ Some plan → HasAllVersions d plan → (flipped d).plan ≡ None
     → IsSplit (flipped d) plan.p plan.q
 finished_at forms n w s lines space names has old are k d plan there e all ends =

@@ -13,7 +13,7 @@ use Rattle.ov_model.specs.Plans.{graph_of, nodes_of_set, parts_at, targets_of}
 use Rattle.ov_model.specs.Records.{Rec, records_of}
 use Rattle.ov_model.specs.World.{Target, Dataset}
 use Rattle.ov_model.proofs.Counting.{one_if, one_same, range_versions}
-use Rattle.ov_laws.specs.OldOrNew.{target_times}
+use Rattle.ov_laws.specs.Pieces.{target_times}
 
 -- ---- a sum over lists, in the order of their first versions
 

@@ -1,15 +1,11 @@
 -- Partitions while a plan runs.
 --     IsOldOrNew d      all versions of a partition wait to be moved, or none does and it keeps the records of its versions alone
 --     IsTight part      it keeps the records of its versions alone
-use Rattle.std.specs.Prelude.{◌≡◌, ◌≤◌, ◌<◌, ◌⊎◌, ℕ, ◌+◌, true, false, List, [], ◌∷◌, length, Option, Some, None}
+use Rattle.std.specs.Prelude.{◌≡◌, ◌≤◌, ◌<◌, ◌⊎◌, ℕ, true, false, List, [], ◌∷◌, length, Option, Some, None}
 use Rattle.ov_model.specs.Lists.{IsIn}
 use Rattle.ov_model.specs.Placed.{times}
 use Rattle.ov_model.specs.World.{Part, Target, Plan, Dataset, is_unmoved}
-
--- how often a version is listed, over targets
-abbrev pub target_times : List Target → ℕ → ℕ
-target_times [] vid = 0
-target_times (t ∷ ts) vid = times t.versions vid + target_times ts vid
+use Rattle.ov_laws.specs.Pieces.{target_times}
 
 -- A running plan has a target that waits. Each of its targets has a version, and none has one that another has.
 pub record IsRunning (plan : Plan) : Type 0 where

@@ -9,7 +9,8 @@ use Rattle.ov_model.specs.Placed.{AreThere}
 use Rattle.ov_model.specs.Plans.{parts_at}
 use Rattle.ov_model.specs.Records.{AllRise}
 use Rattle.ov_model.specs.World.{Part, Target, Plan, Dataset}
-use Rattle.ov_laws.specs.OldOrNew.{target_times, IsOld, IsNew, AllTight}
+use Rattle.ov_laws.specs.OldOrNew.{IsOld, IsNew, AllTight}
+use Rattle.ov_laws.specs.Pieces.{target_times}
 
 abbrev pub versions_of : List Part → List (List ℕ)
 versions_of parts = map (λ part. part.versions) parts

@@ -10,17 +10,19 @@ ghost use Rattle.ov_model.specs.Moves.{Move, moved, placed_at, with_version};
 ghost use Rattle.ov_model.specs.Placed.{HasParents, IsPlaced, times};
 ghost use Rattle.ov_model.specs.Plans.{copied_more, flipped, planned};
 ghost use Rattle.ov_model.specs.World.{Dataset, Part, Plan, World, empty_world, is_unmoved};
-ghost use Rattle.ov_laws.specs.Courses.{HasPartitions, IsDue, NameParents};
+ghost use Rattle.ov_laws.specs.Courses.{HasPartitions, IsDue};
 ghost use Rattle.ov_laws.specs.OldOrNew.{AllTight, AreOldOrNew, IsOld, IsOldOrNew};
+ghost use Rattle.ov_laws.specs.Pieces.{HasPieces};
 ghost use Rattle.ov_laws.specs.PlanBounds.{AreExact, IsBounded};
 ghost use Rattle.ov_laws.specs.PlanEnds.{ArePlanned, HasAllVersions, IsPlanned, IsSplit, PlanHasAll};
+ghost use Rattle.ov_laws.specs.Sound.{AllNameVersions, IsSound};
 
 /// While a plan runs, all versions of a partition wait in targets that weren't flipped yet, or none does, and then the partition
 /// keeps the records of its own versions alone.
 pub fn partitions_are_old_or_new()
     ensures start { AreOldOrNew empty_world.sets }
     ensures kept { (m : Move) (w : World) → IsDue m w → HasPartitions w → AreOldOrNew w.sets → AreOldOrNew (moved m w).sets }
-    ensures course { (forms : List Form) (steps : ℕ) (w : World) (s : Session) (lines : List (List ℕ)) (space : Space) → NameParents forms → HasPartitions w
+    ensures course { (forms : List Form) (steps : ℕ) (w : World) (s : Session) (lines : List (List ℕ)) (space : Space) → AllNameVersions forms lines → HasPartitions w
         → AreOldOrNew w.sets → (k : ℕ) → AreOldOrNew (world_at w (course forms steps w s lines space).items k).sets }
 {}
 
@@ -50,7 +52,7 @@ pub fn a_waiting_partition_goes()
 pub fn partitions_are_tight_where_no_plan_runs()
     ensures idle { (d : Dataset) → IsOldOrNew d → d.plan ≡ None → AllTight d.parts }
     ensures last_flip { (d : Dataset) → IsOldOrNew d → (flipped d).plan ≡ None → AllTight (flipped d).parts }
-    ensures course { (forms : List Form) (steps : ℕ) (w : World) (s : Session) (lines : List (List ℕ)) (space : Space) → NameParents forms → HasPartitions w
+    ensures course { (forms : List Form) (steps : ℕ) (w : World) (s : Session) (lines : List (List ℕ)) (space : Space) → AllNameVersions forms lines → HasPartitions w
         → AreOldOrNew w.sets → (k : ℕ) (d : Dataset) → IsIn (world_at w (course forms steps w s lines space).items k).sets d → d.plan ≡ None
         → AllTight d.parts }
 {}
@@ -67,20 +69,25 @@ pub fn a_plan_has_all_versions_until_a_commit()
 pub fn a_finished_plan_is_the_split()
     ensures start { ArePlanned empty_world.sets }
     ensures kept { (m : Move) (w : World) → IsDue m w → HasPartitions w → AreOldOrNew w.sets → ArePlanned w.sets → ArePlanned (moved m w).sets }
-    ensures course { (forms : List Form) (steps : ℕ) (w : World) (s : Session) (lines : List (List ℕ)) (space : Space) → NameParents forms → HasPartitions w
+    ensures course { (forms : List Form) (steps : ℕ) (w : World) (s : Session) (lines : List (List ℕ)) (space : Space) → AllNameVersions forms lines → HasPartitions w
         → AreOldOrNew w.sets → ArePlanned w.sets → (k : ℕ) → ArePlanned (world_at w (course forms steps w s lines space).items k).sets }
     ensures last_flip { (d : Dataset) (plan : Plan) → IsOldOrNew d → IsPlanned d → d.plan ≡ Some plan → HasAllVersions d plan → (flipped d).plan ≡ None
         → IsSplit (flipped d) plan.p plan.q }
-    ensures at_each_world { (forms : List Form) (steps : ℕ) (w : World) (s : Session) (lines : List (List ℕ)) (space : Space) → NameParents forms → HasPartitions w
+    ensures at_each_world { (forms : List Form) (steps : ℕ) (w : World) (s : Session) (lines : List (List ℕ)) (space : Space) → AllNameVersions forms lines → HasPartitions w
         → AreOldOrNew w.sets → ArePlanned w.sets → (k : ℕ) (d : Dataset) (plan : Plan) → IsIn (world_at w (course forms steps w s lines space).items k).sets d
         → d.plan ≡ Some plan → HasAllVersions d plan → (flipped d).plan ≡ None → IsSplit (flipped d) plan.p plan.q }
 {}
 
+/// A partition whose pieces share no record and that keeps the records of its own versions alone has each of them once.
+pub fn tight_partitions_are_exact()
+    ensures { (d : Dataset) → IsPlanned d → HasPieces d → AllTight d.parts → AreExact d }
+{}
+
 /// Where no plan runs and the partitions are the parts of a split, each with the records of its versions once, what is stored and
-/// what checkouts read are as its optimize told, and both bounds of the split hold of them.
+/// what checkouts read are as its optimize told, and both bounds of the split hold of them. So it is in every World of a run.
 pub fn a_finished_plan_meets_the_bounds()
     ensures set { (d : Dataset) (p q : ℕ) → IsOldOrNew d → IsPlanned d → IsSplit d p q → d.plan ≡ None → AreExact d → IsBounded d p q }
-    ensures course { (forms : List Form) (steps : ℕ) (w : World) (s : Session) (lines : List (List ℕ)) (space : Space) → NameParents forms → HasPartitions w
+    ensures course { (forms : List Form) (steps : ℕ) (w : World) (s : Session) (lines : List (List ℕ)) (space : Space) → AllNameVersions forms lines → IsSound w
         → AreOldOrNew w.sets → ArePlanned w.sets → (k : ℕ) (d : Dataset) (p q : ℕ) → IsIn (world_at w (course forms steps w s lines space).items k).sets d
-        → IsSplit d p q → d.plan ≡ None → AreExact d → IsBounded d p q }
+        → IsSplit d p q → d.plan ≡ None → IsBounded d p q }
 {}

@@ -1,8 +1,0 @@
-use Rattle.ov_laws.proofs.CourseLines.{all_named, built_named}
-use Rattle.ov_laws.proofs.courses.lines_name_parents.Goals as goal
-
-pub returns-clause-all : goal.returns-clause-all
-returns-clause-all c = all_named
-
-pub returns-clause-built : goal.returns-clause-built
-returns-clause-built c = built_named
