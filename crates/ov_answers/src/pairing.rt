@@ -90,7 +90,7 @@ fn add_rows(alloc: Global, vid: u32, rows: &[Row], found: &mut Seq<Pair>) -> Res
 }
 
 /// The rows of a version; none where there is no such version.
-fn rows_at(versions: &[Version], vid: u64) -> &[Row]
+pub fn rows_at(versions: &[Version], vid: u64) -> &[Row]
     ensures is { result.now ≡ rows_at versions.now vid }
     ensures beyond { length versions.now < vid → result.now ≡ [] }
 {
