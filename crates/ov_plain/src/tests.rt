@@ -1,2 +1,6 @@
+mod merges;
 mod placements;
+mod plans;
+mod records;
 mod splits;
+mod tables;

@@ -1,0 +1,4 @@
+mod asking;
+mod queries;
+mod refusals;
+mod tables;
