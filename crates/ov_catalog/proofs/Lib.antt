@@ -11,3 +11,5 @@ pub mod PartLemmas
 pub mod CommitLemmas
 pub mod SchemaLemmas
 pub mod RoomLemmas
+pub mod StepLemmas
+pub mod WorkedLemmas

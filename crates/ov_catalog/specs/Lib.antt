@@ -10,3 +10,5 @@ pub mod Sets
 pub mod Answers
 pub mod Ready
 pub mod Arriving
+pub mod Steps
+pub mod Worked

@@ -12,6 +12,7 @@ ghost use Rattle.ov_catalog.specs.Numbers.{nothing_yet};
 ghost use Rattle.ov_catalog.specs.Raw.{event_in, place_in, shape_in};
 ghost use Rattle.ov_catalog.specs.Ready.{Nothing, ForInit, ForCommit, HasRoom, IsForInit};
 ghost use Rattle.ov_catalog.specs.Sets.{set_in, sets_in};
+ghost use Rattle.ov_catalog.specs.Steps.{steps_left};
 
 use crate::arrival::Arrival;
 use crate::commit::{commit_in, room_for_commit};
@@ -78,6 +79,14 @@ impl Catalog {
         ensures { result ≡ self.now.numbers.next }
     {
         self.next
+    }
+
+    /// How many migration steps are left. No event begins a plan yet, so there are none.
+    pub fn steps_left(&self) -> u64
+        ensures { result ≡ steps_left self.now.numbers }
+    {
+        let _ = &self.sets;
+        0
     }
 
     /// The live dataset with this name.

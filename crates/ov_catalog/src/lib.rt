@@ -23,8 +23,8 @@ pub use cvd::{Cvd, Plan, Target, Version};
 pub use error::ApplyErr;
 pub use field::Field;
 pub use laws::{
-    at_most_one_world, events_are_moves, nothing_stands_for_the_empty_world, one_more_event,
-    only_live_extents_matter,
+    an_empty_dataset_stands, at_most_one_world, events_are_moves,
+    nothing_stands_for_the_empty_world, one_more_event, only_live_extents_matter,
 };
 
 #[cfg(test)]
