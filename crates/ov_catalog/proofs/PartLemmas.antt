@@ -1,12 +1,12 @@
 -- Partitions as they are kept and as they are seen.
-use Rattle.std.proofs.Common.{◌≡◌, ℕ, zero, suc, ◌+◌, ◌<◌, ◌≤◌, Bool, true, false, cond, ◌||◌, eqb, List, [], ◌∷◌, ◌++◌, length, get_or, map, refl, sym, ap, subst, ◌∙◌, inl, inr, arith}
-use Rattle.std.specs.Prelude.{find, Option, Some, None, sum_by, flat_map}
+use Rattle.std.proofs.Common.{◌≡◌, ℕ, zero, suc, ◌+◌, ◌<◌, ◌≤◌, Bool, true, false, ◌||◌, eqb, List, [], ◌∷◌, ◌++◌, length, get_or, map, refl, sym, ap, subst, ◌∙◌, inl, inr, arith}
+use Rattle.std.specs.Prelude.{Option, Some, None, sum_by}
 use Rattle.std.proofs.lemmas.Bool.{cases_Bool, eq-eqb, ne_eqb, eqb-true}
 use Rattle.std.proofs.lemmas.List.Sums.{sum_by-cons}
 use Rattle.std.proofs.lemmas.List.Folds.{list_any-append}
 use Rattle.ov_host.specs.declared.area.Extent.{Extent}
 use Rattle.ov_layout.specs.declared.part.Part.{Part}
-use Rattle.ov_layout.specs.Parts.{has, serves, Ascend, part_with, part_numbered, is_number, is_placed, records_at, stored_of, records_in as kept_in}
+use Rattle.ov_layout.specs.Parts.{has, serves, Ascend, part_with, is_number, is_placed, records_at, stored_of}
 use Rattle.ov_layout.specs.Index.{numbers_of}
 use Rattle.ov_layout.specs.Changes.{extents_of, own_part, joined_part, joined_at}
 use Rattle.ov_catalog.specs.Numbers.{PartNumbers}

@@ -1,5 +1,5 @@
 -- Room in one dataset of many.
-use Rattle.std.proofs.Common.{◌≡◌, ℕ, zero, suc, ◌+◌, ◌<◌, ◌≤◌, eqb, List, [], ◌∷◌, ◌++◌, length, get_or, set, refl, sym, ap, subst, ◌∙◌, inl, inr, arith}
+use Rattle.std.proofs.Common.{◌≡◌, ℕ, zero, suc, ◌+◌, ◌<◌, ◌≤◌, eqb, List, [], ◌∷◌, ◌++◌, length, get_or, set, sym, subst, inl, inr, arith}
 use Rattle.std.specs.Prelude.{All, filter, Result, Ok, Err, OnOk}
 use Rattle.ov_layout.specs.Parts.{Ascend}
 use Rattle.std.proofs.lemmas.Bool.{cases_Bool}

@@ -1,7 +1,7 @@
 -- The schema that an event spells is the one that is made of it.
-use Rattle.std.proofs.Common.{◌≡◌, ℕ, zero, suc, ◌+◌, ◌<◌, ◌≤◌, Bool, true, false, ◌&&◌, eqb, List, [], ◌∷◌, length, get_or, map, refl, sym, ap, subst, ◌∙◌, inl, inr, arith}
-use Rattle.std.specs.Prelude.{Option, Some, None, Result, Ok, Err, nat_eq, nat_lt}
-use Rattle.std.specs.List.{AllByRecursion, IsDistinct, list_all}
+use Rattle.std.proofs.Common.{◌≡◌, ℕ, zero, suc, ◌<◌, Bool, true, false, ◌&&◌, List, [], ◌∷◌, length, get_or, map, refl, sym, ap, subst, ◌∙◌, inl, inr, arith}
+use Rattle.std.specs.Prelude.{Option, Some, None, Ok, nat_eq, nat_lt}
+use Rattle.std.specs.List.{AllByRecursion, IsDistinct}
 use Rattle.std.specs.Cmp.Lexicographic.{pointwise}
 use Rattle.std.proofs.lemmas.Bool.{cases_Bool, eq-eqb, ltb-true}
 use Rattle.std.proofs.lemmas.List.{get_or-map, length-map}
@@ -9,11 +9,10 @@ use Rattle.std.proofs.lemmas.List.Sums.{position_or_len_is}
 use Rattle.std.proofs.lemmas.Map.Keys.{IsDistinct-head, IsDistinct-tail}
 use Rattle.ov_value.specs.declared.column.Column.{Column}
 use Rattle.ov_value.specs.declared.schema_err.SchemaErr.{SchemaErr}
-use Rattle.ov_value.specs.Making.{schema_of, answer_of, place_of, column_refusal, key_refusal}
+use Rattle.ov_value.specs.Making.{schema_of, answer_of, place_of}
 use Rattle.ov_value.specs.Shapes.{Shape, IsSound, names}
 use Rattle.ov_value.proofs.SchemaLemmas.{same_name}
 use Rattle.ov_catalog.specs.Applying.{are_places, name_at, no_column}
-use Rattle.ov_catalog.specs.Raw.{shape_in}
 
 same-name : (n : List ℕ) → pointwise nat_eq n n ≡ true
 same-name [] = refl

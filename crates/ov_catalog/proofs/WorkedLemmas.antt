@@ -1,6 +1,6 @@
 -- The event of a dataset without rows is that of its move.
-use Rattle.std.proofs.Common.{◌≡◌, ◌≤◌, ◌<◌, ℕ, ◌+◌, Bool, true, false, ◌&&◌, List, [], ◌∷◌, refl, ◌∙◌, inl, inr, arith, codes}
-use Rattle.std.specs.Prelude.{Option, Some, None, IsTrue, nat_le, nat_lt}
+use Rattle.std.proofs.Common.{◌≡◌, ℕ, Bool, true, false, ◌&&◌, [], ◌∷◌, refl, inl, inr, arith, codes}
+use Rattle.std.specs.Prelude.{Some, None, IsTrue, nat_le, nat_lt}
 use Rattle.std.proofs.lemmas.Bool.{cases_Bool, ltb-true}
 use Rattle.ov_value.specs.Naming.{is_name, is_vid, is_column_name}
 use Rattle.ov_value.specs.Making.{column_refusal, key_refusal, name_refusal}
@@ -10,10 +10,9 @@ use Rattle.ov_model.specs.World.{empty_world}
 use Rattle.ov_host.specs.declared.area.Extent.{Extent}
 use Rattle.ov_catalog.specs.Numbers.{nothing_yet}
 use Rattle.ov_catalog.specs.Applying.{first_off}
-use Rattle.ov_catalog.specs.Extents.{covers, has_page}
+use Rattle.ov_catalog.specs.Extents.{covers}
 use Rattle.ov_catalog.specs.Events.{Init}
 use Rattle.ov_catalog.specs.Reached.{InitFits}
-use Rattle.ov_catalog.specs.Shown.{Rids, Records}
 use Rattle.ov_catalog.specs.Stands.{Readings, IsMove}
 use Rattle.ov_catalog.specs.Worked.{nowhere, key_column, one_column, empty_event, empty_move}
 

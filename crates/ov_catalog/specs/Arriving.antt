@@ -1,6 +1,6 @@
 -- A commit's event without its dataset.
 --     arrival_off message parents new d      the first part of it that can't follow what the dataset has
-use Rattle.std.specs.Prelude.{◌≡◌, ◌+◌, ◌≤◌, ◌^◌, ℕ, List, Option, Some, None}
+use Rattle.std.specs.Prelude.{◌+◌, ◌≤◌, ◌^◌, ℕ, List, Option, Some, None}
 use Rattle.ov_layout.specs.declared.part.Part.{Part}
 use Rattle.ov_layout.specs.Parts.{records_at}
 use Rattle.ov_place.specs.declared.place_facts.Place.{Place}

@@ -19,7 +19,7 @@ use Rattle.ov_catalog.specs.declared.room.Room.TheVariants as kept_for
 use Rattle.ov_catalog.specs.declared.room.Spare.{Spare}
 use Rattle.ov_catalog.specs.Numbers.{Numbers}
 use Rattle.ov_catalog.specs.Raw.{place_in, shape_in}
-use Rattle.ov_catalog.specs.Sets.{numbers_of, sets_in}
+use Rattle.ov_catalog.specs.Sets.{numbers_of}
 
 -- for which event there is room: for none, for an Init with a schema, for a Commit to a dataset at a place
 pub data Ready : Type 0 where

@@ -1,5 +1,5 @@
 use Rattle.std.proofs.Common.{◌≡◌, ◌+◌, List, length, ap, refl, ◌∙◌, arith}
-use Rattle.ov_catalog.proofs.CommitLemmas.{Facts, facts-of, there, fits, set-more}
+use Rattle.ov_catalog.proofs.CommitLemmas.{facts-of, there, fits, set-more}
 use Rattle.std.proofs.lemmas.List.{length-append}
 use Rattle.ov_catalog.specs.declared.cvd.Version.{Version}
 use Rattle.ov_catalog.specs.Raw.{place_in}

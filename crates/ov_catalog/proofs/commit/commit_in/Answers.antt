@@ -1,4 +1,4 @@
-use Rattle.std.proofs.Common.{◌≡◌, ap, sym, ◌∙◌}
+use Rattle.std.proofs.Common.{ap}
 use Rattle.std.proofs.lemmas.List.Elements.{All-set}
 use Rattle.ov_host.specs.declared.area.Extent.{Extent}
 use Rattle.ov_catalog.specs.Numbers.{SetNumbers}

@@ -1,7 +1,6 @@
-use Rattle.std.proofs.Common.{◌≡◌, ℕ, [], ltb, rules, arith, sym, ap, ◌∙◌}
+use Rattle.std.proofs.Common.{ltb, rules, arith, ap, ◌∙◌}
 use Rattle.std.proofs.lemmas.List.Sorted.{IsPartitionPoint-from_clause, IsPartitionedBy-ltb}
 use Rattle.ov_layout.proofs.VidLemmas.{keys-ordered}
-use Rattle.ov_catalog.specs.declared.cvd.Cvd.{Cvd}
 use Rattle.ov_catalog.proofs.SetLemmas.{find-none, number_of, missing, get-any}
 use Rattle.ov_catalog.proofs.finding.place_of.Goals.{else-at-sets-via-then-at-sets+else-sets-at, else-at-sets-via-else-at-sets}
 use Rattle.ov_catalog.proofs.finding.place_of.Goals as goal

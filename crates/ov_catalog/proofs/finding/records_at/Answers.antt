@@ -3,7 +3,6 @@ use Rattle.std.proofs.lemmas.List.Sorted.{IsPartitionPoint-from_clause, IsPartit
 use Rattle.ov_layout.specs.declared.part.Part.{Part}
 use Rattle.ov_layout.proofs.VidLemmas.{keys-ordered, point-missing}
 use Rattle.ov_catalog.proofs.PartLemmas.{records-at, records-none}
-use Rattle.ov_catalog.proofs.SetLemmas.{get-any}
 use Rattle.ov_catalog.proofs.finding.records_at.Goals.{else-at-parts-via-then-at-parts+else-parts-at, else-at-parts-via-else-at-parts}
 use Rattle.ov_catalog.proofs.finding.records_at.Goals as goal
 

@@ -1,4 +1,4 @@
-use Rattle.std.proofs.Common.{◌≡◌, rules, arith}
+use Rattle.std.proofs.Common.{rules}
 use Rattle.std.proofs.lemmas.Fn.{filter_same}
 use Rattle.ov_catalog.specs.Sets.{stays}
 use Rattle.ov_catalog.proofs.freeing.drop_from.Goals as goal

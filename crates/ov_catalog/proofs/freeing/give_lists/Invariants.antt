@@ -1,4 +1,4 @@
-use Rattle.std.proofs.Common.{◌≡◌, ◌+◌, ◌≤◌, ◌++◌, map, take, length, vec_capacity}
+use Rattle.std.proofs.Common.{◌≡◌, ◌≤◌, ◌++◌, map, take, vec_capacity}
 use Rattle.ov_catalog.proofs.freeing.give_lists.Given as goal
 
 abbrev pub invariant-loop-version : goal.invariant-loop-version

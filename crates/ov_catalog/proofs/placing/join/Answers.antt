@@ -1,4 +1,3 @@
-use Rattle.std.proofs.Common.{arith}
 use Rattle.ov_layout.proofs.PlacedLemmas.{ids-ascend}
 use Rattle.ov_layout.proofs.TrialLemmas.{new-joined}
 use Rattle.ov_catalog.proofs.PartLemmas.{join-in, join-stay, join-placed}

@@ -1,5 +1,5 @@
 use Rattle.std.proofs.Common.{◌≡◌, map, ◌∙◌, sym}
-use Rattle.ov_catalog.specs.Applying.{name_at, are_places}
+use Rattle.ov_catalog.specs.Applying.{name_at}
 use Rattle.ov_catalog.proofs.CommitLemmas.{off-true}
 use Rattle.ov_catalog.proofs.SchemaLemmas.{schema-is}
 use Rattle.ov_catalog.proofs.schemas.schema_from.Goals as goal

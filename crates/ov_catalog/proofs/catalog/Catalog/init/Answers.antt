@@ -1,11 +1,11 @@
-use Rattle.std.proofs.Common.{◌≡◌, ◌+◌, ◌++◌, [], ◌∷◌, List, ap, sym, ◌∙◌, arith}
+use Rattle.std.proofs.Common.{◌≡◌, ◌+◌, ◌++◌, [], ◌∷◌, List, ap, ◌∙◌, arith}
 use Rattle.ov_host.specs.declared.area.Extent.{Extent}
 use Rattle.ov_layout.specs.Changes.{extents_of}
 use Rattle.ov_value.specs.Shapes.{Shape}
 use Rattle.ov_catalog.specs.declared.cvd.Cvd.{Cvd}
 use Rattle.ov_catalog.specs.Events.{new_set}
 use Rattle.ov_catalog.specs.Numbers.{Numbers, SetNumbers}
-use Rattle.ov_catalog.specs.Ready.{ForInit, ready_in}
+use Rattle.ov_catalog.specs.Ready.{ready_in}
 use Rattle.ov_catalog.specs.Sets.{sets_in}
 use Rattle.ov_catalog.proofs.RoomLemmas.{for-init, sets-push}
 use Rattle.ov_catalog.proofs.SetLemmas.{push-in}
