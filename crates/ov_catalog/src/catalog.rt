@@ -1,6 +1,6 @@
 //! The catalog.
 
-ghost use Rattle.std.specs.Prelude.{◌≡◌, ◌+◌, ◌-◌, ◌<◌, ◌≤◌, ◌^◌, ◌++◌, None, Some, length, find, vec_capacity, option_map, option_copied, OnOk, OnErr};
+ghost use Rattle.std.specs.Prelude.{◌≡◌, ◌+◌, ◌-◌, ◌<◌, ◌≤◌, ◌^◌, ◌++◌, None, length, find, vec_capacity, option_map, option_copied, OnOk, OnErr};
 ghost use Rattle.ov_layout.specs.Changes.{extents_of};
 ghost use Rattle.ov_value.specs.Shapes.{Shape};
 ghost use Rattle.ov_catalog.specs.Answers.{Answers};

@@ -1,6 +1,6 @@
 //! A Commit.
 
-ghost use Rattle.std.specs.Prelude.{◌≡◌, ◌+◌, ◌<◌, ◌≤◌, ◌^◌, ◌&&◌, None, nat_le, length, map, find, All, OnOk};
+ghost use Rattle.std.specs.Prelude.{◌≡◌, ◌+◌, ◌^◌, ◌&&◌, None, nat_le, map, find, All, OnOk};
 ghost use Rattle.ov_graph.specs.Versions.{heaviest as heaviest_of};
 ghost use Rattle.ov_layout.specs.Changes.{IsThere, extents_of};
 ghost use Rattle.ov_layout.specs.Parts.{Ascend};

@@ -1,6 +1,6 @@
 //! An Init.
 
-ghost use Rattle.std.specs.Prelude.{◌≡◌, ◌<◌, IfOk};
+ghost use Rattle.std.specs.Prelude.{◌≡◌, IfOk};
 ghost use Rattle.ov_layout.specs.Changes.{extents_of};
 ghost use Rattle.ov_catalog.specs.Answers.{Answers};
 ghost use Rattle.ov_catalog.specs.Applying.{init_off};
