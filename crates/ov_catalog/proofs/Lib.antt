@@ -6,3 +6,10 @@ pub mod Covering
 pub mod Standing
 pub mod Members
 pub mod Only
+pub mod SetLemmas
+pub mod PartLemmas
+pub mod CommitLemmas
+pub mod SchemaLemmas
+pub mod RoomLemmas
+pub mod StepLemmas
+pub mod WorkedLemmas

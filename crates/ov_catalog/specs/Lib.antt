@@ -6,3 +6,9 @@ pub mod Applying
 pub mod Shown
 pub mod Reached
 pub mod Stands
+pub mod Sets
+pub mod Answers
+pub mod Ready
+pub mod Arriving
+pub mod Steps
+pub mod Worked

@@ -1,6 +1,6 @@
 //! Laws of what events and readings stand for, each the contract of a function that does nothing.
 
-ghost use Rattle.std.specs.Prelude.{◌≡◌, List, [], ◌∷◌, ◌++◌};
+ghost use Rattle.std.specs.Prelude.{◌≡◌, List, [], ◌∷◌, ◌++◌, Some};
 ghost use Rattle.ov_event.specs.declared.event.Event as raw;
 ghost use Rattle.ov_model.specs.Moves.{Move, moved};
 ghost use Rattle.ov_model.specs.World.{World, empty_world};
@@ -9,6 +9,7 @@ ghost use Rattle.ov_catalog.specs.Extents.{live};
 ghost use Rattle.ov_catalog.specs.Raw.{numbers_in};
 ghost use Rattle.ov_catalog.specs.Reached.{Fits, Reached};
 ghost use Rattle.ov_catalog.specs.Shown.{shown, event_of};
+ghost use Rattle.ov_catalog.specs.Worked.{nowhere, empty_event, empty_move};
 ghost use Rattle.ov_catalog.specs.Stands.{Readings, StandsFor, ReadSame, IsMove};
 
 /// The event of a move makes of a World's numbers those of the World after it.
@@ -19,6 +20,11 @@ pub fn events_are_moves()
 /// No event stands for the empty World, whatever the pages have.
 pub fn nothing_stands_for_the_empty_world()
     ensures { (r : Readings) → StandsFor [] r empty_world }
+{}
+
+/// The event of a dataset without rows stands for it, where an extent of no bytes is read as an empty list.
+pub fn an_empty_dataset_stands()
+    ensures { (r : Readings) → r.list nowhere ≡ Some [] → StandsFor (empty_event ∷ []) r (moved empty_move empty_world) }
 {}
 
 /// Only what is read of the live extents counts.

@@ -1,11 +1,31 @@
 //! The catalog: all that the journal's events say of the live datasets.
 #![tactic(auto)]
 
+mod arrival;
+mod catalog;
+mod commit;
+mod cvd;
+mod error;
+mod extents;
 mod field;
+mod finding;
+mod freeing;
+mod init;
 mod laws;
+mod parents;
+mod placing;
+mod refusing;
+mod room;
+mod schemas;
 
+pub use catalog::Catalog;
+pub use cvd::{Cvd, Plan, Target, Version};
+pub use error::ApplyErr;
 pub use field::Field;
 pub use laws::{
-    at_most_one_world, events_are_moves, nothing_stands_for_the_empty_world, one_more_event,
-    only_live_extents_matter,
+    an_empty_dataset_stands, at_most_one_world, events_are_moves,
+    nothing_stands_for_the_empty_world, one_more_event, only_live_extents_matter,
 };
+
+#[cfg(test)]
+mod tests;

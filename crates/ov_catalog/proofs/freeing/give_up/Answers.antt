@@ -1,0 +1,29 @@
+use Rattle.std.proofs.Common.{◌≡◌, ◌++◌, List, length, map, ap, ◌∙◌, sym, arith, append_assoc}
+use Rattle.std.specs.Prelude.{flat_map}
+use Rattle.std.proofs.lemmas.List.{length-append}
+use Rattle.ov_host.specs.declared.area.Extent.{Extent}
+use Rattle.ov_layout.specs.declared.part.Part.{Part}
+use Rattle.ov_catalog.specs.declared.cvd.Version.{Version}
+use Rattle.ov_catalog.proofs.SetLemmas.{extents-of}
+use Rattle.ov_catalog.proofs.freeing.give_up.Goals as goal
+
+pub give_segments-requires : goal.give_segments-requires
+give_segments-requires c =
+    let d = c.args.d.now in
+    let lists = map (λ (v : Version). v.list) d.versions.items in
+    let segments = flat_map (λ (p : Part). p.segments) d.layout.parts in
+    let given : c.give_lists.new.freed.items ≡ c.args.freed.now.items ++ lists = rw c.deref.ensures.value at c.give_lists.ensures.freed in
+    let size = ap (λ (es : List Extent). length es) given ∙ length-append c.args.freed.now.items lists in
+    let all = ap (λ (es : List Extent). length es) (extents-of d c.requires.set.idle) ∙ length-append lists segments in
+    let room = c.requires.room in
+    let grown = c.give_lists.ensures.capacity in
+    rw c.parts.ensures.parts (omega (arith, size, all, room, grown))
+
+pub returns : goal.returns
+returns c =
+    let d = c.args.d.now in
+    let lists = map (λ (v : Version). v.list) d.versions.items in
+    let segments = flat_map (λ (p : Part). p.segments) d.layout.parts in
+    let given : c.give_lists.new.freed.items ≡ c.args.freed.now.items ++ lists = rw c.deref.ensures.value at c.give_lists.ensures.freed in
+    let last : c.give_segments.new.freed.items ≡ c.give_lists.new.freed.items ++ segments = rw c.parts.ensures.parts at c.give_segments.ensures in
+    last ∙ ap (λ (es : List Extent). es ++ segments) given ∙ append_assoc c.args.freed.now.items lists segments ∙ ap (λ (es : List Extent). c.args.freed.now.items ++ es) (sym (extents-of d c.requires.set.idle))

@@ -1,0 +1,26 @@
+-- A commit's event without its dataset.
+--     arrival_off message parents new d      the first part of it that can't follow what the dataset has
+use Rattle.std.specs.Prelude.{◌+◌, ◌≤◌, ◌^◌, ℕ, List, Option, Some, None}
+use Rattle.ov_layout.specs.declared.part.Part.{Part}
+use Rattle.ov_layout.specs.Parts.{records_at}
+use Rattle.ov_place.specs.declared.place_facts.Place.{Place}
+use Rattle.ov_place.specs.declared.place_facts.Place.TheVariants.{Own, Join}
+use Rattle.ov_catalog.specs.declared.arrival.Arrival.{Arrival}
+use Rattle.ov_catalog.specs.declared.field.Field.{Field}
+use Rattle.ov_catalog.specs.Applying.{commit_off}
+use Rattle.ov_catalog.specs.Numbers.{SetNumbers}
+use Rattle.ov_catalog.specs.Raw.{place_in}
+
+abbrev pub arrival_off : {L S : Type 0} → List ℕ → List (ℕ × ℕ) → Arrival → SetNumbers L S → Option Field
+arrival_off message parents new d =
+    commit_off new.vid message parents new.rows new.fresh (place_in new.place) new.added new.list new.segment d
+
+-- the partition that is joined, if one is
+abbrev pub part_asked : Place → Option ℕ
+part_asked Own = None
+part_asked (Join id) = Some id
+
+-- a partition that is joined has with the added records at most 2^31
+abbrev pub FitsRecords : Place → ℕ → List Part → Type 0
+FitsRecords Own added parts = Unit {0}
+FitsRecords (Join id) added parts = records_at id parts + added ≤ 2 ^ 31

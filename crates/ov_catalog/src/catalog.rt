@@ -1,0 +1,297 @@
+//! The catalog.
+
+ghost use Rattle.std.specs.Prelude.{◌≡◌, ◌+◌, ◌-◌, ◌<◌, ◌≤◌, ◌^◌, ◌++◌, None, length, find, vec_capacity, option_map, option_copied, OnOk, OnErr};
+ghost use Rattle.ov_layout.specs.Changes.{extents_of};
+ghost use Rattle.ov_value.specs.Shapes.{Shape};
+ghost use Rattle.ov_catalog.specs.Answers.{Answers};
+ghost use Rattle.ov_catalog.specs.Applying.{first_off, init_off, is_named, of_live, set_numbered};
+ghost use Rattle.ov_catalog.specs.Arriving.{arrival_off};
+ghost use Rattle.ov_catalog.specs.Events.{Commit, Drop, Init, applied};
+ghost use Rattle.ov_catalog.specs.Extents.{given_up};
+ghost use Rattle.ov_catalog.specs.Numbers.{nothing_yet};
+ghost use Rattle.ov_catalog.specs.Raw.{event_in, place_in, shape_in};
+ghost use Rattle.ov_catalog.specs.Ready.{Nothing, ForInit, ForCommit, HasRoom, IsForInit};
+ghost use Rattle.ov_catalog.specs.Sets.{set_in, sets_in};
+ghost use Rattle.ov_catalog.specs.Steps.{steps_left};
+
+use crate::arrival::Arrival;
+use crate::commit::{commit_in, room_for_commit};
+use crate::cvd::Cvd;
+use crate::error::ApplyErr;
+use crate::field::Field;
+use crate::freeing::{drop_from, room_for_drop};
+use crate::init::{begin, check_init, spare_of};
+use crate::room::Room;
+use ov_event::{Event, Items, RawSchema};
+use ov_host::Extent;
+use ov_value::Txt;
+use std::alloc::Global;
+use std::marker::Model;
+use std::mem;
+
+/// All that the journal's events say of the live datasets. Contracts see their numbers, and for which event there is
+/// room.
+#[derive(Debug, Drop)]
+pub struct Catalog {
+    alloc: Global,
+    /// The number that the next dataset gets.
+    next: u32,
+    /// The live datasets, in order of creation and so of their numbers.
+    sets: Vec<Cvd>,
+    room: Room,
+}
+
+impl Model for Catalog {
+    ghost use Rattle.ov_catalog.specs.Ready.{Kept};
+
+    ghost Value = { Kept };
+
+    ghost use Rattle.ov_catalog.specs.Ready.{ready_in, AreSets, HasSpace};
+    ghost use Rattle.ov_catalog.specs.Sets.{sets_in};
+
+    ghost view = { λ c. record { numbers = record { next = c.next; sets = sets_in c.sets.items }; ready = ready_in c.room } };
+
+    ghost invariant = { λ c. AreSets c.next c.sets.items × HasSpace c.room c.sets };
+}
+
+impl Catalog {
+    /// A catalog without datasets. The first one gets the number 1.
+    pub fn new(alloc: Global) -> Catalog
+        ensures { result ≡ record { numbers = nothing_yet; ready = Nothing } }
+    {
+        Catalog {
+            alloc,
+            next: 1,
+            sets: Vec::new(alloc),
+            room: Room::Nothing,
+        }
+    }
+
+    /// The live datasets in order of creation.
+    pub fn cvds(&self) -> &[Cvd]
+        ensures { sets_in result.now ≡ self.now.numbers.sets }
+    {
+        self.sets.as_slice()
+    }
+
+    /// The number that the next dataset gets.
+    pub fn next_number(&self) -> u32
+        ensures { result ≡ self.now.numbers.next }
+    {
+        self.next
+    }
+
+    /// How many migration steps are left. No event begins a plan yet, so there are none.
+    pub fn steps_left(&self) -> u64
+        ensures { result ≡ steps_left self.now.numbers }
+    {
+        let _ = &self.sets;
+        0
+    }
+
+    /// The live dataset with this name.
+    pub fn cvd(&self, name: &str) -> Option<&Cvd>
+        ensures { option_map set_in (option_copied result) ≡ find (is_named name.now) self.now.numbers.sets }
+    {
+        let sets = self.sets.as_slice();
+        for d in sets {
+            if d.name.as_str() == name {
+                return Some(d);
+            }
+        }
+        None
+    }
+
+    /// Makes room for an event, so that applying it takes no memory: here, and behind `freed` for the extents that it
+    /// gives up. `NotNext` with the first part of the event that is off. It changes nothing else.
+    pub fn room_for(&mut self, event: &Event, freed: &mut Vec<Extent>) -> Result<(), ApplyErr>
+        ensures answer { Answers result (first_off event.now self.old.numbers) }
+        ensures numbers { self.new.numbers ≡ self.old.numbers }
+        ensures ready { OnOk result (HasRoom event.now self.new.ready) }
+        ensures freed { freed.new.items ≡ freed.old.items }
+        ensures room { OnOk result (length freed.new.items + length (given_up (event_in event.now) self.old.numbers) ≤ vec_capacity freed.new) }
+    {
+        match event {
+            Event::Init {
+                name,
+                schema,
+                rows,
+                list,
+                segment,
+            } => self.room_for_init(name, schema, *rows, *list, *segment),
+            Event::Commit {
+                cvd,
+                vid,
+                message,
+                parents,
+                rows,
+                fresh,
+                place,
+                added,
+                list,
+                segment,
+            } => self.room_for_commit(
+                *cvd,
+                message,
+                parents.as_slice(),
+                &Arrival {
+                    vid: *vid,
+                    rows: *rows,
+                    fresh: *fresh,
+                    place: *place,
+                    added: *added,
+                    list: *list,
+                    segment: *segment,
+                },
+            ),
+            Event::Drop { cvd } => room_for_drop(&self.sets, *cvd, freed),
+            // These don't apply yet.
+            Event::Plan { .. }
+            | Event::Copy { .. }
+            | Event::Flip { .. }
+            | Event::Base { .. }
+            | Event::Whole(_)
+            | Event::Wide { .. } => Err(ApplyErr::NotNext {
+                field: Field::Number,
+            }),
+        }
+    }
+
+    fn room_for_init(
+        &mut self,
+        name: &Txt,
+        schema: &RawSchema,
+        rows: u32,
+        list: Extent,
+        segment: Extent,
+    ) -> Result<(), ApplyErr>
+        ensures answer { Answers result (init_off name.now schema.now rows list segment self.old.numbers) }
+        ensures numbers { self.new.numbers ≡ self.old.numbers }
+        ensures ready { OnOk result (self.new.ready ≡ ForInit (shape_in schema.now)) }
+    {
+        let sets = self.sets.as_slice();
+        let made = check_init(
+            self.alloc, self.next, sets, name, schema, rows, list, segment,
+        )?;
+        let spare = spare_of(self.alloc, made)?;
+        self.sets.reserve(1)?;
+        self.room = Room::Init(spare);
+        Ok(())
+    }
+
+    fn room_for_commit(
+        &mut self,
+        cvd: u32,
+        message: &Txt,
+        parents: &[(u32, u32)],
+        new: &Arrival,
+    ) -> Result<(), ApplyErr>
+        ensures answer { Answers result (of_live (arrival_off message.now parents.now new.now) (set_numbered cvd self.old.numbers)) }
+        ensures numbers { self.new.numbers ≡ self.old.numbers }
+        ensures ready { OnOk result (self.new.ready ≡ ForCommit cvd (place_in new.now.place)) }
+    {
+        self.room = Room::Nothing;
+        room_for_commit(self.alloc, &mut self.sets, cvd, message, parents, new)?;
+        self.room = Room::Commit {
+            cvd,
+            place: new.place,
+        };
+        Ok(())
+    }
+
+    /// Applies an event that there is room for. Takes no memory: the extents that the event gives up are put behind
+    /// `freed`. Uses the room up.
+    pub fn apply_reserved(&mut self, event: Event, freed: &mut Vec<Extent>)
+        requires applies { first_off event self.old.numbers ≡ None }
+        requires ready { HasRoom event self.old.ready }
+        requires room { length freed.old.items + length (given_up (event_in event) self.old.numbers) ≤ vec_capacity freed.old }
+        ensures applied { self.new.numbers ≡ applied (event_in event) self.old.numbers }
+        ensures freed { freed.new.items ≡ freed.old.items ++ given_up (event_in event) self.old.numbers }
+    {
+        match event {
+            Event::Init {
+                name,
+                rows,
+                list,
+                segment,
+                ..
+            } => self.init(name, rows, list, segment),
+            Event::Commit {
+                cvd,
+                vid,
+                message,
+                parents,
+                rows,
+                fresh,
+                place,
+                added,
+                list,
+                segment,
+            } => self.commit(
+                cvd,
+                message,
+                parents,
+                &Arrival {
+                    vid,
+                    rows,
+                    fresh,
+                    place,
+                    added,
+                    list,
+                    segment,
+                },
+            ),
+            Event::Drop { cvd } => self.drop_set(cvd, freed),
+            // These don't apply yet.
+            Event::Plan { .. }
+            | Event::Copy { .. }
+            | Event::Flip { .. }
+            | Event::Base { .. }
+            | Event::Whole(_)
+            | Event::Wide { .. } => {}
+        }
+    }
+
+    fn init(&mut self, name: Txt, rows: u32, list: Extent, segment: Extent)
+        requires ready { IsForInit self.old.ready }
+        requires next { self.old.numbers.next < 2 ^ 32 - 1 }
+        ensures { (schema : Shape) → self.old.ready ≡ ForInit schema → self.new.numbers ≡ applied (Init name schema rows list (extents_of segment)) self.old.numbers }
+    {
+        if let Room::Init(spare) = mem::replace(&mut self.room, Room::Nothing) {
+            let d = begin(self.alloc, spare, self.next, name, rows, list, segment);
+            // There is room, so this takes no memory.
+            let _ = self.sets.push(d);
+            self.next += 1;
+        }
+    }
+
+    fn commit(&mut self, cvd: u32, message: Txt, parents: Items<(u32, u32)>, new: &Arrival)
+        requires ready { self.old.ready ≡ ForCommit cvd (place_in new.now.place) }
+        requires applies { of_live (arrival_off message parents new.now) (set_numbered cvd self.old.numbers) ≡ None }
+        ensures { self.new.numbers ≡ applied (Commit cvd new.now.vid message parents new.now.rows new.now.fresh (place_in new.now.place) new.now.added new.now.list (extents_of new.now.segment)) self.old.numbers }
+    {
+        commit_in(&mut self.sets, cvd, message, parents, new);
+        self.room = Room::Nothing;
+    }
+
+    fn drop_set(&mut self, cvd: u32, freed: &mut Vec<Extent>)
+        requires room { length freed.old.items + length (given_up (Drop cvd) self.old.numbers) ≤ vec_capacity freed.old }
+        ensures dropped { self.new.numbers ≡ applied (Drop cvd) self.old.numbers }
+        ensures freed { freed.new.items ≡ freed.old.items ++ given_up (Drop cvd) self.old.numbers }
+    {
+        drop_from(&mut self.sets, cvd, freed);
+        self.room = Room::Nothing;
+    }
+
+    /// Makes room for an event and applies it. The extents that it gives up are forgotten.
+    pub fn apply(&mut self, event: Event) -> Result<(), ApplyErr>
+        ensures answer { Answers result (first_off event self.old.numbers) }
+        ensures applied { OnOk result (self.new.numbers ≡ applied (event_in event) self.old.numbers) }
+        ensures err { OnErr result (self.new.numbers ≡ self.old.numbers) }
+    {
+        let mut freed = Vec::new(self.alloc);
+        self.room_for(&event, &mut freed)?;
+        self.apply_reserved(event, &mut freed);
+        Ok(())
+    }
+}

@@ -1,0 +1,25 @@
+//! Room for an event.
+
+use crate::cvd::Version;
+use ov_event::Placed;
+use ov_layout::Layout;
+use ov_value::{Schema, Txt};
+
+/// What a dataset begins with: the message of its first version, its schema, and room for that version.
+#[derive(Debug, Drop)]
+pub struct Spare {
+    pub message: Txt,
+    pub schema: Schema,
+    pub versions: Vec<Version>,
+    pub layout: Layout,
+}
+
+/// For which event there is room.
+#[derive(Debug, Drop)]
+pub enum Room {
+    Nothing,
+    /// For an Init with this schema.
+    Init(Spare),
+    /// For a Commit to the dataset with this number, at this place.
+    Commit { cvd: u32, place: Placed },
+}
