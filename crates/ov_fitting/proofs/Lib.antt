@@ -1,1 +1,4 @@
 pub mod Reaching
+pub mod Holes
+pub mod Schemas
+pub mod Beginning

@@ -4,6 +4,10 @@
 //! `ov_laws` and `ov_catalog`.
 #![tactic(auto)]
 
+mod applying;
 mod reached;
 
+pub use applying::{
+    readings_do_not_matter, the_event_of_a_drop_applies, the_event_of_an_init_applies,
+};
 pub use reached::reached_worlds_are_sound;
