@@ -2,3 +2,5 @@ pub mod Reaching
 pub mod Holes
 pub mod Schemas
 pub mod Beginning
+pub mod Counts
+pub mod Seeing
