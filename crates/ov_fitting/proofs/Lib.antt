@@ -4,3 +4,4 @@ pub mod Schemas
 pub mod Beginning
 pub mod Counts
 pub mod Seeing
+pub mod Committing

@@ -8,6 +8,6 @@ mod applying;
 mod reached;
 
 pub use applying::{
-    readings_do_not_matter, the_event_of_a_drop_applies, the_event_of_an_init_applies,
+    an_event_that_spells_a_move_is_its_event, readings_do_not_matter, the_event_of_a_move_applies,
 };
 pub use reached::reached_worlds_are_sound;
