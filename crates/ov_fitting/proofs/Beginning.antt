@@ -1,26 +1,26 @@
 -- The events of an Init and of a Drop apply where the move fits.
-use Rattle.std.proofs.Common.{◌≡◌, ◌<◌, ◌≤◌, ◌+◌, ◌==◌, ◌&&◌, ◌||◌, ℕ, zero, suc, Bool, true, false, not, nat_lt, cond, List, [], ◌∷◌, length, map, refl, sym, ◌∙◌, ap, subst, inl, inr, arith}
+use Rattle.std.proofs.Common.{◌≡◌, ◌==◌, ◌&&◌, ◌||◌, ℕ, Bool, true, false, not, nat_lt, List, [], ◌∷◌, length, map, refl, sym, ◌∙◌, ap, subst, arith}
 use Rattle.std.specs.Prelude.{Option, Some, None, find, nat_le, IsTrue, if◌then◌else◌}
 use Rattle.std.specs.List.{list_any}
 use Rattle.std.specs.Option.{option_or}
-use Rattle.std.proofs.lemmas.Bool.{cases_Bool, and_from, or_from, not_from_false, lt-ltb, le-leb}
+use Rattle.std.proofs.lemmas.Bool.{and_from, not_from_false, lt-ltb, le-leb}
 use Rattle.std.proofs.lemmas.List.{length-map}
 use Rattle.ov_event.specs.declared.event.Event as raw
 use Rattle.ov_event.specs.declared.event.Event.TheVariants as says
 use Rattle.ov_event.specs.declared.event.RawSchema.{RawSchema}
 use Rattle.ov_host.specs.declared.area.Extent.{Extent}
 use Rattle.ov_model.specs.Book.{Row}
-use Rattle.ov_model.specs.Moves.{Move, Init, Drop, numbered}
-use Rattle.ov_model.specs.World.{Dataset, World, first_set, named, set_named}
+use Rattle.ov_model.specs.Moves.{Init, Drop, numbered}
+use Rattle.ov_model.specs.World.{Dataset, World, first_set, named}
 use Rattle.ov_value.specs.Naming.{is_name}
 use Rattle.ov_value.specs.Shapes.{Shape}
 use Rattle.ov_catalog.specs.declared.field.Field.{Field}
 use Rattle.ov_catalog.specs.declared.field.Field.TheVariants as off
-use Rattle.ov_catalog.specs.Applying.{off_unless, is_named, is_schema, is_list, is_segment, init_off, of_live, set_numbered, first_off}
+use Rattle.ov_catalog.specs.Applying.{off_unless, is_named, is_schema, is_list, is_segment, init_off, of_live, first_off}
 use Rattle.ov_catalog.specs.Events as events
 use Rattle.ov_catalog.specs.Events.{Event}
-use Rattle.ov_catalog.specs.Numbers.{SetNumbers, Numbers}
-use Rattle.ov_catalog.specs.Raw.{shape_in, event_in, numbers_in}
+use Rattle.ov_catalog.specs.Numbers.{SetNumbers}
+use Rattle.ov_catalog.specs.Raw.{shape_in, numbers_in}
 use Rattle.ov_catalog.specs.Reached.{Fits, InitFits, IfThere}
 use Rattle.ov_catalog.specs.Shown.{Rids, Records, shown, shown_set}
 use Rattle.ov_catalog.specs.Stands.{Readings, StandsFor, seen_event, asked_event}

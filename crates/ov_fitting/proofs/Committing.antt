@@ -1,8 +1,8 @@
 -- The event of a Commit applies where the move fits.
-use Rattle.std.proofs.Common.{◌≡◌, ◌<◌, ◌≤◌, ◌+◌, ◌^◌, ◌==◌, ◌&&◌, ◌||◌, ℕ, zero, suc, Bool, true, false, not, List, [], ◌∷◌, ◌++◌, length, map, refl, sym, ◌∙◌, ap, subst, inl, inr, arith}
-use Rattle.std.specs.Prelude.{◌≢◌, Option, Some, None, find, nat_le, IsTrue, if◌then◌else◌}
+use Rattle.std.proofs.Common.{◌≡◌, ◌<◌, ◌≤◌, ◌+◌, ◌^◌, ◌==◌, ◌&&◌, ℕ, suc, Bool, true, false, not, List, [], ◌∷◌, ◌++◌, length, map, refl, sym, ◌∙◌, ap, subst, inl, inr, arith}
+use Rattle.std.specs.Prelude.{◌≢◌, Option, Some, None, nat_le, IsTrue, if◌then◌else◌}
 use Rattle.std.specs.List.{list_all}
-use Rattle.std.proofs.lemmas.Bool.{cases_Bool, and_from, not_from_false, false_from_ne_true, eq-eqb, eqb-true, le-leb}
+use Rattle.std.proofs.lemmas.Bool.{and_from, not_from_false, false_from_ne_true, eq-eqb, eqb-true, le-leb}
 use Rattle.std.proofs.lemmas.List.{length-map, length-append}
 use Rattle.ov_event.specs.declared.event.Event as raw
 use Rattle.ov_event.specs.declared.event.Event.TheVariants as says
@@ -14,24 +14,22 @@ use Rattle.ov_place.specs.declared.place_facts.Place.TheVariants.{Own, Join}
 use Rattle.ov_model.specs.Book.{Row, Version}
 use Rattle.ov_model.specs.Lists.{IsIn, AreIn, AllAreIn}
 use Rattle.ov_model.specs.Moves.{Move, Init, Commit, BeginPlan, Copy, Flip, Drop, Checkpoint, numbered, placed_at, version_of}
-use Rattle.ov_model.specs.Placed.{AreThere, times}
+use Rattle.ov_model.specs.Placed.{AreThere}
 use Rattle.ov_model.specs.Records.{Rec, recs, record_of, records_of, of_version, fresh_in, order_of, is_among, lacking, weight, weights}
 use Rattle.ov_model.specs.World.{Part, Dataset, World, first_set, held}
-use Rattle.ov_model.proofs.Growing.{recs_more, length_recs, order_of_more}
+use Rattle.ov_model.proofs.Growing.{recs_more, order_of_more}
 use Rattle.ov_model.proofs.Origins.{all_known, in_left, in_filter}
-use Rattle.ov_laws.specs.Pieces.{rec_times, NoTwice, IsPieces, PartsArePieces, HasPieces, ArePieces}
+use Rattle.ov_laws.specs.Pieces.{NoTwice, PartsArePieces, HasPieces, ArePieces}
 use Rattle.ov_laws.proofs.PieceLists.{among_in, in_either, in_filtered}
 use Rattle.ov_laws.proofs.PieceTimes.{times-filter, once-lacking}
 use Rattle.ov_laws.proofs.PlanNodes.{filter_most}
-use Rattle.ov_catalog.specs.declared.field.Field.{Field}
 use Rattle.ov_catalog.specs.declared.field.Field.TheVariants as off
-use Rattle.ov_catalog.specs.Applying.{off_unless, rows_at, are_distinct, is_parent, are_parents, part_numbered, records_in, facts_of, is_place, is_count, is_list, is_segment, commit_off, of_live, set_numbered, first_off}
+use Rattle.ov_catalog.specs.Applying.{rows_at, are_distinct, is_parent, are_parents, part_numbered, records_in, facts_of, is_place, is_count, is_list, is_segment, commit_off, of_live, set_numbered, first_off}
 use Rattle.ov_catalog.specs.Events as events
 use Rattle.ov_catalog.specs.Events.{Event}
-use Rattle.ov_catalog.specs.Numbers.{VersionNumbers, SetNumbers}
-use Rattle.ov_catalog.specs.Raw.{place_in, event_in, numbers_in}
+use Rattle.ov_catalog.specs.Raw.{event_in, numbers_in}
 use Rattle.ov_catalog.specs.Reached.{AreParents, CommitFits, Fits, IfThere}
-use Rattle.ov_catalog.specs.Shown.{Rids, Records, shown, shown_versions, shown_part, shown_set, held_by, added_to, commit_in}
+use Rattle.ov_catalog.specs.Shown.{shown, shown_versions, shown_part, shown_set, held_by, added_to, commit_in}
 use Rattle.ov_catalog.specs.Stands.{Readings, StandsFor, IsMove, seen_event, asked_event}
 use Rattle.ov_catalog.specs.Extents.{covers, brought, live}
 use Rattle.ov_catalog.proofs.Good.{IsGood, IsKnown, found_known, good}

@@ -1,14 +1,12 @@
 -- Records of which none stands twice: as many as there are among others at most.
-use Rattle.std.proofs.Common.{◌≡◌, ◌≤◌, ◌<◌, ℕ, zero, suc, ◌+◌, Bool, true, false, ◌==◌, List, [], ◌∷◌, ◌++◌, length, map, filter, refl, sym, ◌∙◌, ap, subst, inl, inr, arith}
-use Rattle.std.specs.Prelude.{◌≢◌, not, if◌then◌else◌, cond, count_by}
-use Rattle.std.specs.List.{list_any}
+use Rattle.std.proofs.Common.{◌≡◌, ◌≤◌, ℕ, suc, ◌+◌, Bool, true, false, ◌==◌, List, [], ◌∷◌, ◌++◌, length, filter, refl, sym, ◌∙◌, ap, subst, inl, inr, arith}
+use Rattle.std.specs.Prelude.{not, if◌then◌else◌}
 use Rattle.std.specs.Ordering.{nat_cmp, eq_by_cmp}
 use Rattle.std.specs.Cmp.{unsigned_tied}
-use Rattle.std.specs.Set.{distinct_count, unique_keys, is_member}
+use Rattle.std.specs.Set.{distinct_count, is_member}
 use Rattle.std.specs.declared.cmp.Ordering.{Ordering}
 use Rattle.std.specs.declared.cmp.Ordering.TheVariants.{Less, Equal}
-use Rattle.std.proofs.lemmas.Bool.{cases_Bool, eqb-true, ne_eqb, false_from_ne_true, not_from_false, or_cases}
-use Rattle.std.proofs.lemmas.List.{length-map}
+use Rattle.std.proofs.lemmas.Bool.{cases_Bool, eqb-true, false_from_ne_true, not_from_false, or_cases}
 use Rattle.std.proofs.lemmas.List.Sums.{length-filter}
 use Rattle.ov_value.specs.Order.{key_cmp-ties_decide}
 use Rattle.ov_value.specs.Rows.{key_cmp, key_of}
@@ -16,12 +14,12 @@ use Rattle.ov_value.specs.Shapes.{Shape}
 use Rattle.ov_model.specs.Book.{Row, Version}
 use Rattle.ov_model.specs.Lists.{IsIn, AreIn, AllAreIn, IsBelow, Rises, joined}
 use Rattle.ov_model.specs.Placed.{times}
-use Rattle.ov_model.specs.Records.{Rec, is_same_row, is_same_rec, is_among, lacking, weight, recs, records_of, fresh_in, order, order_of}
+use Rattle.ov_model.specs.Records.{Rec, is_same_row, is_same_rec, is_among, weight, records_of, fresh_in, order}
 use Rattle.ov_model.proofs.Counting.{one_if, one_same}
 use Rattle.ov_model.proofs.Growing.{same_rec-refl}
 use Rattle.ov_model.proofs.Origins.{in_filter}
 use Rattle.ov_model.proofs.Widening.{same_rows}
-use Rattle.ov_laws.specs.Pieces.{rec_times, NoTwice, row_times}
+use Rattle.ov_laws.specs.Pieces.{NoTwice, row_times}
 use Rattle.ov_laws.proofs.PieceLists.{among_in, in_either, in_filtered}
 use Rattle.ov_laws.proofs.PieceTimes.{in_times, times-filter, records_once}
 use Rattle.ov_laws.proofs.PlanNodes.{filter_most}

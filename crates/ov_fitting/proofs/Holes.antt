@@ -1,6 +1,6 @@
 -- Whether an event applies doesn't depend on what fills the holes.
-use Rattle.std.proofs.Common.{◌≡◌, ℕ, zero, suc, ◌+◌, Bool, true, false, ◌==◌, ◌&&◌, ◌||◌, ◌^◌, List, [], ◌∷◌, length, map, refl, sym, ◌∙◌, ap, inl, inr}
-use Rattle.std.specs.Prelude.{Option, Some, None, find, slice_index_or, ◌-◌, nat_le, nat_lt, not, if◌then◌else◌}
+use Rattle.std.proofs.Common.{◌≡◌, ℕ, ◌+◌, ◌==◌, ◌&&◌, ◌||◌, ◌^◌, List, [], ◌∷◌, length, map, refl, sym, ◌∙◌, ap, inl, inr}
+use Rattle.std.specs.Prelude.{Option, Some, None, find, slice_index_or, ◌-◌, nat_le, nat_lt, not}
 use Rattle.std.specs.List.{list_any, list_all, sum_by}
 use Rattle.std.specs.Option.{option_or}
 use Rattle.std.proofs.lemmas.Bool.{cases_Bool}
@@ -14,14 +14,13 @@ use Rattle.ov_host.specs.declared.area.Extent.{Extent}
 use Rattle.ov_place.specs.Placement.{placed}
 use Rattle.ov_place.specs.declared.place_facts.Place.{Place}
 use Rattle.ov_place.specs.declared.place_facts.Place.TheVariants.{Own, Join}
-use Rattle.ov_place.specs.declared.place_facts.PlaceFacts.{PlaceFacts}
 use Rattle.ov_value.specs.Naming.{is_name}
 use Rattle.ov_catalog.specs.declared.field.Field.{Field}
 use Rattle.ov_catalog.specs.declared.field.Field.TheVariants as off
 use Rattle.ov_catalog.specs.Numbers.{VersionNumbers, PartNumbers, PlanNumbers, SetNumbers, Numbers, each_version, each_part, each_plan, each_set, each}
 use Rattle.ov_catalog.specs.Events.{numbered}
 use Rattle.ov_catalog.specs.Raw.{place_in}
-use Rattle.ov_catalog.specs.Applying.{off_unless, is_named, is_schema, is_list, is_segment, init_off, rows_at, are_distinct, is_parent, are_parents, part_serving, part_numbered, id_in, records_in, is_unmoved, copied_in, stored, facts_of, is_place, is_count, commit_off, of_live, set_numbered, first_off}
+use Rattle.ov_catalog.specs.Applying.{off_unless, is_named, is_schema, is_list, is_segment, init_off, rows_at, are_distinct, is_parent, are_parents, part_serving, part_numbered, id_in, records_in, is_unmoved, copied_in, facts_of, is_place, is_count, commit_off, of_live, first_off}
 
 module _ {L M S T : Type 0} (f : L → M) (g : S → T) where
   named_each : (name : List ℕ) (sets : List (SetNumbers L S)) → list_any (is_named name) (map (each_set f g) sets) ≡ list_any (is_named name) sets

@@ -5,3 +5,4 @@ pub mod Beginning
 pub mod Counts
 pub mod Seeing
 pub mod Committing
+pub mod Asking

@@ -1,16 +1,15 @@
 -- A sound schema is made of its columns and of the names at its key's places.
-use Rattle.std.proofs.Common.{◌≡◌, ◌<◌, ◌≤◌, ◌+◌, ◌==◌, ◌&&◌, ◌||◌, ℕ, zero, suc, Bool, true, false, not, nat_eq, nat_lt, cond, List, [], ◌∷◌, ◌++◌, length, map, refl, sym, ◌∙◌, ap, inl, inr, arith}
-use Rattle.std.specs.Prelude.{◌≢◌, Option, Some, None, is_ok, slice_index_or}
-use Rattle.std.specs.List.{list_any, list_all, All, IsDistinct, AllByRecursion}
+use Rattle.std.proofs.Common.{◌≡◌, ◌<◌, ◌==◌, ◌&&◌, ℕ, zero, suc, Bool, true, false, nat_eq, nat_lt, List, [], ◌∷◌, ◌++◌, length, map, refl, sym, ◌∙◌, ap, arith}
+use Rattle.std.specs.Prelude.{◌≢◌, Option, Some, None, is_ok}
+use Rattle.std.specs.List.{All, IsDistinct, AllByRecursion}
 use Rattle.std.specs.Option.{option_or}
 use Rattle.std.specs.Cmp.Lexicographic.{pointwise, bytes_decides, nat_list_eq_equiv}
-use Rattle.std.proofs.lemmas.Bool.{and_from, or_from, or_left, or_right, lt-ltb, ltb-true, eq-eqb, ne_eqb, true≢false, false_from_ne_true, not_from_true}
+use Rattle.std.proofs.lemmas.Bool.{and_from, or_from, or_left, or_right, lt-ltb, ltb-true, eq-eqb, ne_eqb, true≢false, false_from_ne_true}
 use Rattle.std.proofs.lemmas.List.{length-map}
 use Rattle.std.proofs.lemmas.List.Elements.{All-head, All-tail}
 use Rattle.std.proofs.lemmas.List.Folds.{list_any-append}
 use Rattle.ov_value.specs.declared.column.Column.{Column}
 use Rattle.ov_value.specs.declared.schema_err.SchemaErr.{SchemaErr}
-use Rattle.ov_value.specs.Naming.{is_column_name}
 use Rattle.ov_value.specs.Shapes.{Shape, names, IsSound}
 use Rattle.ov_value.specs.Making.{is_among, name_refusal, column_refusal, key_refusal, answer_of, schema_of}
 use Rattle.ov_catalog.specs.Applying.{are_places, name_at}

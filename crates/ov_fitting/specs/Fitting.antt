@@ -1,8 +1,8 @@
 -- What of an event no spelling says: how long its extents are, and where.
 --     IsSoundEvent e      they are those of so many rows, and of so many records
+use Rattle.std.specs.Prelude.{IsTrue}
 use Rattle.ov_event.specs.declared.event.Event as raw
 use Rattle.ov_event.specs.declared.event.Event.TheVariants as says
-use Rattle.std.specs.Prelude.{IsTrue}
 use Rattle.ov_catalog.specs.Applying.{is_list, is_segment}
 
 abbrev pub IsSoundEvent : raw.Event → Type 0

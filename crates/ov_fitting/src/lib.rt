@@ -8,6 +8,7 @@ mod applying;
 mod reached;
 
 pub use applying::{
+    an_empty_dataset_is_sound, an_event_that_applies_is_sound,
     an_event_that_spells_a_move_is_its_event, readings_do_not_matter, the_event_of_a_move_applies,
 };
 pub use reached::reached_worlds_are_sound;
