@@ -1,0 +1,4 @@
+pub mod Lists
+pub mod Segments
+pub mod Pages
+pub mod Images

@@ -1,0 +1,56 @@
+//! Laws of what images stand for, each the contract of a function that does nothing.
+
+ghost use Rattle.std.specs.Prelude.{◌≡◌, ◌+◌, ℕ, List, [], ◌∷◌, ◌++◌, take};
+ghost use Rattle.ov_host.specs.Disk.{Image};
+ghost use Rattle.ov_event.specs.declared.event.Event.{Event};
+ghost use Rattle.ov_event.specs.Spelling.{IsEvent, spelling};
+ghost use Rattle.ov_journal.specs.Journal.{Kept, IsJournal, IsUnmade, and_one, end_of, new_kept};
+ghost use Rattle.ov_model.specs.Moves.{Move, moved};
+ghost use Rattle.ov_model.specs.World.{World, empty_world};
+ghost use Rattle.ov_catalog.specs.Extents.{live};
+ghost use Rattle.ov_catalog.specs.Raw.{numbers_in};
+ghost use Rattle.ov_catalog.specs.Stands.{IsMove};
+ghost use Rattle.ov_image.specs.Images.{SaysSame, Spell, StandsAs, StandsBy};
+ghost use Rattle.ov_image.specs.Pages.{SameLive, readings_of};
+
+/// An image stands for at most one World.
+pub fn at_most_one_world()
+    ensures { (w v : World) (c : Image) → StandsAs w c → StandsAs v c → w ≡ v }
+{}
+
+/// Where an image stands for a World and has a journal whose payloads spell events, it does so by these.
+pub fn stands_by_its_journal()
+    ensures { (kept : Kept) (events : List Event) (w : World) (c : Image) → StandsAs w c → IsJournal kept c.journal
+        → Spell events kept.payloads → StandsBy kept events w c }
+{}
+
+/// An image with the same payloads, epoch and format number, and the same bytes in the live extents, stands for the same World.
+pub fn same_payloads_and_live_pages()
+    ensures { (kept other : Kept) (events : List Event) (w : World) (old new : Image) → StandsBy kept events w old
+        → IsJournal other new.journal → SaysSame kept other → SameLive (live (numbers_in events)) old.pages new.pages
+        → StandsBy other events w new }
+{}
+
+/// The journal's bytes past its first closed gate don't matter, nor do the bytes of pages outside the live extents, nor what
+/// was printed.
+pub fn only_live_bytes_matter()
+    ensures journal { (kept : Kept) (events : List Event) (w : World) (old new : Image) → StandsBy kept events w old
+        → take (end_of kept + 1) new.journal ≡ take (end_of kept + 1) old.journal → new.pages ≡ old.pages
+        → StandsBy kept events w new }
+    ensures pages { (kept : Kept) (events : List Event) (w : World) (old new : Image) → StandsBy kept events w old
+        → new.journal ≡ old.journal → SameLive (live (numbers_in events)) old.pages new.pages → StandsBy kept events w new }
+{}
+
+/// With one payload more, which spells the event of a move, an image stands for the World after the move.
+pub fn one_more_payload()
+    ensures { (kept : Kept) (events : List Event) (w : World) (old new : Image) (e : Event) (m : Move)
+        → StandsBy kept events w old → IsEvent e → IsJournal (and_one kept (spelling e)) new.journal
+        → SameLive (live (numbers_in events)) old.pages new.pages → IsMove e m w (numbers_in events) (readings_of new.pages)
+        → StandsBy (and_one kept (spelling e)) (events ++ e ∷ []) (moved m w) new }
+{}
+
+/// No byte, and a new journal without a payload, stand for the empty World.
+pub fn nothing_written_stands_for_the_empty_world()
+    ensures unmade { (c : Image) → IsUnmade c.journal → c.pages ≡ [] → StandsAs empty_world c }
+    ensures new { (c : Image) → IsJournal new_kept c.journal → StandsBy new_kept [] empty_world c }
+{}
