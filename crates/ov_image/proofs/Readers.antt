@@ -22,7 +22,7 @@ and_true true true ea eb = refl
 and_true true false ea eb = eb
 and_true false b ea eb = ea
 
-both_true : (a b : Bool) → (a && b) ≡ true → (a ≡ true) × (b ≡ true)
+pub both_true : (a b : Bool) → (a && b) ≡ true → (a ≡ true) × (b ≡ true)
 both_true true true e = (refl, refl)
 both_true true false e = absurd cc
 both_true false b e = absurd cc

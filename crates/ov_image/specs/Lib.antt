@@ -2,3 +2,4 @@ pub mod Lists
 pub mod Segments
 pub mod Pages
 pub mod Images
+pub mod Worked

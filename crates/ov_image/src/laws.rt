@@ -12,6 +12,7 @@ ghost use Rattle.ov_catalog.specs.Raw.{numbers_in};
 ghost use Rattle.ov_catalog.specs.Stands.{IsMove};
 ghost use Rattle.ov_image.specs.Images.{SaysSame, Spell, StandsAs, StandsBy};
 ghost use Rattle.ov_image.specs.Pages.{SameLive, readings_of};
+ghost use Rattle.ov_image.specs.Worked.{the_image, the_world};
 
 /// An image stands for at most one World.
 pub fn at_most_one_world()
@@ -53,4 +54,9 @@ pub fn one_more_payload()
 pub fn nothing_written_stands_for_the_empty_world()
     ensures unmade { (c : Image) → IsUnmade c.journal → c.pages ≡ [] → StandsAs empty_world c }
     ensures new { (c : Image) → IsJournal new_kept c.journal → StandsBy new_kept [] empty_world c }
+{}
+
+/// The bytes of a store in which one dataset was made stand for the World after that Init.
+pub fn a_first_dataset_is_stood_for()
+    ensures { StandsAs the_world the_image }
 {}

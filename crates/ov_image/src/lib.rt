@@ -5,7 +5,7 @@ mod laws;
 mod reading;
 
 pub use laws::{
-    at_most_one_world, nothing_written_stands_for_the_empty_world, one_more_payload,
-    only_live_bytes_matter, same_payloads_and_live_pages, stands_by_its_journal,
+    a_first_dataset_is_stood_for, at_most_one_world, nothing_written_stands_for_the_empty_world,
+    one_more_payload, only_live_bytes_matter, same_payloads_and_live_pages, stands_by_its_journal,
 };
 pub use reading::{lists_are_read, segments_are_read};
