@@ -1,5 +1,5 @@
 -- The laws of what images stand for.
-use Rattle.std.proofs.Common.{◌≡◌, ◌<◌, ◌≤◌, ◌+◌, ◌*◌, ◌-◌, ◌==◌, inl, inr, ℕ, zero, suc, Bool, true, if◌then◌else◌, List, [], ◌∷◌, ◌++◌, length, take, drop, map, None, refl, sym, ◌∙◌, ap, subst, arith, length-append}
+use Rattle.std.proofs.Common.{◌≡◌, ◌≢◌, ◌<◌, ◌≤◌, ◌+◌, ◌*◌, ◌-◌, ◌==◌, inl, inr, ℕ, zero, suc, Bool, true, if◌then◌else◌, List, [], ◌∷◌, ◌++◌, length, take, drop, map, None, refl, sym, ◌∙◌, ap, subst, arith, length-append}
 use Rattle.std.specs.List.{AllByRecursion}
 use Rattle.std.proofs.lemmas.Bool.Decides.{nat_tests}
 use Rattle.std.proofs.lemmas.List.{map-append}
@@ -9,7 +9,7 @@ use Rattle.ov_host.specs.Extent.{pages_of}
 use Rattle.ov_event.specs.declared.event.Event.{Event}
 use Rattle.ov_event.specs.Spelling.{IsEvent, spelling}
 use Rattle.ov_event.proofs.Events.{spelled_once}
-use Rattle.ov_journal.specs.Journal.{Kept, IsJournal, IsUnmade, Unmade, Holds, and_one, end_of, new_kept}
+use Rattle.ov_journal.specs.Journal.{Kept, IsJournal, IsUnmade, IsForeign, IsOfFormat, Standing, AreaIs, Unmade, Foreign, OfFormat, DamagedAt, Holds, and_one, end_of, new_kept}
 use Rattle.ov_journal.proofs.Records.{same_journal}
 use Rattle.ov_journal.proofs.Slots.{piece_same}
 use Rattle.ov_journal.proofs.Unique.{one_thing}
@@ -79,6 +79,26 @@ one_world w v c (inr made) (inl new) = absurd (not_unmade made.kept c.journal ne
 one_world w v c (inr made) (inr also) =
     by_once also.kept also.events w v c (stands_by also.kept also.events w c (inr made) also.by.journal also.by.spell) also.by
 
+-- ---- no World
+
+-- any other thing that a journal's bytes may be
+other_thing : (s : Standing) (w : World) (c : Image) → StandsAs w c → AreaIs s c.journal → (Unmade ≡ s → ⊥) → ((kept : Kept) → Holds kept ≡ s → ⊥) → ⊥
+other_thing s w c (inl new) is unmade held = unmade (one_thing Unmade s c.journal new.journal is)
+other_thing s w c (inr made) is unmade held = held made.kept (one_thing (Holds made.kept) s c.journal made.by.journal is)
+
+pub no_pages : (w : World) (c : Image) → StandsAs w c → IsUnmade c.journal → c.pages ≢ [] → ⊥
+no_pages w c (inl new) unmade some = some new.pages
+no_pages w c (inr made) unmade some = not_unmade made.kept c.journal unmade made.by.journal
+
+pub not_foreign : (w : World) (c : Image) → StandsAs w c → IsForeign c.journal → ⊥
+not_foreign w c stands is = other_thing Foreign w c stands is (λ e. absurd cc) (λ kept e. absurd cc)
+
+pub not_of_format : (w : World) (c : Image) (found : ℕ) → StandsAs w c → IsOfFormat found c.journal → ⊥
+not_of_format w c found stands is = other_thing (OfFormat found) w c stands is (λ e. absurd cc) (λ kept e. absurd cc)
+
+pub not_damaged : (w : World) (c : Image) (place : ℕ) → StandsAs w c → AreaIs (DamagedAt place) c.journal → ⊥
+not_damaged w c place stands is = other_thing (DamagedAt place) w c stands is (λ e. absurd cc) (λ kept e. absurd cc)
+
 -- ---- the pages
 
 covered : (es : List Extent) (e : Extent) (page : ℕ) → IsIn es e → has_page e page ≡ true → 1 ≤ covers es page
@@ -101,7 +121,7 @@ has_last e some =
 abbrev AreThere : List Extent → List ℕ → Type 0
 AreThere es pages = (page : ℕ) → 1 ≤ covers es page → page < pages_in pages
 
-long : (es : List Extent) (e : Extent) (pages : List ℕ) → IsIn es e → AreThere es pages → 0 < e.bytes → 4096 * e.page + e.bytes ≤ length pages
+pub long : (es : List Extent) (e : Extent) (pages : List ℕ) → IsIn es e → AreThere es pages → 0 < e.bytes → 4096 * e.page + e.bytes ≤ length pages
 long es e pages is there some =
     let last : e.page + (pages_of e - 1) < pages_in pages = there (e.page + (pages_of e - 1)) (covered es e (e.page + (pages_of e - 1)) is (has_last e some))
     in omega (arith, last, some)

@@ -17,6 +17,9 @@ pages_in pages = length pages / 4096
 abbrev pub extent_bytes : List ℕ → Extent → List ℕ
 extent_bytes pages e = take e.bytes (drop (4096 * e.page) pages)
 
+abbrev pub IsWhole : List ℕ → Extent → Type 0
+IsWhole pages e = length (extent_bytes pages e) ≡ e.bytes
+
 -- what is read of an extent's bytes; None where they don't stand whole
 abbrev pub read_whole : {X : Type 0} → (List ℕ → Option X) → List ℕ → Extent → Option X
 read_whole read pages e = if length (extent_bytes pages e) == e.bytes then read (extent_bytes pages e) else None

@@ -1,10 +1,21 @@
 //! Laws of what images stand for, each the contract of a function that does nothing.
 
-ghost use Rattle.std.specs.Prelude.{◌≡◌, ◌+◌, ℕ, List, [], ◌∷◌, ◌++◌, take};
+ghost use Rattle.std.specs.Prelude.{◌≡◌, ◌≢◌, ◌+◌, ℕ, List, [], ◌∷◌, ◌++◌, take};
 ghost use Rattle.ov_host.specs.Disk.{Image};
 ghost use Rattle.ov_event.specs.declared.event.Event.{Event};
 ghost use Rattle.ov_event.specs.Spelling.{IsEvent, spelling};
-ghost use Rattle.ov_journal.specs.Journal.{Kept, IsJournal, IsUnmade, and_one, end_of, new_kept};
+ghost use Rattle.ov_journal.specs.Journal.{
+  AreaIs,
+  DamagedAt,
+  IsForeign,
+  IsJournal,
+  IsOfFormat,
+  IsUnmade,
+  Kept,
+  and_one,
+  end_of,
+  new_kept,
+};
 ghost use Rattle.ov_model.specs.Moves.{Move, moved};
 ghost use Rattle.ov_model.specs.World.{World, empty_world};
 ghost use Rattle.ov_catalog.specs.Extents.{live};
@@ -54,6 +65,15 @@ pub fn one_more_payload()
 pub fn nothing_written_stands_for_the_empty_world()
     ensures unmade { (c : Image) → IsUnmade c.journal → c.pages ≡ [] → StandsAs empty_world c }
     ensures new { (c : Image) → IsJournal new_kept c.journal → StandsBy new_kept [] empty_world c }
+{}
+
+/// Pages beside an unmade journal stand for no World, nor do a foreign journal, one of an unknown format number, and a damaged
+/// one.
+pub fn other_bytes_stand_for_no_world()
+    ensures unmade { (w : World) (c : Image) → StandsAs w c → IsUnmade c.journal → c.pages ≢ [] → ⊥ }
+    ensures foreign { (w : World) (c : Image) → StandsAs w c → IsForeign c.journal → ⊥ }
+    ensures format { (w : World) (c : Image) (found : ℕ) → StandsAs w c → IsOfFormat found c.journal → ⊥ }
+    ensures damaged { (w : World) (c : Image) (place : ℕ) → StandsAs w c → AreaIs (DamagedAt place) c.journal → ⊥ }
 {}
 
 /// The bytes of a store in which one dataset was made stand for the World after that Init.
