@@ -1,5 +1,5 @@
 -- The laws of what images stand for.
-use Rattle.std.proofs.Common.{◌≡◌, ◌≢◌, ◌<◌, ◌≤◌, ◌+◌, ◌*◌, ◌-◌, ◌==◌, inl, inr, ℕ, zero, suc, Bool, true, if◌then◌else◌, List, [], ◌∷◌, ◌++◌, length, take, drop, map, None, refl, sym, ◌∙◌, ap, subst, arith, length-append}
+use Rattle.std.proofs.Common.{◌≡◌, ◌/◌, ◌≢◌, ◌<◌, ◌≤◌, ◌+◌, ◌*◌, ◌-◌, ◌==◌, inl, inr, ℕ, zero, suc, slice_index, Bool, true, if◌then◌else◌, List, [], ◌∷◌, ◌++◌, length, take, drop, map, None, refl, sym, ◌∙◌, ap, subst, arith, length-append}
 use Rattle.std.specs.List.{AllByRecursion}
 use Rattle.std.proofs.lemmas.Bool.Decides.{nat_tests}
 use Rattle.std.proofs.lemmas.List.{map-append}
@@ -110,6 +110,9 @@ covered (x ∷ xs) e page (inl same) has =
     in omega (arith, one)
 covered (x ∷ xs) e page (inr later) has = let more : 1 ≤ covers xs page = covered xs e page later has in omega (arith, more)
 
+has_between : (e : Extent) (page : ℕ) → e.page ≤ page → page < e.page + pages_of e → has_page e page ≡ true
+has_between e page low high = grind (arith, nat_tests)
+
 has_last : (e : Extent) → 0 < e.bytes → has_page e (e.page + (pages_of e - 1)) ≡ true
 has_last e some =
     let pages : 1 ≤ pages_of e = omega (arith, some)
@@ -142,6 +145,18 @@ bytes_same es old new there kept_live e is = by e.bytes refl
         in let long_new : 4096 * e.page + e.bytes ≤ length new = long es e new is kept_live.there some
         in piece_same old new (4096 * e.page) (suc n) (omega (arith, long_old, more)) (omega (arith, long_new, more))
         (λ p low high. kept_live.same p (used es e p is low (omega (arith, high, more))))
+
+used_covered : (es : List Extent) (p : ℕ) → IsUsed es p → 1 ≤ covers es (p / 4096)
+used_covered [] p is = absurd is
+used_covered (e ∷ es) p (inl at) =
+    let low : e.page ≤ p / 4096 = omega (arith, at.0)
+    in let high : p / 4096 < e.page + pages_of e = omega (arith, at.0, at.1)
+    in let has : has_page e (p / 4096) ≡ true = has_between e (p / 4096) low high
+    in covered (e ∷ es) e (p / 4096) (inl refl) has
+used_covered (e ∷ es) p (inr later) = let more : 1 ≤ covers es (p / 4096) = used_covered es p later in omega (arith, more)
+
+pub same_pages : (es : List Extent) (old new : List ℕ) → AreThere es new → ((p : ℕ) → 1 ≤ covers es (p / 4096) → slice_index new p ≡ slice_index old p) → SameLive es old new
+same_pages es old new there same = record { there = there; same = λ p is. same p (used_covered es p is) }
 
 read_same : (es : List Extent) (old new : List ℕ) → AreThere es old → SameLive es old new → ReadSame es (readings_of old) (readings_of new)
 read_same es old new there kept_live = record {

@@ -1,6 +1,7 @@
 //! Laws of what images stand for, each the contract of a function that does nothing.
 
-ghost use Rattle.std.specs.Prelude.{◌≡◌, ◌≢◌, ◌+◌, ℕ, List, [], ◌∷◌, ◌++◌, take};
+ghost use Rattle.std.specs.Prelude.{◌≡◌, ◌≢◌, ◌+◌, ℕ, List, [], ◌∷◌, ◌++◌, take, ◌≤◌, ◌<◌, ◌/◌, slice_index};
+ghost use Rattle.ov_host.specs.declared.area.Extent.{Extent};
 ghost use Rattle.ov_host.specs.Disk.{Image};
 ghost use Rattle.ov_event.specs.declared.event.Event.{Event};
 ghost use Rattle.ov_event.specs.Spelling.{IsEvent, spelling};
@@ -18,11 +19,11 @@ ghost use Rattle.ov_journal.specs.Journal.{
 };
 ghost use Rattle.ov_model.specs.Moves.{Move, moved};
 ghost use Rattle.ov_model.specs.World.{World, empty_world};
-ghost use Rattle.ov_catalog.specs.Extents.{live};
+ghost use Rattle.ov_catalog.specs.Extents.{covers, live};
 ghost use Rattle.ov_catalog.specs.Raw.{numbers_in};
 ghost use Rattle.ov_catalog.specs.Stands.{IsMove};
 ghost use Rattle.ov_image.specs.Images.{SaysSame, Spell, StandsAs, StandsBy};
-ghost use Rattle.ov_image.specs.Pages.{SameLive, readings_of};
+ghost use Rattle.ov_image.specs.Pages.{SameLive, pages_in, readings_of};
 ghost use Rattle.ov_image.specs.Worked.{the_image, the_world};
 
 /// An image stands for at most one World.
@@ -51,6 +52,12 @@ pub fn only_live_bytes_matter()
         → StandsBy kept events w new }
     ensures pages { (kept : Kept) (events : List Event) (w : World) (old new : Image) → StandsBy kept events w old
         → new.journal ≡ old.journal → SameLive (live (numbers_in events)) old.pages new.pages → StandsBy kept events w new }
+{}
+
+/// Where whole pages of extents are there and the same, so are the extents.
+pub fn same_pages_have_the_same_extents()
+    ensures { (es : List Extent) (old new : List ℕ) → ((page : ℕ) → 1 ≤ covers es page → page < pages_in new)
+        → ((p : ℕ) → 1 ≤ covers es (p / 4096) → slice_index new p ≡ slice_index old p) → SameLive es old new }
 {}
 
 /// With one payload more, which spells the event of a move, an image stands for the World after the move.
