@@ -1,6 +1,6 @@
 //! Laws of what images stand for, each the contract of a function that does nothing.
 
-ghost use Rattle.std.specs.Prelude.{◌≡◌, ◌≢◌, ◌+◌, ℕ, List, [], ◌∷◌, ◌++◌, take, ◌≤◌, ◌<◌, ◌/◌, slice_index};
+ghost use Rattle.std.specs.Prelude.{◌≡◌, ◌≢◌, ◌≤◌, ◌<◌, ◌+◌, ◌/◌, ℕ, List, [], ◌∷◌, ◌++◌, take, slice_index};
 ghost use Rattle.ov_host.specs.declared.area.Extent.{Extent};
 ghost use Rattle.ov_host.specs.Disk.{Image};
 ghost use Rattle.ov_event.specs.declared.event.Event.{Event};
@@ -68,7 +68,7 @@ pub fn one_more_payload()
         → StandsBy (and_one kept (spelling e)) (events ++ e ∷ []) (moved m w) new }
 {}
 
-/// No byte, and a new journal without a payload, stand for the empty World.
+/// An unmade journal beside no page, and a new journal without a payload beside any pages, stand for the empty World.
 pub fn nothing_written_stands_for_the_empty_world()
     ensures unmade { (c : Image) → IsUnmade c.journal → c.pages ≡ [] → StandsAs empty_world c }
     ensures new { (c : Image) → IsJournal new_kept c.journal → StandsBy new_kept [] empty_world c }
