@@ -1,5 +1,5 @@
 -- The runs are settled, and then the record counts.
-use Rattle.std.proofs.Common.{◌≡◌, ◌⊎◌, inl, inr, ℕ, List, [], ◌∷◌, ◌++◌, take, sym, ◌∙◌, ap, subst, arith}
+use Rattle.std.proofs.Common.{◌≡◌, ◌⊎◌, inl, inr, ℕ, List, [], ◌∷◌, ◌++◌, take, refl, sym, ◌∙◌, ap, subst, arith}
 use Rattle.ov_host.specs.declared.area.Area.TheVariants.{Pages}
 use Rattle.ov_host.specs.Disk.{Disk, Image, Stored, Leaves, with_area, settled}
 use Rattle.ov_host.specs.Host.{State}
@@ -109,3 +109,29 @@ module _ (list segment : Run) (ps : List (List ℕ)) (p : List ℕ) (numbers : N
           only_then s0.tape s1.tape s2.tape Either (first_stops s1 runs)
           (only_wider s1.tape s2.tape (IsOldOrNew kept (and_one kept p) s1.tape.disk) Either after_stored
           (record_stops ps (at_between s1 told disk)))
+
+module _ (ps : List (List ℕ)) (p : List ℕ) (numbers : Numbers) (s0 s1 : State) (at : IsAt ps numbers s0) where
+  -- a record over the same pages
+  pub bare_stops : (live : List (ℕ × ℕ)) → IsFree live [] s0.tape.disk
+      → ((payloads : List (List ℕ)) → IsAt payloads numbers s0 → Only s0.tape s1.tape (IsOldOrNew (kept_by numbers payloads) (and_one (kept_by numbers payloads) p) s0.tape.disk))
+      → Only s0.tape s1.tape (IsStored (kept_by numbers ps) (and_one (kept_by numbers ps) p) live s0.tape.disk.pages.bytes s0.tape.disk.pages.bytes s0.tape.disk.printed)
+  bare_stops live free stops =
+      only_wider s0.tape s1.tape (IsOldOrNew (kept_by numbers ps) (and_one (kept_by numbers ps) p) s0.tape.disk)
+      (IsStored (kept_by numbers ps) (and_one (kept_by numbers ps) p) live s0.tape.disk.pages.bytes s0.tape.disk.pages.bytes s0.tape.disk.printed)
+      (λ c is. record { which = by c (same c is) is.journal; printed_is = is.printed })
+      (stops ps at) where
+        same : (c : Image) → IsOldOrNew (kept_by numbers ps) (and_one (kept_by numbers ps) p) s0.tape.disk c → c.pages ≡ s0.tape.disk.pages.bytes
+        same c is = settled_leaves s0.tape.disk.pages.bytes c.pages (subst (λ a. Leaves a c.pages) free.rest is.pages)
+
+        by : (c : Image) → c.pages ≡ s0.tape.disk.pages.bytes → IsJournal (kept_by numbers ps) c.journal ⊎ IsJournal (and_one (kept_by numbers ps) p) c.journal
+            → (IsJournal (kept_by numbers ps) c.journal × SameOn live s0.tape.disk.pages.bytes c.pages) ⊎ (IsJournal (and_one (kept_by numbers ps) p) c.journal × (c.pages ≡ s0.tape.disk.pages.bytes))
+        by c there (inl old) =
+            let Same : List ℕ → Type 0 = λ b. SameOn live s0.tape.disk.pages.bytes b
+            in inl (old, subst Same (sym there) (record { there = free.there; same = λ q w. refl }))
+        by c there (inr new) = inr (new, there)
+
+  pub bare_done : (later : Numbers) → PagesAtRest s0 → ((payloads : List (List ℕ)) → IsAt payloads numbers s0 → IsAt (payloads ++ p ∷ []) later s1)
+      → (AtRest s0 → SameButJournal s0.tape.disk s1.tape.disk) → IsAdded (ps ++ p ∷ []) s0.tape.disk.pages.bytes s0.tape.disk.printed later s1
+  bare_done later rest added stays =
+      let same : SameButJournal s0.tape.disk s1.tape.disk = stays (record { told = at.told; rest = at.rest })
+      in record { at = added ps at; rest = same.pages_same ∙ rest.rest; printed_is = same.printed_same }

@@ -13,4 +13,7 @@ pub use laws::{
     a_run_is_read, a_run_leaves_the_rest, both_runs_are_read, both_runs_leave_the_rest,
 };
 pub use run::Run;
-pub use step::add;
+pub use step::{add, add_bare};
+
+#[cfg(test)]
+mod tests;
