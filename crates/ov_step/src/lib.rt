@@ -4,16 +4,18 @@
 //! counts only once the runs are settled. What a stop in `add` leaves is `IsStored` of `specs/Steps.antt`.
 #![tactic(auto)]
 
+mod bare;
 mod laws;
 mod put;
 mod run;
 mod step;
 
+pub use bare::add_bare;
 pub use laws::{
     a_run_is_read, a_run_leaves_the_rest, both_runs_are_read, both_runs_leave_the_rest,
 };
 pub use run::Run;
-pub use step::{add, add_bare};
+pub use step::add;
 
 #[cfg(test)]
 mod tests;

@@ -1,5 +1,5 @@
 use Rattle.ov_step.proofs.Adding.{bare_stops, bare_done}
-use Rattle.ov_step.proofs.step.add_bare.Goals as goal
+use Rattle.ov_step.proofs.bare.add_bare.Goals as goal
 
 pub returns-in_err-append-clause-stops : goal.returns-in_err-append-clause-stops
 returns-in_err-append-clause-stops g c ps live at free =
