@@ -1,6 +1,5 @@
 // A record that names runs, and the runs before it.
 ghost use Rattle.std.specs.Prelude.{◌≡◌, ◌<◌, ◌+◌, ◌++◌, ◌↔◌, ◌^◌, ℕ, List, [], ◌∷◌, true, length, OnOk, IsErrOf};
-ghost use Rattle.ov_host.specs.Disk.{settled};
 ghost use Rattle.ov_host.specs.Host.{Rose, bytes_of};
 ghost use Rattle.ov_host.specs.Stops.{Only};
 ghost use Rattle.ov_journal.specs.Held.{Passes, IsAt, kept_by};
