@@ -1,8 +1,12 @@
 // Laws of the pages behind runs, each the contract of a function that does nothing.
 ghost use Rattle.std.specs.Prelude.{◌≡◌, ◌<◌, ◌≤◌, ◌+◌, ◌*◌, ℕ, List, [], ◌∷◌, length, take, drop};
+ghost use Rattle.ov_host.specs.declared.area.Area.TheVariants.{Pages};
+ghost use Rattle.ov_host.specs.Host.{State, bytes_of};
+ghost use Rattle.ov_journal.specs.Held.{Numbers};
 ghost use Rattle.ov_step.specs.declared.run.Run.{Run};
 ghost use Rattle.ov_step.specs.Pages.{range_of, whole_pages, with_run, AreOff, AreThere, SameOn};
-ghost use Rattle.ov_step.specs.Steps.{with_runs, ranges_of};
+ghost use Rattle.ov_step.specs.Puts.{PagesAtRest};
+ghost use Rattle.ov_step.specs.Steps.{IsAdded, with_runs, ranges_of};
 
 /// A run reads from its page on, and all of its pages are there.
 pub fn a_run_is_read()
@@ -36,4 +40,12 @@ pub fn both_runs_leave_the_rest()
     ensures same { (list segment : Run) (old : List ℕ) (live : List (ℕ × ℕ)) → AreThere live old
         → AreOff (ranges_of list segment) live → SameOn live old (with_runs list segment old) }
     ensures longer { (list segment : Run) (old : List ℕ) → length old ≤ length (with_runs list segment old) }
+{}
+
+/// After a step nothing is pending in the pages, and they are known; so another one may follow.
+pub fn a_step_may_follow()
+    ensures rest { (payloads : List (List ℕ)) (final printed : List ℕ) (numbers : Numbers) (s : State)
+        → IsAdded payloads final printed numbers s → PagesAtRest s }
+    ensures pages { (payloads : List (List ℕ)) (final printed : List ℕ) (numbers : Numbers) (s : State)
+        → IsAdded payloads final printed numbers s → bytes_of Pages s ≡ final }
 {}

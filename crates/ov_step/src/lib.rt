@@ -12,7 +12,8 @@ mod step;
 
 pub use bare::add_bare;
 pub use laws::{
-    a_run_is_read, a_run_leaves_the_rest, both_runs_are_read, both_runs_leave_the_rest,
+    a_run_is_read, a_run_leaves_the_rest, a_step_may_follow, both_runs_are_read,
+    both_runs_leave_the_rest,
 };
 pub use run::Run;
 pub use step::add;
