@@ -1,0 +1,4 @@
+pub mod Readers
+pub mod Standing
+pub mod Extents
+pub mod Worked
