@@ -1,0 +1,9 @@
+//! Opening's replay: from the payloads of a journal to the catalog.
+#![tactic(auto)]
+
+mod replaying;
+
+pub use replaying::{ReplayErr, replay};
+
+#[cfg(test)]
+mod tests;
