@@ -1,5 +1,7 @@
 // Payloads replayed: second ones that can't follow, and a journal of 65,000 events with its time.
 use crate::{ReplayErr, replay};
+use ov_catalog::{ApplyErr, Catalog, Field};
+use ov_event::{Event, read_event};
 use ov_journal::Payload;
 use std::alloc::Global;
 use std::test::Fail;
@@ -56,6 +58,24 @@ fn a_second_event_follows_or_is_named(rt: HostRuntime) -> Result<(), Fail> {
         let expected = named.map(|nth| ReplayErr::Damaged { nth });
         assert_eq!(rt; found, expected, "version {vid}, {message} bytes");
     }
+    Ok(())
+}
+
+fn event(alloc: Global, payload: &Payload) -> Result<Event, Fail> {
+    Ok(read_event(alloc, payload.as_slice())?.ok_or("it spells an event")?)
+}
+
+#[test]
+fn a_long_message_is_named(rt: HostRuntime) -> Result<(), Fail> {
+    let alloc = rt.alloc();
+    let mut catalog = Catalog::new(alloc);
+    let first = event(alloc, &payload(alloc, INIT)?)?;
+    assert!(rt; catalog.apply(first).is_ok());
+    let second = event(alloc, &commit(alloc, 2, 1_025, &[1])?)?;
+    let off = Some(ApplyErr::NotNext {
+        field: Field::Message,
+    });
+    assert_eq!(rt; catalog.apply(second).err(), off);
     Ok(())
 }
 
