@@ -1,0 +1,4 @@
+pub mod Held
+pub mod AtWorld
+pub mod Brought
+pub mod Rooms
