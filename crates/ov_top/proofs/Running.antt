@@ -5,8 +5,8 @@ use Rattle.std.proofs.lemmas.List.{take_all, length-take}
 use Rattle.std.proofs.lemmas.Bool.{cond-false, cases_lt, lt-leb}
 use Rattle.ov_host.specs.Host.{State}
 use Rattle.ov_host.specs.Stage.{Files}
-use Rattle.ov_store.specs.Dataset.{Dataset}
-use Rattle.ov_store.specs.Held.{Held, IsAt}
+use Rattle.ov_first.specs.Dataset.{Dataset}
+use Rattle.ov_first.specs.Held.{Held, IsAt}
 use Rattle.ov_top.specs.declared.reply.Reply.TheVariants.{NotBuilt}
 use Rattle.ov_top.specs.Lines.{is_comment}
 use Rattle.ov_top.specs.LineForm.{init_of}

@@ -5,8 +5,8 @@ use Rattle.std.proofs.lemmas.Bool.{cond-false, lt-leb}
 use Rattle.ov_host.specs.Host.{State}
 use Rattle.ov_host.specs.Stage.{Files}
 use Rattle.ov_value.specs.Making.{is_among}
-use Rattle.ov_store.specs.Dataset.{Dataset}
-use Rattle.ov_store.specs.Held.{Held}
+use Rattle.ov_first.specs.Dataset.{Dataset}
+use Rattle.ov_first.specs.Held.{Held}
 use Rattle.ov_top.specs.declared.read_line.Making.{Making}
 use Rattle.ov_top.specs.declared.reply.Reply.{Reply}
 use Rattle.ov_top.specs.declared.reply.Reply.TheVariants.{Exists, NotBuilt}

@@ -3,7 +3,7 @@ use Rattle.std.specs.Prelude.{◌≡◌, ◌⊎◌, ◌+◌, ◌^◌, ℕ, true,
 use Rattle.ov_host.specs.Host.{State, Rose}
 use Rattle.ov_host.specs.Source.{Script}
 use Rattle.ov_host.specs.Stage.{Staged}
-use Rattle.ov_store.specs.Held.{AreEmpty, IsNew}
+use Rattle.ov_first.specs.Held.{AreEmpty, IsNew}
 use Rattle.ov_top.specs.declared.status.Status.{Status}
 use Rattle.ov_top.specs.declared.status.Status.TheVariants.{Done, Refused, Usage, HostFault, InputFault, Memory, NotAStore, Damaged, Format, ScriptTooLong}
 use Rattle.ov_top.specs.Lines.{lines_of}

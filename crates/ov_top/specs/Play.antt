@@ -5,8 +5,8 @@ use Rattle.std.specs.FinMap.{get}
 use Rattle.ov_host.specs.Stage.{Files}
 use Rattle.ov_value.specs.declared.value.Value.{Value}
 use Rattle.ov_value.specs.Making.{is_among}
-use Rattle.ov_store.specs.Dataset.{Dataset}
-use Rattle.ov_store.specs.Bytes.{opened, payload_of}
+use Rattle.ov_first.specs.Dataset.{Dataset}
+use Rattle.ov_first.specs.Bytes.{opened, payload_of}
 use Rattle.ov_top.specs.declared.reply.Reply.{Reply}
 use Rattle.ov_top.specs.declared.reply.Reply.TheVariants.{Made, Exists, NoFile, NotBuilt, Full}
 use Rattle.ov_top.specs.Lines.{is_comment}

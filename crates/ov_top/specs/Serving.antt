@@ -2,8 +2,8 @@
 use Rattle.std.specs.Prelude.{◌≡◌, ◌||◌, ◌++◌, ℕ, Bool, List, [], Option}
 use Rattle.ov_host.specs.Host.{State}
 use Rattle.ov_host.specs.Stage.{Files}
-use Rattle.ov_store.specs.Dataset.{Dataset}
-use Rattle.ov_store.specs.Held.{Held, IsAt}
+use Rattle.ov_first.specs.Dataset.{Dataset}
+use Rattle.ov_first.specs.Held.{Held, IsAt}
 use Rattle.ov_top.specs.declared.reply.Reply.{Reply}
 use Rattle.ov_top.specs.Play.{Acted, said, has_failed, play, fails, sets_after}
 

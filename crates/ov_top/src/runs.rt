@@ -1,7 +1,7 @@
 // A whole run.
 ghost use Rattle.std.specs.Prelude.{◌≡◌, ◌<◌, ◌||◌, ◌+◌, ◌^◌, ◌⊎◌, true, List, ℕ, [], length, IsErrOf, IfOk, IsOk};
 ghost use Rattle.ov_host.specs.Host.{Rose, bytes_of};
-ghost use Rattle.ov_store.specs.Held.{IsAt, IsNew, Passes, AreEmpty};
+ghost use Rattle.ov_first.specs.Held.{IsAt, IsNew, Passes, AreEmpty};
 ghost use Rattle.ov_top.specs.Lines.{lines_of};
 ghost use Rattle.ov_top.specs.Named.{Looks};
 ghost use Rattle.ov_top.specs.Serving.{Played};
@@ -14,7 +14,7 @@ use crate::serve::serve;
 use crate::status::Status;
 use crate::words::are_words;
 use ov_host::{Area, Host, Source, Stage};
-use ov_store::{OpenErr, Store};
+use ov_first::{OpenErr, Store};
 use ov_value::Txt;
 use std::alloc::Global;
 

@@ -3,8 +3,8 @@ ghost use Rattle.std.specs.Prelude.{◌≡◌, ◌<◌, ◌++◌, true, List, []
 ghost use Rattle.std.specs.FinMap.{get};
 ghost use Rattle.ov_host.specs.Disk.{with_printed};
 ghost use Rattle.ov_host.specs.Host.{Rose, bytes_of};
-ghost use Rattle.ov_store.specs.Dataset.{Dataset};
-ghost use Rattle.ov_store.specs.Held.{IsAt, Passes, PrintsNothing};
+ghost use Rattle.ov_first.specs.Dataset.{Dataset};
+ghost use Rattle.ov_first.specs.Held.{IsAt, Passes, PrintsNothing};
 ghost use Rattle.ov_top.specs.LineForm.{init_of};
 ghost use Rattle.ov_top.specs.Named.{Looks};
 ghost use Rattle.ov_top.specs.Play.{act, from_line, from_file, from_rows, made};
@@ -16,7 +16,7 @@ use crate::read_file::read_file;
 use crate::read_line::{Making, is_comment, read_line};
 use crate::reply::Reply;
 use ov_host::{Area, Host, Stage};
-use ov_store::{Store, StoreErr};
+use ov_first::{Store, StoreErr};
 use ov_value::Row;
 use std::alloc::Global;
 

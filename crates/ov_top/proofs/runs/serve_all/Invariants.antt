@@ -1,7 +1,7 @@
 use Rattle.std.proofs.Common.{◌≡◌, ◌≤◌, ◌<◌, ◌+◌, true, length, []}
 use Rattle.ov_host.specs.declared.area.Area.TheVariants.{Journal}
 use Rattle.ov_host.specs.Host.{bytes_of}
-use Rattle.ov_store.specs.Held.{IsAt, Passes}
+use Rattle.ov_first.specs.Held.{IsAt, Passes}
 use Rattle.ov_top.specs.Lines.{lines_of}
 use Rattle.ov_top.specs.Named.{Looks}
 use Rattle.ov_top.specs.Reader.{left_of, room_of}

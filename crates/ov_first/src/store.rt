@@ -2,9 +2,9 @@
 ghost use Rattle.std.specs.Prelude.{◌≡◌, ◌<◌, ◌≤◌, ◌+◌, ◌^◌, ◌++◌, ◌∷◌, [], List, true, length, IsErr, IsErrOf, IfOk, OnOk};
 ghost use Rattle.ov_host.specs.Host.{Rose, bytes_of};
 ghost use Rattle.ov_value.specs.Making.{is_among};
-ghost use Rattle.ov_store.specs.Bytes.{payload_of};
-ghost use Rattle.ov_store.specs.Dataset.{Dataset};
-ghost use Rattle.ov_store.specs.Held.{IsAt, Passes, PrintsNothing, AreEmpty, IsNew};
+ghost use Rattle.ov_first.specs.Bytes.{payload_of};
+ghost use Rattle.ov_first.specs.Dataset.{Dataset};
+ghost use Rattle.ov_first.specs.Held.{IsAt, Passes, PrintsNothing, AreEmpty, IsNew};
 
 use crate::encode::encode_record;
 use crate::errors::{OpenErr, StoreErr};
@@ -33,7 +33,7 @@ pub struct Store {
 
 impl Model for Store {
     ghost use Rattle.std.specs.Prelude.{◌≤◌, ◌^◌};
-    ghost use Rattle.ov_store.specs.Held.{Held};
+    ghost use Rattle.ov_first.specs.Held.{Held};
 
     ghost Value = { Held };
 

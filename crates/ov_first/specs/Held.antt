@@ -2,8 +2,8 @@
 use Rattle.std.specs.Prelude.{◌≡◌, ◌≤◌, ℕ, true, List, [], length, map}
 use Rattle.ov_host.specs.Disk.{settled}
 use Rattle.ov_host.specs.Host.{State}
-use Rattle.ov_store.specs.Dataset.{Dataset}
-use Rattle.ov_store.specs.Bytes.{opened, journal_of}
+use Rattle.ov_first.specs.Dataset.{Dataset}
+use Rattle.ov_first.specs.Bytes.{opened, journal_of}
 
 -- the names of the datasets in order, and the place of the first closed gate
 pub record Held : Type 0 where

@@ -1,6 +1,6 @@
 // Why a call didn't do its work.
-ghost use Rattle.ov_store.specs.declared.errors.OpenErr.TheVariants as opening;
-ghost use Rattle.ov_store.specs.declared.errors.StoreErr.TheVariants as storing;
+ghost use Rattle.ov_first.specs.declared.errors.OpenErr.TheVariants as opening;
+ghost use Rattle.ov_first.specs.declared.errors.StoreErr.TheVariants as storing;
 ghost use Rattle.std.specs.Prelude.{◌≡◌};
 
 use ov_host::Failed;

@@ -1,7 +1,7 @@
 // The bytes of a dataset's journal record.
 ghost use Rattle.std.specs.Prelude.{◌≡◌, ◌++◌, ◌∷◌, [], OnOk, IfOk};
 ghost use Rattle.std.specs.List.{flat_map};
-ghost use Rattle.ov_store.specs.Bytes.{u32_bytes, text_bytes, kind_byte, column_bytes, schema_bytes, value_bytes, row_bytes, rows_bytes, payload_of, record_of};
+ghost use Rattle.ov_first.specs.Bytes.{u32_bytes, text_bytes, kind_byte, column_bytes, schema_bytes, value_bytes, row_bytes, rows_bytes, payload_of, record_of};
 
 use ov_value::{Column, Kind, Row, Schema, Txt, Value};
 use std::alloc::{AllocError, Global};

@@ -8,7 +8,7 @@ use Rattle.ov_value.specs.declared.column.Column.{Column}
 use Rattle.ov_value.specs.declared.column.Kind.{Kind}
 use Rattle.ov_value.specs.declared.column.Kind.TheVariants as kind
 use Rattle.ov_value.specs.Shapes.{Shape}
-use Rattle.ov_store.specs.Dataset.{Dataset}
+use Rattle.ov_first.specs.Dataset.{Dataset}
 
 -- the low 32 bits of a number
 abbrev pub u32_bytes : ℕ → List ℕ

@@ -3,7 +3,7 @@ ghost use Rattle.std.specs.Prelude.{◌≡◌, ◌≤◌, true, length, IsErr, O
 ghost use Rattle.ov_host.specs.Disk.{settled, with_area};
 ghost use Rattle.ov_host.specs.Host.{Rose, bytes_of};
 ghost use Rattle.ov_host.specs.Tape.{overwritten};
-ghost use Rattle.ov_store.specs.Held.{Passes, PrintsNothing};
+ghost use Rattle.ov_first.specs.Held.{Passes, PrintsNothing};
 
 use ov_host::{Area, Failed, Host};
 
