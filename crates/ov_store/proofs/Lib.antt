@@ -1,0 +1,6 @@
+pub mod Refusing
+pub mod Still
+pub mod Beginning
+pub mod Fitting
+pub mod Answering
+pub mod Dropping

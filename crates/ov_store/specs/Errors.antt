@@ -1,0 +1,24 @@
+-- Why a part of a call isn't done, as the store's call answers it.
+use Rattle.std.specs.Prelude.{Bool, true, false}
+use Rattle.ov_core.specs.declared.errors.ChangeErr.{ChangeErr}
+use Rattle.ov_core.specs.declared.errors.ChangeErr.TheVariants as change
+use Rattle.ov_rows.specs.declared.RowsErr.{RowsErr}
+use Rattle.ov_rows.specs.declared.RowsErr.TheVariants as rows
+use Rattle.ov_store.specs.declared.errors.StoreErr.{StoreErr}
+use Rattle.ov_store.specs.declared.errors.StoreErr.TheVariants as why
+
+abbrev pub of_rows : RowsErr → StoreErr
+of_rows rows.TooManyRows = why.TooManyRows
+of_rows (rows.DuplicateKey row) = why.DuplicateKey row
+of_rows (rows.FormatOne row) = why.FormatOne row
+of_rows rows.Memory = why.Memory
+
+abbrev pub of_change : ChangeErr → StoreErr
+of_change change.Host = why.Host
+of_change change.Memory = why.Memory
+of_change (change.Full pages) = why.Full pages
+of_change change.JournalFull = why.JournalFull
+
+abbrev pub is_host : ChangeErr → Bool
+is_host change.Host = true
+is_host _ = false

@@ -1,0 +1,6 @@
+pub mod Errors
+pub mod Kept
+pub mod Refusals
+pub mod Changes
+pub mod Beginning
+pub mod Dropping

@@ -1,0 +1,222 @@
+// The store.
+
+ghost use Rattle.std.specs.Prelude.{◌≡◌, ◌<◌, ◌≤◌, ◌&&◌, not, true, false, None, IfOk, IfErr, IsTrue, OnOk, OnErr, IsErrOf, MatchResult, length, option_map, option_copied, find};
+ghost use Rattle.std.specs.List.{All, list_any};
+ghost use Rattle.ov_host.specs.Host.{State};
+ghost use Rattle.ov_host.specs.Stops.{Only};
+ghost use Rattle.ov_journal.specs.Held.{Passes};
+ghost use Rattle.ov_value.specs.Naming.{is_name as is_a_name};
+ghost use Rattle.ov_value.specs.Shapes.{IsSound};
+ghost use Rattle.ov_value.specs.Spelling.{IsRow};
+ghost use Rattle.ov_model.specs.Moves.{Move, moved};
+ghost use Rattle.ov_model.specs.World.{World};
+ghost use Rattle.ov_core.specs.AtWorld.{IsAtWorld, IsEither};
+ghost use Rattle.ov_core.specs.Brought.{Brings};
+ghost use Rattle.ov_core.specs.Rooms.{IsMade};
+ghost use Rattle.ov_store.specs.declared.errors.StoreErr.TheVariants as why;
+ghost use Rattle.ov_store.specs.Beginning.{first_move, first_said, init_off, IsShort};
+ghost use Rattle.ov_store.specs.Changes.{IsDone, IsReady, IsRefused, IsUnstored, IsWhy, Says};
+ghost use Rattle.ov_store.specs.Dropping.{IsDropped, IsKept, dropped, number_named};
+ghost use Rattle.ov_store.specs.Errors.{is_host, of_change};
+ghost use Rattle.ov_store.specs.Kept.{MayCall, Stays};
+ghost use Rattle.ov_store.specs.Refusals.{new_off};
+
+use crate::errors::StoreErr;
+use ov_catalog::Catalog;
+use ov_core::{Brought, ChangeErr, Core};
+use ov_host::Host;
+use ov_rows::version_rows;
+use ov_value::{Row, Schema, Txt};
+use ov_writing::first_version;
+use std::alloc::Global;
+use std::marker::Model;
+
+/// How many datasets may be live.
+const MOST_CVDS: usize = 1024;
+
+/// A version that was made.
+#[derive(Clone, Copy, Debug, PartialEq, Eq)]
+pub struct Committed {
+    /// Its number.
+    pub vid: u32,
+    /// How many rows it has.
+    pub rows: u32,
+    /// How many of its records no parent gave it.
+    pub fresh: u32,
+}
+
+/// A team's datasets, in the page file and the journal of a host. Contracts see what the store keeps of them, and whether it
+/// can be used: after a fault of the host in a call that writes it can't, and is opened again.
+#[derive(Debug, Drop)]
+pub struct Store {
+    alloc: Global,
+    core: Core,
+    usable: bool,
+}
+
+impl Model for Store {
+    ghost use Rattle.ov_store.specs.Kept.{Kept};
+
+    ghost Value = { Kept };
+
+    ghost view = { λ s. record { held = s.core; usable = s.usable } };
+}
+
+impl Store {
+    /// Whether the store can be used.
+    pub fn usable(&self) -> bool
+        ensures { result ≡ self.now.usable }
+    {
+        self.usable
+    }
+
+    /// The catalog of the live datasets.
+    pub fn catalog(&self) -> &Catalog
+        ensures { result.now.numbers ≡ self.now.held.numbers }
+    {
+        self.core.catalog()
+    }
+
+    // Whether a dataset of this name may begin.
+    fn may_begin(&self, name: &Txt) -> Result<(), StoreErr>
+        ensures answer { MatchResult result (λ done. new_off self.now.held.numbers name.now ≡ None) (λ off. new_off self.now.held.numbers name.now ≡ Some off) }
+        ensures numbers { OnOk result (self.now.held.numbers.next < 4294967295) }
+    {
+        let catalog = self.core.catalog();
+        if catalog.cvd(name.as_str()).is_some() {
+            return Err(StoreErr::CvdExists);
+        }
+        if catalog.cvds().len() >= MOST_CVDS {
+            return Err(StoreErr::TooManyCvds);
+        }
+        if catalog.next_number() == u32::MAX {
+            return Err(StoreErr::NoNumbers);
+        }
+        Ok(())
+    }
+
+    // What a change is refused for. After a fault of the host the store isn't used again.
+    fn refusal(&mut self, off: ChangeErr) -> StoreErr
+        ensures answer { result ≡ of_change off }
+        ensures held { self.new.held ≡ self.old.held }
+        ensures usable { self.new.usable ≡ (self.old.usable && not (is_host off)) }
+    {
+        if off == ChangeErr::Host {
+            self.usable = false;
+        }
+        StoreErr::from(off)
+    }
+
+    // Stores what was brought.
+    fn change<H: Host>(&mut self, host: &mut H, brought: Brought) -> Result<(), StoreErr>
+        requires call { MayCall self.old (H.state host.old) }
+        requires ready { IsReady brought self.old.held }
+        ensures passes { Passes (H.state host.old) (H.state host.new) }
+        ensures made { OnOk result (IsMade self.old.held self.new.held brought) }
+        ensures why { IfErr result (IsUnstored self.old.held brought (H.state host.old) (H.state host.new)) }
+        ensures stays { IfErr result (λ off. Stays off self.old self.new (H.state host.old) (H.state host.new)) }
+        ensures usable { OnOk result (MayCall self.new (H.state host.new)) }
+        ensures unusable { IsErrOf result StoreErr.Host → self.new.usable ≡ false }
+        ensures stops { (w : World) (m : Move) → IsAtWorld w self.old.held (H.state host.old) → Brings m w brought
+            → Only (H.state host.old).tape (H.state host.new).tape (IsEither w (moved m w) (H.state host.old).tape.disk.printed) }
+        ensures moves { (w : World) (m : Move) → IsAtWorld w self.old.held (H.state host.old) → Brings m w brought
+            → OnOk result (IsAtWorld (moved m w) self.new.held (H.state host.new)) }
+    {
+        match self.core.add(self.alloc, host, brought) {
+            Ok(()) => Ok(()),
+            Err(off) => Err(self.refusal(off)),
+        }
+    }
+
+    // What a dataset of these rows brings.
+    fn first(&self, name: &Txt, schema: &Schema, rows: Vec<Row>) -> Result<Brought, StoreErr>
+        requires name { IsTrue (is_a_name name.now) }
+        requires sound { IsSound schema.now }
+        requires fit { All (IsRow schema.now) rows.items }
+        requires short { All IsShort rows.items }
+        ensures says { IfOk result (λ b. Says b (first_said name.now schema.now rows.items)) }
+        ensures ready { IfOk result (λ b. IsReady b self.now.held) }
+        ensures allowed { OnOk result (init_off self.now.held name.now schema.now rows.items ≡ None) }
+        ensures few { OnOk result (length rows.items ≤ 1000000) }
+        ensures why { IfErr result (IsRefused (init_off self.now.held name.now schema.now rows.items)) }
+        ensures brings { (w : World) (s : State) → IsAtWorld w self.now.held s → IfOk result (Brings (first_move name.now schema.now rows.items) w) }
+    {
+        self.may_begin(name)?;
+        let format = self.core.journal().format();
+        let rows = version_rows(self.alloc, schema, format, false, rows)?;
+        Ok(first_version(self.alloc, name, schema, rows)?)
+    }
+
+    /// Makes a dataset with version 1, of these rows.
+    ///
+    /// Refusals in their order: `CvdExists`, `TooManyCvds`, `NoNumbers`, `TooManyRows`, `DuplicateKey`, `FormatOne`, `Full`,
+    /// `JournalFull`. All memory is taken before the first write; a change costs the writes of its list, its segment and its
+    /// record, and three syncs.
+    pub fn init<H: Host>(
+        &mut self,
+        host: &mut H,
+        name: &Txt,
+        schema: Schema,
+        rows: Vec<Row>,
+    ) -> Result<Committed, StoreErr>
+        requires call { MayCall self.old (H.state host.old) }
+        requires name { IsTrue (is_a_name name.now) }
+        requires fit { All (IsRow schema) rows.items }
+        requires short { All IsShort rows.items }
+        ensures passes { Passes (H.state host.old) (H.state host.new) }
+        ensures done { OnOk result (IsDone (first_said name.now schema rows.items) self.old.held self.new.held) }
+        ensures allowed { OnOk result (init_off self.old.held name.now schema rows.items ≡ None) }
+        ensures made { IfOk result (λ made. made ≡ record { vid = 1; rows = length rows.items; fresh = length rows.items }) }
+        ensures why { IfErr result (IsWhy (init_off self.old.held name.now schema rows.items) (first_said name.now schema rows.items)
+            self.old.held (H.state host.old) (H.state host.new)) }
+        ensures stays { IfErr result (λ off. Stays off self.old self.new (H.state host.old) (H.state host.new)) }
+        ensures usable { OnOk result (MayCall self.new (H.state host.new)) }
+        ensures unusable { IsErrOf result StoreErr.Host → self.new.usable ≡ false }
+        ensures stops { (w : World) → IsAtWorld w self.old.held (H.state host.old)
+            → Only (H.state host.old).tape (H.state host.new).tape
+            (IsEither w (moved (first_move name.now schema rows.items) w) (H.state host.old).tape.disk.printed) }
+        ensures moves { (w : World) → IsAtWorld w self.old.held (H.state host.old)
+            → OnOk result (IsAtWorld (moved (first_move name.now schema rows.items) w) self.new.held (H.state host.new)) }
+    {
+        let count = rows.len();
+        let brought = self.first(name, &schema, rows)?;
+        self.change(host, brought)?;
+        let count = count as u32;
+        Ok(Committed {
+            vid: 1,
+            rows: count,
+            fresh: count,
+        })
+    }
+
+    // The number of the live dataset with this name.
+    fn number_of(&self, name: &str) -> Option<u32>
+        ensures { result ≡ number_named self.now.held.numbers name.now }
+    {
+        self.core.catalog().cvd(name).map(|d| d.number)
+    }
+
+    /// Drops a dataset, with all its versions: `NoCvd` where no live one has the name, and `JournalFull`. Its pages are free
+    /// once its record is settled. A drop costs the write of its record and two syncs.
+    pub fn drop_cvd<H: Host>(&mut self, host: &mut H, name: &str) -> Result<(), StoreErr>
+        requires call { MayCall self.old (H.state host.old) }
+        ensures passes { Passes (H.state host.old) (H.state host.new) }
+        ensures done { OnOk result (IsDropped name.now self.old.held self.new.held) }
+        ensures why { IfErr result (IsKept name.now self.old.held (H.state host.old) (H.state host.new)) }
+        ensures stays { IfErr result (λ off. Stays off self.old self.new (H.state host.old) (H.state host.new)) }
+        ensures usable { OnOk result (MayCall self.new (H.state host.new)) }
+        ensures unusable { IsErrOf result StoreErr.Host → self.new.usable ≡ false }
+        ensures stops { (w : World) → IsAtWorld w self.old.held (H.state host.old)
+            → Only (H.state host.old).tape (H.state host.new).tape (IsEither w (dropped name.now w) (H.state host.old).tape.disk.printed) }
+        ensures moves { (w : World) → IsAtWorld w self.old.held (H.state host.old)
+            → OnOk result (IsAtWorld (dropped name.now w) self.new.held (H.state host.new)) }
+    {
+        let Some(cvd) = self.number_of(name) else {
+            return Err(StoreErr::NoCvd);
+        };
+        match self.core.drop_cvd(self.alloc, host, cvd) {
+            Ok(()) => Ok(()),
+            Err(off) => Err(self.refusal(off)),
+        }
+    }
+}
