@@ -1,6 +1,6 @@
 //! The catalog.
 
-ghost use Rattle.std.specs.Prelude.{◌≡◌, ◌+◌, ◌-◌, ◌<◌, ◌≤◌, ◌^◌, ◌++◌, None, length, find, vec_capacity, option_map, option_copied, OnOk, OnErr};
+ghost use Rattle.std.specs.Prelude.{◌≡◌, ◌+◌, ◌-◌, ◌<◌, ◌≤◌, ◌^◌, ◌++◌, None, length, find, vec_capacity, option_map, option_copied, OnOk, OnErr, IfSome};
 ghost use Rattle.ov_layout.specs.Changes.{extents_of};
 ghost use Rattle.ov_value.specs.Shapes.{Shape};
 ghost use Rattle.ov_catalog.specs.Answers.{Answers};
@@ -10,7 +10,7 @@ ghost use Rattle.ov_catalog.specs.Events.{Commit, Drop, Init, applied};
 ghost use Rattle.ov_catalog.specs.Extents.{given_up};
 ghost use Rattle.ov_catalog.specs.Numbers.{nothing_yet};
 ghost use Rattle.ov_catalog.specs.Raw.{event_in, place_in, shape_in};
-ghost use Rattle.ov_catalog.specs.Ready.{Nothing, ForInit, ForCommit, HasRoom, IsForInit};
+ghost use Rattle.ov_catalog.specs.Ready.{Nothing, ForInit, ForCommit, HasRoom, IsForInit, IsSet};
 ghost use Rattle.ov_catalog.specs.Sets.{set_in, sets_in};
 ghost use Rattle.ov_catalog.specs.Steps.{steps_left};
 
@@ -89,9 +89,10 @@ impl Catalog {
         0
     }
 
-    /// The live dataset with this name.
+    /// The live dataset with this name. Each of its versions is in a partition.
     pub fn cvd(&self, name: &str) -> Option<&Cvd>
-        ensures { option_map set_in (option_copied result) ≡ find (is_named name.now) self.now.numbers.sets }
+        ensures found { option_map set_in (option_copied result) ≡ find (is_named name.now) self.now.numbers.sets }
+        ensures sound { IfSome result (λ d. IsSet d.now) }
     {
         let sets = self.sets.as_slice();
         for d in sets {

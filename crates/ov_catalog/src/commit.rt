@@ -60,8 +60,8 @@ fn part_serving(layout: &Layout, vid: u32) -> u32
     }
 }
 
-// Where a version with these parents goes.
-fn next_place(d: &Cvd, parents: &[(u32, u32)]) -> Place
+/// Where the dataset's next version goes, with these parents, each a version and the weight of its edge.
+pub fn next_place(d: &Cvd, parents: &[(u32, u32)]) -> Place
     requires { IsSet d.now }
     ensures { result ≡ placed (facts_of (set_in d.now) (heaviest_of parents.now)) }
 {

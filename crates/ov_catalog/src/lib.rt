@@ -19,6 +19,7 @@ mod room;
 mod schemas;
 
 pub use catalog::Catalog;
+pub use commit::next_place;
 pub use cvd::{Cvd, Plan, Target, Version};
 pub use error::ApplyErr;
 pub use field::Field;
