@@ -4,3 +4,4 @@ pub mod Refusals
 pub mod Changes
 pub mod Beginning
 pub mod Dropping
+pub mod Listing

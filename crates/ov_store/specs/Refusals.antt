@@ -2,7 +2,7 @@
 --     new_off n name      a dataset of this name: 11, 20, 22
 --     vids_off count before vids      versions of a dataset that has so many: per version from the left 12, 13
 --     refused name off      the refusal of a command, where the dataset has this name
-use Rattle.std.specs.Prelude.{ℕ, Bool, ◌||◌, ◌==◌, nat_le, nat_lt, if◌then◌else◌, List, [], ◌∷◌, length, Option, Some, None}
+use Rattle.std.specs.Prelude.{◌≡◌, ℕ, Bool, ◌||◌, ◌==◌, nat_le, nat_lt, if◌then◌else◌, List, [], ◌∷◌, length, Option, Some, None}
 use Rattle.std.specs.List.{list_any}
 use Rattle.std.specs.Option.{option_or}
 use Rattle.ov_model.specs.World.{is_one}
@@ -29,6 +29,11 @@ vids_off count before (vid ∷ vids) =
     if vid == 0 || nat_lt count vid then Some (why.NoVersion vid)
     else if is_one before vid then Some (why.RepeatedVersion vid)
     else vids_off count (vid ∷ before) vids
+
+-- want of memory is no refusal
+abbrev pub IsVidOff : ℕ → List ℕ → StoreErr → Type 0
+IsVidOff count vids why.Memory = Unit {0}
+IsVidOff count vids off = vids_off count [] vids ≡ Some off
 
 -- Faults and damage end a run and are no refusals.
 abbrev pub refusal_of : List ℕ → StoreErr → Option Refusal

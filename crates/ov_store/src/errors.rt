@@ -7,7 +7,7 @@ ghost use Rattle.ov_store.specs.Errors.{of_change, of_rows};
 use ov_core::ChangeErr;
 use ov_host::Area;
 use ov_rows::RowsErr;
-use std::alloc::AllocError;
+use std::alloc::{AllocError, AllocFailed};
 
 /// Why a store's call wasn't done. After each of these but `Host` the store is as it was.
 #[derive(Clone, Copy, Debug, PartialEq, Eq)]
@@ -50,6 +50,14 @@ impl From<AllocError> for StoreErr {
     ghost from_gives = { λ _ made. made ≡ why.Memory };
 
     fn from(_error: AllocError) -> StoreErr {
+        StoreErr::Memory
+    }
+}
+
+impl<T: Drop> From<AllocFailed<T>> for StoreErr {
+    ghost from_gives = { λ _ made. made ≡ why.Memory };
+
+    fn from(_failed: AllocFailed<T>) -> StoreErr {
         StoreErr::Memory
     }
 }

@@ -6,6 +6,7 @@
 
 mod errors;
 mod laws;
+mod listing;
 mod store;
 
 pub use errors::StoreErr;
