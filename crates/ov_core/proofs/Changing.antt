@@ -1,10 +1,9 @@
 -- A change whose runs are written to free pages, at any World that the store is at.
-use Rattle.std.proofs.Common.{◌≡◌, ◌⊎◌, inl, inr, ℕ, ◌+◌, ◌<◌, ◌≤◌, List, [], ◌∷◌, ◌++◌, length, None, refl, sym, ◌∙◌, ap, subst, arith}
+use Rattle.std.proofs.Common.{◌≡◌, ℕ, ◌+◌, ◌<◌, ◌≤◌, List, [], ◌∷◌, ◌++◌, None, sym, ◌∙◌, ap, subst}
 use Rattle.ov_host.specs.declared.area.Extent.{Extent}
 use Rattle.ov_host.specs.Host.{State}
 use Rattle.ov_host.specs.Stops.{Only}
 use Rattle.ov_event.specs.declared.event.Event as raw
-use Rattle.ov_event.specs.declared.event.Event.TheVariants as says
 use Rattle.ov_event.specs.Spelling.{IsEvent, spelling}
 use Rattle.ov_journal.specs.Held.{IsAt, kept_by}
 use Rattle.ov_journal.specs.Journal.{Kept, and_one}
@@ -12,14 +11,13 @@ use Rattle.ov_layout.specs.Changes.{extents_of}
 use Rattle.ov_step.specs.declared.run.Run.{Run}
 use Rattle.ov_step.specs.Pages.{range_of, with_run, AreOff}
 use Rattle.ov_step.specs.Steps.{IsAdded, IsFree, IsStored, ranges_of, with_runs}
-use Rattle.ov_model.specs.Moves.{Move, Drop, moved}
+use Rattle.ov_model.specs.Moves.{Move, moved}
 use Rattle.ov_model.specs.World.{World}
 use Rattle.ov_catalog.specs.Applying.{first_off}
 use Rattle.ov_catalog.specs.Events.{applied}
 use Rattle.ov_catalog.specs.Extents.{brought, covers, live}
 use Rattle.ov_catalog.specs.Numbers.{Numbers}
 use Rattle.ov_catalog.specs.Raw.{event_in, numbers_in}
-use Rattle.ov_catalog.specs.Reached.{Fits}
 use Rattle.ov_catalog.specs.Stands.{IsMove}
 use Rattle.ov_image.specs.Pages.{SameLive, pages_in, readings_of}
 use Rattle.ov_fitting.proofs.Asking.{applies_sound}

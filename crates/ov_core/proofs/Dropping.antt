@@ -1,18 +1,16 @@
 -- A drop, at any World that the store is at.
-use Rattle.std.proofs.Common.{◌≡◌, ◌⊎◌, ℕ, ◌+◌, ◌<◌, ◌≤◌, ◌^◌, List, [], ◌∷◌, ◌++◌, length, None, refl, sym, ◌∙◌, ap, subst, arith}
+use Rattle.std.proofs.Common.{◌≡◌, ℕ, ◌<◌, ◌≤◌, ◌^◌, List, [], ◌∷◌, ◌++◌, None, refl, sym, ◌∙◌, ap, subst, arith}
 use Rattle.ov_host.specs.declared.area.Extent.{Extent}
 use Rattle.ov_host.specs.Host.{State}
 use Rattle.ov_host.specs.Stops.{Only}
-use Rattle.ov_event.specs.declared.event.Event as raw
 use Rattle.ov_event.specs.declared.event.Event.TheVariants as says
 use Rattle.ov_event.specs.Spelling.{IsEvent, spelling}
 use Rattle.ov_journal.specs.Held.{IsAt, kept_by}
 use Rattle.ov_journal.specs.Journal.{Kept, and_one}
 use Rattle.ov_pages.specs.Sets.{Reserved}
 use Rattle.ov_pages.specs.Live.{AreReserved}
-use Rattle.ov_step.specs.Puts.{PagesAtRest}
 use Rattle.ov_step.specs.Steps.{IsAdded, IsFree, IsStored}
-use Rattle.ov_model.specs.Moves.{Move, Drop, moved}
+use Rattle.ov_model.specs.Moves.{Drop, moved}
 use Rattle.ov_model.specs.World.{World}
 use Rattle.ov_catalog.specs.Applying.{first_off}
 use Rattle.ov_catalog.specs.Events.{applied}
@@ -28,9 +26,9 @@ use Rattle.ov_core.specs.AtWorld.{IsAtWorld, IsAtNext, IsEither}
 use Rattle.ov_core.specs.Held.{Held, IsReplayed}
 use Rattle.ov_core.proofs.Keeping.{replayed_more, served}
 use Rattle.ov_core.proofs.Ranges.{ranges_for}
-use Rattle.ov_core.proofs.Reserving.{AreSame, nowhere, reserved_same}
+use Rattle.ov_core.proofs.Reserving.{AreSame, reserved_same}
 use Rattle.ov_core.proofs.Storing as storing
-use Rattle.ov_core.proofs.Weighing.{live_total, total, total-append}
+use Rattle.ov_core.proofs.Weighing.{live_total, total-append}
 
 -- what is given up, and what stays, is what was live
 drop_same : (cvd : ℕ) (n : Numbers Extent Extent) → IsReplayed n → first_off (says.Drop cvd) n ≡ None
@@ -58,8 +56,10 @@ drop_kept cvd n m after front middle freed items r replayed applies same is empt
     let now : after ≡ applied (event_in (says.Drop cvd)) n = is ∙ ap (applied (event_in (says.Drop cvd))) same
     in let gone : items ≡ given_up (event_in (says.Drop cvd)) n =
     all ∙ given ∙ ap (λ (xs : List Extent). xs ++ given_up (event_in (says.Drop cvd)) m) (kept ∙ empty) ∙ ap (given_up (event_in (says.Drop cvd))) same
-    in (drop_reserved cvd n after items r replayed applies now gone h,
-    subst IsReplayed (sym now) (replayed_more n (says.Drop cvd) replayed applies))
+    in (
+      drop_reserved cvd n after items r replayed applies now gone h,
+      subst IsReplayed (sym now) (replayed_more n (says.Drop cvd) replayed applies),
+    )
 
 -- the pages of what stays are there
 pub drop_there : (cvd : ℕ) (n m after : Numbers Extent Extent) (old new : List ℕ) → m ≡ n → after ≡ applied (event_in (says.Drop cvd)) m → new ≡ old

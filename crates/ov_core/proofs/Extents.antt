@@ -1,24 +1,20 @@
 -- An event whose extents are placed says the same otherwise: it applies, has a spelling, and as long a one.
-use Rattle.std.proofs.Common.{◌≡◌, ℕ, ◌+◌, ◌*◌, ◌%◌, ◌<◌, ◌≤◌, ◌^◌, Bool, true, false, ◌&&◌, ◌||◌, ◌==◌, List, [], ◌∷◌, ◌++◌, length, refl, sym, ◌∙◌, ap, subst, arith, length-append}
-use Rattle.std.specs.Prelude.{Option, Some, None, not, nat_le}
-use Rattle.std.specs.Option.{option_or}
-use Rattle.std.specs.Int.{w32, to_be_bytes}
-use Rattle.std.proofs.lemmas.Bool.{le-leb}
+use Rattle.std.proofs.Common.{◌≡◌, ℕ, ◌+◌, ◌*◌, ◌%◌, ◌<◌, ◌≤◌, ◌^◌, Bool, true, false, ◌&&◌, ◌==◌, List, [], ◌∷◌, ◌++◌, length, refl, sym, ◌∙◌, ap, subst, arith, length-append}
+use Rattle.std.specs.Prelude.{Option, Some, None, nat_le}
 use Rattle.std.proofs.lemmas.Bool.Decides.{nat_tests}
 use Rattle.ov_host.specs.declared.area.Extent.{Extent}
 use Rattle.ov_host.specs.Extent.{pages_of}
 use Rattle.ov_event.specs.declared.event.Event as raw
 use Rattle.ov_event.specs.declared.event.Event.TheVariants as says
-use Rattle.ov_event.specs.Fields.{fields, u8, u16, u32, text, extent, counted, IsExtent}
+use Rattle.ov_event.specs.Fields.{u8, u32, text, extent, IsExtent}
 use Rattle.ov_event.specs.Spelling.{spelling, schema, parents, place, IsEvent}
-use Rattle.ov_catalog.specs.declared.field.Field.TheVariants as off
 use Rattle.ov_catalog.specs.Numbers.{SetNumbers, Numbers}
-use Rattle.ov_catalog.specs.Applying.{first_off, init_off, commit_off, of_live, off_unless, set_numbered, is_extent, is_list, is_segment, is_same}
+use Rattle.ov_catalog.specs.Applying.{first_off, commit_off, of_live, set_numbered, is_extent, is_list, is_segment, is_same}
 use Rattle.ov_catalog.specs.Raw.{place_in}
 use Rattle.ov_fitting.proofs.Asking.{applies_sound}
 use Rattle.ov_core.specs.declared.brought.Brought.{Brought}
 use Rattle.ov_core.specs.Brought.{extent_at, with_extents, BringsRuns, IsUnplaced}
-use Rattle.ov_core.specs.Rooms.{ArePlaced, IsRun, PassesEnd, pages_for}
+use Rattle.ov_core.specs.Rooms.{ArePlaced, IsRun, PassesEnd}
 use Rattle.ov_journal.specs.Held as journals
 
 -- ---- as long a spelling

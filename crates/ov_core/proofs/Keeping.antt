@@ -1,6 +1,6 @@
 -- What a store keeps after a change: the pages of its live extents, and numbers of events each of which applied.
-use Rattle.std.proofs.Common.{◌≡◌, ◌⊎◌, inl, inr, ℕ, ◌+◌, ◌<◌, ◌≤◌, ◌^◌, Bool, true, false, ◌==◌, List, [], ◌∷◌, ◌++◌, length, None, refl, sym, ◌∙◌, ap, subst, arith}
-use Rattle.std.specs.Prelude.{Result, Ok, Err, IfErr, if◌then◌else◌}
+use Rattle.std.proofs.Common.{◌≡◌, ℕ, ◌+◌, ◌<◌, ◌≤◌, Bool, true, false, ◌==◌, List, [], ◌∷◌, ◌++◌, length, None, refl, sym, ◌∙◌, ap, subst, arith}
+use Rattle.std.specs.Prelude.{Result, IfErr, if◌then◌else◌}
 use Rattle.std.proofs.lemmas.Bool.Decides.{Decides-eqb}
 use Rattle.std.proofs.lemmas.Result.{IfErr-weaker}
 use Rattle.ov_host.specs.declared.area.Extent.{Extent}
@@ -10,27 +10,26 @@ use Rattle.ov_event.specs.declared.event.Event.TheVariants as says
 use Rattle.ov_event.specs.Fitting.{Fits}
 use Rattle.ov_event.specs.Spelling.{IsEvent}
 use Rattle.ov_event.proofs.Events.{fits_of}
-use Rattle.ov_journal.specs.Held as journals
 use Rattle.ov_layout.specs.Changes.{extents_of}
 use Rattle.ov_pages.specs.Sets.{Reserved}
 use Rattle.ov_pages.specs.Live.{AreReserved}
-use Rattle.ov_catalog.specs.Applying.{first_off, set_numbered}
+use Rattle.ov_catalog.specs.Applying.{first_off}
 use Rattle.ov_catalog.specs.Events.{applied}
 use Rattle.ov_catalog.specs.Extents.{brought, covers, given_up, has_page, live}
 use Rattle.ov_catalog.specs.Numbers.{Numbers}
-use Rattle.ov_catalog.specs.Raw.{event_in, numbers_in}
+use Rattle.ov_catalog.specs.Raw.{event_in}
 use Rattle.ov_image.specs.Pages.{pages_in}
 use Rattle.ov_core.specs.declared.brought.Brought.{Brought}
 use Rattle.ov_core.specs.declared.errors.ChangeErr.{ChangeErr}
 use Rattle.ov_core.specs.declared.errors.ChangeErr.TheVariants as errors
 use Rattle.ov_core.specs.Brought.{extent_at, with_extents, BringsRuns, IsUnplaced}
 use Rattle.ov_core.specs.Held.{Held, IsReplayed}
-use Rattle.ov_core.specs.Rooms.{ArePlaced, IsMade, IsWhy, IsWhyKept, IsWhyNoRuns, IsWhyNotReady, IsWhyNotWritten, PassesEnd}
+use Rattle.ov_core.specs.Rooms.{ArePlaced, IsWhy, IsWhyNoRuns, IsWhyNotWritten, PassesEnd}
 use Rattle.ov_core.proofs.Extents.{applies_placed, event_placed, list_small, passes_placed, passes_same, run_extent, segment_small}
 use Rattle.ov_core.proofs.Ranges.{brought_placed, list_inside, live_inside, segment_inside, written}
 use Rattle.ov_core.proofs.Reserving.{AreSame, extent_none, nowhere, reserved_same, same_covers}
 use Rattle.ov_core.proofs.Serving.{all_apply, all_served, numbers_more, AllServed}
-use Rattle.ov_core.proofs.Weighing.{live_total, total, total-append}
+use Rattle.ov_core.proofs.Weighing.{live_total, total}
 
 pub placed_by : (live : List Extent) (list segment : List ℕ) (b : Brought) (l s : Extent) → list ≡ b.list.items → segment ≡ b.segment.items
     → ArePlaced live list segment l s → ArePlaced live b.list.items b.segment.items l s

@@ -1,5 +1,5 @@
 -- Why the runs of a change aren't reserved.
-use Rattle.std.proofs.Common.{◌≡◌, inr, ℕ, List, ◌∷◌}
+use Rattle.std.proofs.Common.{inr, ℕ, List, ◌∷◌}
 use Rattle.ov_host.specs.declared.area.Extent.{Extent}
 use Rattle.ov_core.specs.declared.errors.ChangeErr.{ChangeErr}
 use Rattle.ov_core.specs.declared.errors.ChangeErr.TheVariants as errors

@@ -1,7 +1,7 @@
 -- The pages of extents as ranges of places, and where the runs of a change lie.
-use Rattle.std.proofs.Common.{◌≡◌, ◌⊎◌, inl, inr, ℕ, ◌+◌, ◌-◌, ◌*◌, ◌/◌, ◌<◌, ◌≤◌, ◌^◌, Bool, true, false, ◌&&◌, ◌==◌, List, [], ◌∷◌, ◌++◌, length, take, drop, map, refl, sym, ◌∙◌, ap, subst, arith}
-use Rattle.std.specs.Prelude.{Option, Some, None, nat_le, nat_lt, if◌then◌else◌}
-use Rattle.std.proofs.lemmas.Bool.{cases_Bool, cases_lt, leb-true, ltb-true}
+use Rattle.std.proofs.Common.{◌≡◌, inl, inr, ℕ, ◌+◌, ◌*◌, ◌/◌, ◌<◌, ◌≤◌, Bool, true, false, ◌&&◌, ◌==◌, List, [], ◌∷◌, length, take, drop, map, refl, sym, ◌∙◌, ap, arith}
+use Rattle.std.specs.Prelude.{Option, None, nat_le, nat_lt, if◌then◌else◌}
+use Rattle.std.proofs.lemmas.Bool.{leb-true, ltb-true}
 use Rattle.std.proofs.lemmas.Bool.Decides.{nat_tests, Decides-eqb}
 use Rattle.ov_host.specs.declared.area.Extent.{Extent}
 use Rattle.ov_host.specs.Extent.{pages_of}
@@ -12,7 +12,7 @@ use Rattle.ov_layout.specs.Changes.{extents_of}
 use Rattle.ov_step.specs.Pages.{whole_pages, range_of, with_run, AreOff, AreThere, SameOn}
 use Rattle.ov_step.proofs.Overwriting.{run_is_read, run_there, run_longer, first_read, both_same}
 use Rattle.ov_catalog.specs.Extents.{brought, covers, has_page}
-use Rattle.ov_catalog.specs.Events.{Event, Init, Commit}
+use Rattle.ov_catalog.specs.Events.{Init, Commit}
 use Rattle.ov_catalog.specs.Raw.{event_in, place_in, shape_in}
 use Rattle.ov_catalog.specs.Stands.{seen_event}
 use Rattle.ov_image.specs.Lists.{list_in}
@@ -20,7 +20,7 @@ use Rattle.ov_image.specs.Pages.{SameLive, pages_in, extent_bytes, read_whole, r
 use Rattle.ov_image.specs.Segments.{segment_in}
 use Rattle.ov_image.proofs.Standing.{same_pages}
 use Rattle.ov_core.specs.Brought.{content, segments_in, with_extents, BringsRuns}
-use Rattle.ov_core.specs.Rooms.{ArePlaced, IsRun, pages_for}
+use Rattle.ov_core.specs.Rooms.{ArePlaced, IsRun}
 
 abbrev pub ranges_for : List Extent → List (ℕ × ℕ)
 ranges_for [] = []

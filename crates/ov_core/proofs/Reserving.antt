@@ -1,12 +1,12 @@
 -- Reserved pages are those of extents, however these are listed.
-use Rattle.std.proofs.Common.{◌≡◌, ◌⊎◌, inl, inr, ℕ, zero, suc, ◌+◌, ◌-◌, ◌<◌, ◌≤◌, ◌^◌, ◌/◌, Bool, true, false, ◌&&◌, ◌==◌, ltb, List, [], ◌∷◌, ◌++◌, length, drop, get_or, drop-cons, add-one, refl, sym, ◌∙◌, ap, subst, arith}
-use Rattle.std.specs.Prelude.{Option, Some, None, not, nat_le, nat_lt, if◌then◌else◌, cond, option_map, remove}
-use Rattle.std.specs.List.{find, sum_by}
-use Rattle.std.proofs.lemmas.Bool.{cases_Bool, cases_lt, ltb-true, leb-true, lt-ltb, le-ltb, le-leb, ltb-false}
+use Rattle.std.proofs.Common.{◌≡◌, inl, inr, ℕ, zero, suc, ◌+◌, ◌-◌, ◌<◌, ◌≤◌, ◌^◌, Bool, true, false, ◌&&◌, ◌==◌, List, [], ◌∷◌, ◌++◌, length, drop, get_or, drop-cons, add-one, refl, sym, ◌∙◌, ap, subst, arith}
+use Rattle.std.specs.Prelude.{Some, None, nat_le, nat_lt, if◌then◌else◌, cond, option_map}
+use Rattle.std.specs.List.{find}
+use Rattle.std.proofs.lemmas.Bool.{cases_lt, le-ltb, ltb-false}
 use Rattle.ov_host.specs.declared.area.Extent.{Extent}
 use Rattle.ov_host.specs.Extent.{pages_of}
 use Rattle.ov_pages.specs.Sets.{Reserved, holds, is_in_run, one_if, IsFreeRun, IsLowestRun, IsRefused, IsReservedRun, IsWithRun, IsWithoutRun}
-use Rattle.ov_pages.specs.Live.{is_too_high, too_high_page, times_covered, count_covering, AreReserved}
+use Rattle.ov_pages.specs.Live.{is_too_high, too_high_page, times_covered, AreReserved}
 use Rattle.ov_pages.proofs.LiveLemmas.{live_reserved, live_room, live_more, live_fewer}
 use Rattle.ov_catalog.specs.Extents.{covers, has_page}
 use Rattle.ov_core.specs.Brought.{extent_at}

@@ -1,5 +1,5 @@
 -- Each version of numbers that events lead to is in a partition, and so is the place of a commit that applies.
-use Rattle.std.proofs.Common.{◌≡◌, ◌⊎◌, inl, inr, ℕ, ◌+◌, ◌<◌, ◌≤◌, ◌^◌, Bool, true, false, ◌&&◌, ◌||◌, ◌==◌, List, [], ◌∷◌, ◌++◌, length, map, refl, sym, ◌∙◌, ap, subst, arith, length-append}
+use Rattle.std.proofs.Common.{◌≡◌, ◌⊎◌, inl, inr, ℕ, ◌+◌, ◌≤◌, ◌^◌, Bool, true, false, ◌&&◌, ◌||◌, ◌==◌, List, [], ◌∷◌, ◌++◌, length, map, refl, sym, subst, arith, length-append}
 use Rattle.std.specs.Prelude.{Option, Some, None, not, nat_le, if◌then◌else◌, filter, find, cond}
 use Rattle.std.specs.List.{list_any, list_all}
 use Rattle.std.specs.Option.{option_or}
@@ -16,8 +16,8 @@ use Rattle.ov_layout.specs.Changes.{extents_of}
 use Rattle.ov_catalog.specs.declared.field.Field.{Field}
 use Rattle.ov_catalog.specs.declared.field.Field.TheVariants as off
 use Rattle.ov_catalog.specs.Numbers.{VersionNumbers, PartNumbers, SetNumbers, Numbers, nothing_yet}
-use Rattle.ov_catalog.specs.Events.{own_part, with_joined, join_at, parts_with, version_of, new_set, with_version, numbered, change, applied, replayed}
-use Rattle.ov_catalog.specs.Applying.{AllApply, first_off, off_unless, init_off, commit_off, of_live, are_distinct, are_parents, is_count, is_list, is_parent, is_segment, facts_of, is_place, part_serving, rows_at, id_in, set_numbered}
+use Rattle.ov_catalog.specs.Events.{own_part, with_joined, join_at, parts_with, version_of, with_version, numbered, change, applied, replayed}
+use Rattle.ov_catalog.specs.Applying.{AllApply, first_off, off_unless, commit_off, of_live, are_distinct, are_parents, is_count, is_list, is_parent, is_segment, facts_of, is_place, part_serving, rows_at, id_in, set_numbered}
 use Rattle.ov_catalog.specs.Raw.{event_in, place_in, numbers_in}
 use Rattle.ov_catalog.proofs.CommitLemmas.{heaviest-passes}
 

@@ -1,33 +1,27 @@
 -- A record over pages in which the live extents stay stands for the World before a move or for the one after it.
-use Rattle.std.proofs.Common.{◌≡◌, ◌⊎◌, inl, inr, ℕ, ◌+◌, ◌<◌, ◌≤◌, Bool, List, [], ◌∷◌, ◌++◌, length, map, None, refl, sym, ◌∙◌, ap, subst, arith, length-append}
+use Rattle.std.proofs.Common.{◌≡◌, ◌⊎◌, inl, inr, ℕ, List, [], ◌∷◌, ◌++◌, length, refl, sym, ◌∙◌, ap, subst, arith, length-append}
 use Rattle.ov_host.specs.declared.area.Extent.{Extent}
-use Rattle.ov_host.specs.Disk.{Disk, Image, Stored, Leaves, MayLeave, as_read, settled, settled_leaves_itself}
+use Rattle.ov_host.specs.Disk.{Image, Stored, Leaves, MayLeave, as_read, settled, settled_leaves_itself}
 use Rattle.ov_host.specs.Host.{State}
 use Rattle.ov_host.specs.Stops.{Only}
 use Rattle.ov_host.proofs.Stops.{only_start, only_wider}
 use Rattle.ov_host.proofs.Writes.{settled_leaves}
 use Rattle.ov_event.specs.declared.event.Event as raw
 use Rattle.ov_event.specs.Spelling.{IsEvent, spelling}
-use Rattle.ov_journal.specs.Held.{IsAt, kept_by}
+use Rattle.ov_journal.specs.Held.{kept_by}
 use Rattle.ov_journal.specs.Journal.{Kept, IsJournal, Holds, and_one}
 use Rattle.ov_journal.proofs.Unique.{one_thing}
 use Rattle.ov_step.specs.Pages.{AreOff, SameOn}
-use Rattle.ov_step.specs.Puts.{PagesAtRest}
 use Rattle.ov_step.specs.Steps.{IsAdded, IsFree, IsStored}
 use Rattle.ov_model.specs.Moves.{Move, moved}
 use Rattle.ov_model.specs.World.{World}
-use Rattle.ov_catalog.specs.Applying.{first_off}
 use Rattle.ov_catalog.specs.Events.{applied}
-use Rattle.ov_catalog.specs.Extents.{brought, covers, live}
-use Rattle.ov_catalog.specs.Numbers.{Numbers}
+use Rattle.ov_catalog.specs.Extents.{live}
 use Rattle.ov_catalog.specs.Raw.{event_in, numbers_in}
-use Rattle.ov_catalog.specs.Reached.{Fits}
-use Rattle.ov_catalog.specs.Stands.{IsMove, StandsFor, seen_event, asked_event}
-use Rattle.ov_image.specs.Images.{StandsBy, StandsAs, SaysSame}
+use Rattle.ov_catalog.specs.Stands.{IsMove, StandsFor}
+use Rattle.ov_image.specs.Images.{StandsBy, StandsAs}
 use Rattle.ov_image.specs.Pages.{SameLive, readings_of}
 use Rattle.ov_image.proofs.Standing.{same_world, other_pages, one_more}
-use Rattle.ov_fitting.proofs.Asking.{applies_sound}
-use Rattle.ov_fitting.proofs.Committing.{is_move}
 use Rattle.ov_core.specs.AtWorld.{IsAtWorld, IsAtNext, IsEither}
 use Rattle.ov_core.specs.Held.{Held}
 use Rattle.ov_core.proofs.Ranges.{ranges_for, are_there, same_live}

@@ -1,6 +1,6 @@
 -- Extents counted by any weight: what an event that applies brings and gives up, no more and no less.
-use Rattle.std.proofs.Common.{◌≡◌, ◌⊎◌, inl, inr, ℕ, ◌+◌, Bool, true, false, ◌==◌, List, [], ◌∷◌, ◌++◌, length, map, refl, sym, ◌∙◌, ap, subst, arith}
-use Rattle.std.specs.Prelude.{Option, Some, None, not, if◌then◌else◌, filter, find, cond}
+use Rattle.std.proofs.Common.{◌≡◌, ◌⊎◌, inl, inr, ℕ, ◌+◌, Bool, true, false, ◌==◌, List, [], ◌∷◌, ◌++◌, length, map, refl, ap, subst, arith}
+use Rattle.std.specs.Prelude.{Some, None, not, if◌then◌else◌, filter, find, cond}
 use Rattle.std.specs.List.{flat_map, sum_by}
 use Rattle.std.proofs.lemmas.List.{map-append}
 use Rattle.std.proofs.lemmas.List.Sums.{sum_by-cons}
@@ -11,9 +11,9 @@ use Rattle.ov_event.specs.declared.event.Event.TheVariants as says
 use Rattle.ov_place.specs.declared.place_facts.Place.{Place}
 use Rattle.ov_place.specs.declared.place_facts.Place.TheVariants.{Own, Join}
 use Rattle.ov_layout.specs.Changes.{extents_of}
-use Rattle.ov_catalog.specs.Numbers.{VersionNumbers, PartNumbers, SetNumbers, Numbers}
+use Rattle.ov_catalog.specs.Numbers.{VersionNumbers, PartNumbers, Numbers}
 use Rattle.ov_catalog.specs.Events.{own_part, with_joined, join_at, parts_with, version_of, new_set, with_version, numbered, change, applied}
-use Rattle.ov_catalog.specs.Extents.{of_plan, of_set, live, brought, given_up, covers}
+use Rattle.ov_catalog.specs.Extents.{of_plan, of_set, live, brought, given_up}
 use Rattle.ov_catalog.specs.Applying.{first_off, commit_off, set_numbered}
 use Rattle.ov_catalog.specs.Raw.{event_in, place_in, shape_in}
 use Rattle.ov_core.proofs.Serving.{Set, IsNumbered, IsThere, AllServed, found_served, live_found, place_there}

@@ -11,7 +11,6 @@ use Rattle.ov_event.specs.declared.event.Event as raw
 use Rattle.ov_event.specs.declared.event.Event.TheVariants as says
 use Rattle.ov_journal.specs.Held as journals
 use Rattle.ov_catalog.specs.Extents.{covers, live}
-use Rattle.ov_catalog.specs.Numbers.{Numbers}
 use Rattle.ov_catalog.specs.Events.{applied}
 use Rattle.ov_catalog.specs.Raw.{event_in}
 use Rattle.ov_core.specs.declared.brought.Brought.{Brought}

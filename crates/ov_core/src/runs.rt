@@ -47,11 +47,7 @@ fn free_run(pages: &mut Pages, extent: Extent)
 
 /// Reserves the runs of both: the list's first, and then the segment's, which is off it. Where one finds none, no page is
 /// reserved.
-pub fn reserve_runs(
-    pages: &mut Pages,
-    list: &[u8],
-    segment: &[u8],
-) -> Result<Placing, ChangeErr>
+pub fn reserve_runs(pages: &mut Pages, list: &[u8], segment: &[u8]) -> Result<Placing, ChangeErr>
     requires list { length list.now < 2 ^ 32 }
     requires segment { length segment.now < 2 ^ 32 }
     requires live { (live : List ExtentValue) × AreReserved live pages.old }

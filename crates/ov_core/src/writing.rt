@@ -34,7 +34,10 @@ pub fn placed(event: Event, at: Placing) -> Event
     let Placing { list, segment } = at;
     match event {
         Event::Init {
-            name, schema, rows, ..
+            name,
+            schema,
+            rows,
+            ..
         } => Event::Init {
             name,
             schema,

@@ -1,4 +1,4 @@
-use Rattle.ov_core.proofs.Reserving.{free_run, free_room, reserved_fewer}
+use Rattle.ov_core.proofs.Reserving.{reserved_fewer}
 use Rattle.ov_core.proofs.runs.free_run.Goals as goal
 
 pub returns : goal.returns

@@ -1,6 +1,5 @@
-use Rattle.std.proofs.Common.{◌≡◌, ◌<◌, ◌≤◌, ℕ, List, length, None, rules, sym, ◌∙◌, ap, subst, refl, arith}
+use Rattle.std.proofs.Common.{◌≡◌, None, rules, ◌∙◌, ap, refl}
 use Rattle.std.specs.Prelude.{IfErr}
-use Rattle.ov_host.specs.declared.area.Extent.{Extent}
 use Rattle.ov_host.specs.Disk.{Stored}
 use Rattle.ov_step.specs.declared.run.Run.{Run}
 use Rattle.ov_catalog.specs.Applying.{first_off}
