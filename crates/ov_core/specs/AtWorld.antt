@@ -1,5 +1,6 @@
 -- A store at a World on a host.
 --     IsAtWorld w held s      the host tells its bytes, nothing is pending, and they stand for the World by what the store keeps
+--     IsAtNext w held old new      it is at the World after a call that printed nothing
 --     IsEither w v printed c      an image stands for one of two Worlds
 use Rattle.std.specs.Prelude.{◌≡◌, ◌⊎◌, ℕ, List}
 use Rattle.ov_host.specs.Disk.{Image, as_read}
@@ -19,6 +20,10 @@ pub record IsAtWorld (w : World) (held : Held) (s : State) : Type 0 where
   pub rest : PagesAtRest s
   pub stands : StandsBy (kept_by held.journal payloads) events w (as_read s.tape.disk)
   pub numbers_are : held.numbers ≡ numbers_in events
+
+pub record IsAtNext (w : World) (held : Held) (old new : State) : Type 0 where
+  pub at : IsAtWorld w held new
+  pub printed_same : new.tape.disk.printed ≡ old.tape.disk.printed
 
 -- one World or the other, with this output
 pub record IsEither (w v : World) (printed : List ℕ) (c : Image) : Type 0 where

@@ -1,5 +1,8 @@
 // Why a change isn't made.
 
+use ov_journal::AppendErr;
+use std::alloc::AllocError;
+
 /// Why a change wasn't made. After any of these but `Host` all is as it was.
 #[derive(Clone, Copy, Debug, PartialEq, Eq)]
 pub enum ChangeErr {
@@ -13,13 +16,27 @@ pub enum ChangeErr {
     JournalFull,
 }
 
-impl From<std::alloc::AllocError> for ChangeErr {
+impl From<AllocError> for ChangeErr {
     ghost use Rattle.std.specs.Prelude.{◌≡◌};
     ghost use Rattle.ov_core.specs.declared.errors.ChangeErr.TheVariants as why;
 
     ghost from_gives = { λ _ made. made ≡ why.Memory };
 
-    fn from(_error: std::alloc::AllocError) -> ChangeErr {
+    fn from(_error: AllocError) -> ChangeErr {
         ChangeErr::Memory
+    }
+}
+
+impl From<AppendErr> for ChangeErr {
+    ghost use Rattle.std.specs.Prelude.{◌≡◌};
+    ghost use Rattle.ov_core.specs.Errors.{change_for};
+
+    ghost from_gives = { λ error made. made ≡ change_for error };
+
+    fn from(error: AppendErr) -> ChangeErr {
+        match error {
+            AppendErr::JournalFull => ChangeErr::JournalFull,
+            AppendErr::Host => ChangeErr::Host,
+        }
     }
 }

@@ -5,8 +5,11 @@
 #![tactic(auto)]
 
 mod brought;
+mod change;
 mod errors;
 mod parts;
+mod runs;
+mod writing;
 
 pub use brought::Brought;
 pub use errors::ChangeErr;

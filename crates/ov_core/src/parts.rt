@@ -3,6 +3,7 @@
 ghost use Rattle.std.specs.Prelude.{◌≡◌};
 ghost use Rattle.ov_catalog.specs.Extents.{live};
 ghost use Rattle.ov_pages.specs.Live.{AreReserved};
+ghost use Rattle.ov_core.specs.Held.{IsReplayed};
 
 use ov_catalog::Catalog;
 use ov_journal::Journal;
@@ -25,16 +26,19 @@ impl Model for Core {
 
     ghost use Rattle.ov_catalog.specs.Extents.{live};
     ghost use Rattle.ov_pages.specs.Live.{AreReserved};
+    ghost use Rattle.ov_core.specs.Held.{IsReplayed};
 
     ghost view = { λ c. record { journal = c.journal; numbers = c.catalog.numbers } };
 
-    ghost invariant = { λ c. AreReserved (live c.catalog.numbers) c.pages };
+    ghost invariant = { λ c. AreReserved (live c.catalog.numbers) c.pages × IsReplayed c.catalog.numbers };
 }
 
 impl Core {
-    /// The core of this journal and this catalog, where these pages are those of the live extents.
+    /// The core of this journal and this catalog, where the catalog is that of events each of which applied, and these pages
+    /// are those of the live extents.
     pub fn of(journal: Journal, catalog: Catalog, pages: Pages) -> Core
-        requires { AreReserved (live catalog.numbers) pages }
+        requires reserved { AreReserved (live catalog.numbers) pages }
+        requires replayed { IsReplayed catalog.numbers }
         ensures { result ≡ record { journal = journal; numbers = catalog.numbers } }
     {
         Core {
@@ -49,6 +53,13 @@ impl Core {
         ensures { result.now ≡ self.now.journal }
     {
         &self.journal
+    }
+
+    /// The catalog is always that of events each of which applied.
+    pub fn is_replayed(&self)
+        ensures { IsReplayed self.now.numbers }
+    {
+        let _ = &self.catalog;
     }
 
     /// The catalog of all events.
