@@ -1,5 +1,5 @@
 -- The order by key and number: sorted rows of a file rise by it.
-use Rattle.std.proofs.Common.{◌≡◌, ◌<◌, ◌⊎◌, ℕ, suc, ◌+◌, true, false, List, [], ◌∷◌, get_or, refl, sym, ◌∙◌, ap, subst, arith, inl, inr}
+use Rattle.std.proofs.Common.{◌≡◌, Some, None, ◌<◌, ◌⊎◌, ℕ, suc, ◌+◌, true, false, List, [], ◌∷◌, get_or, refl, sym, ◌∙◌, ap, subst, arith, inl, inr}
 use Rattle.std.specs.List.{AllByRecursion, IsDistinct}
 use Rattle.std.specs.List.Sorted.{IsPermutation, IsSorted}
 use Rattle.std.specs.Cmp.{IsTotalOrder}
@@ -18,6 +18,21 @@ use Rattle.ov_model.specs.Lists.{Rises}
 use Rattle.ov_rows.specs.declared.file_rows.FileRow.{FileRow}
 use Rattle.ov_rows.specs.FileRows.{numbered, file_row_cmp}
 use Rattle.ov_rows.proofs.Members.{below_all}
+
+pub clash : false ≡ true → ⊥
+clash e = cc
+
+pub no_number : (n : ℕ) → Some n ≡ None → ⊥
+no_number n e = cc
+
+pub equal_is : (o : Ordering) → o ≡ Equal → is_eq o ≡ true
+equal_is o e = ap is_eq e
+
+pub not_less : (o : Ordering) → o ≡ Less → o ≡ Equal → ⊥
+not_less o e f = wrong (sym e ∙ f)
+  where
+    wrong : Less ≡ Equal → ⊥
+    wrong w = cc
 
 pub is_equal : (o : Ordering) → is_eq o ≡ true → o ≡ Equal
 is_equal Less e = cc

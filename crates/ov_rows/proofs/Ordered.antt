@@ -19,7 +19,8 @@ use Rattle.ov_rows.specs.FileRows.{numbered, file_row_cmp, least_repeat}
 use Rattle.ov_rows.proofs.Comparing.{is_less, parts}
 use Rattle.ov_rows.proofs.Members.{carried, in_end, in_more, in_either, rising_same}
 use Rattle.ov_rows.proofs.Numbering.{row_of, rows_of_numbered}
-use Rattle.ov_rows.proofs.Repeating.{AllRepeats, Stands, begins, passes, line, has_repeat, no_repeats}
+use Rattle.ov_rows.proofs.Neighbours.{AllRepeats, no_repeats}
+use Rattle.ov_rows.proofs.Repeating.{Stands, begins, passes, line, has_repeat}
 
 -- the rows of a file, in the order in which they stand beside their numbers
 pub rows_moved : (rows : List Row) (lines : List FileRow) → IsPermutation (numbered 1 rows) lines → IsPermutation rows (map row_of lines)

@@ -113,6 +113,19 @@ fn small_files_are_ordered_or_refused(rt: HostRuntime) -> Result<(), Fail> {
     Ok(())
 }
 
+// Where a row has no value at a key column, it is read as having NULL there.
+#[test]
+fn rows_without_values_have_one_key(rt: HostRuntime) -> Result<(), Fail> {
+    let alloc = rt.alloc();
+    let schema = schema(alloc, &["a", "b"], &["b", "a"])?;
+    let mut rows = Vec::new(alloc);
+    rows.push(Row::new(Vec::new(alloc)))?;
+    rows.push(Row::new(Vec::new(alloc)))?;
+    let got = version_rows(alloc, &schema, 1, true, rows);
+    assert!(rt; matches!(got, Err(RowsErr::DuplicateKey { row: 2 })));
+    Ok(())
+}
+
 // Rows of one column, whose keys differ and stand in no order, and behind them one with the first one's key.
 fn large_file(alloc: Global, count: u32) -> Result<Vec<Row>, AllocError> {
     let mut rows = Vec::with_capacity(alloc, count as usize + 1)?;

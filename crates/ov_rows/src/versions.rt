@@ -21,13 +21,13 @@ const MOST_ROWS: usize = 1_000_000;
 
 /// The rows in key order, for a store of this format; `adds` tells whether columns are added with them.
 ///
-/// No row is copied. The time is that of n log n comparisons of keys for n rows, and memory for n rows with their
-/// numbers is asked for.
+/// No row is copied. The time is that of n log n comparisons of keys for n rows. Memory is asked for n rows with their
+/// numbers, for the sort, and for n rows.
 ///
 /// # Errors
 ///
-/// `TooManyRows`, `DuplicateKey` and `FormatOne`, in this order and each exactly where it holds. `Memory` where memory is
-/// wanting, and never where there are too many rows.
+/// The first that holds of `TooManyRows`, `DuplicateKey` and `FormatOne`. `Memory` where memory is wanting, which it never is
+/// where there are too many rows.
 pub fn version_rows(
     alloc: Global,
     schema: &Schema,

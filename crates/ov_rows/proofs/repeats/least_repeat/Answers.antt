@@ -5,7 +5,7 @@ use Rattle.std.proofs.lemmas.List.{get_or_read}
 use Rattle.ov_value.specs.Rows.{key_cmp}
 use Rattle.ov_rows.specs.declared.file_rows.FileRow.{FileRow}
 use Rattle.ov_rows.specs.FileRows.{lesser, least_repeat}
-use Rattle.ov_rows.proofs.Repeating.{no_more, one_more, eq_tests}
+use Rattle.ov_rows.proofs.Passing.{no_more, one_more, eq_tests}
 use Rattle.ov_rows.proofs.repeats.least_repeat.Goals.{then-eq, else-eq}
 use Rattle.ov_rows.proofs.repeats.least_repeat.Goals as goal
 
