@@ -1,7 +1,6 @@
 -- Rows beside their numbers: one more at the end, and the rows alone.
-use Rattle.std.proofs.Common.{◌≡◌, ℕ, suc, ◌+◌, List, [], ◌∷◌, ◌++◌, length, map, reverse, refl, sym, ◌∙◌, ap, subst, arith, append_assoc}
+use Rattle.std.proofs.Common.{◌≡◌, ℕ, suc, ◌+◌, List, [], ◌∷◌, ◌++◌, length, map, refl, sym, ◌∙◌, ap, subst, arith}
 use Rattle.std.specs.List.Sorted.{IsPermutation}
-use Rattle.std.proofs.lemmas.List.{map-append, reverse-append}
 use Rattle.std.proofs.lemmas.List.Sorted.{IsPermutation-to_front, IsPermutation-pop_more}
 use Rattle.ov_model.specs.Book.{Row}
 use Rattle.ov_rows.specs.declared.file_rows.FileRow.{FileRow}
@@ -35,11 +34,3 @@ one_numbered all made left rest row n is count so_far =
     let whole : numbered 1 left ≡ numbered 1 rest ++ line ∷ [] = ap (numbered 1) is ∙ numbered_more 1 rest row ∙ ap line_at (sym same) in
     IsPermutation-pop_more all made (numbered 1 left) (numbered 1 rest) line so_far
     (subst (λ l. IsPermutation l (line ∷ numbered 1 rest)) (sym whole) (IsPermutation-to_front (numbered 1 rest) line))
-
--- a step of the loop that takes the rows from the last one on
-pub one_taken : (all made : List Row) (left rest : List FileRow) (last : FileRow) → left ≡ rest ++ last ∷ []
-    → made ++ reverse (map row_of left) ≡ all → (made ++ last.row ∷ []) ++ reverse (map row_of rest) ≡ all
-one_taken all made left rest last is so_far =
-    append_assoc made (last.row ∷ []) (reverse (map row_of rest))
-    ∙ ap (λ l. made ++ l) (sym (ap (λ l. reverse (map row_of l)) is ∙ ap reverse (map-append row_of rest (last ∷ [])) ∙ reverse-append (map row_of rest) (last.row ∷ [])))
-    ∙ so_far
