@@ -1,13 +1,13 @@
 //! Parents whose records don't agree.
 
-ghost use Rattle.std.specs.Prelude.{◌≡◌, false, List, [], ℕ, None, IfOk};
+ghost use Rattle.std.specs.Prelude.{◌≡◌, ◌++◌, true, false, List, [], ℕ, None, IfOk};
 ghost use Rattle.std.specs.List.{All};
 ghost use Rattle.ov_model.specs.Assigned.{stored_parents};
 ghost use Rattle.ov_model.specs.Book.{Row as ModelRow, Version};
 ghost use Rattle.ov_model.specs.Records.{recs, order_of};
 ghost use Rattle.ov_records.specs.Records.{pairs_of, lists_of};
-ghost use Rattle.ov_agree.specs.Differing.{HasNoRidTwice, IsFirstDisagreeing};
-ghost use Rattle.ov_agree.specs.Seeing.{Saw, clashes, over};
+ghost use Rattle.ov_agree.specs.Differing.{HasNoRidTwice, Clash, IsFirstDisagreeing};
+ghost use Rattle.ov_agree.specs.Seeing.{Maps};
 
 use ov_segment::{Record, Records};
 use ov_value::Row;
@@ -36,13 +36,16 @@ pub fn first_disagreeing(
     Ok(None)
 }
 
-// Whether one of the records has a rid that was seen with another row. Those before it, and itself, are seen now.
+// Whether one of the records has a rid that was seen with another row. If not, all of them are seen now.
 fn see<'a>(
     seen: &mut BTreeMap<u32, &'a Row>,
     records: &'a [Record],
 ) -> Result<bool, AllocError>
-    ensures { IfOk result (λ other. (pairs : List (ℕ × ModelRow)) → Saw (λ r. r.now) seen.old pairs
-        → (other ≡ clashes pairs (pairs_of records.now)) × (other ≡ false → Saw (λ r. r.now) seen.new (over pairs (pairs_of records.now)))) }
+    requires once { HasNoRidTwice records.now }
+    ensures clash { IfOk result (λ other. (before : List (ℕ × ModelRow)) → Maps (λ r. r.now) seen.old before
+        → other ≡ true → Clash before (pairs_of records.now)) }
+    ensures seen { IfOk result (λ other. (before : List (ℕ × ModelRow)) → Maps (λ r. r.now) seen.old before
+        → other ≡ false → Maps (λ r. r.now) seen.new (before ++ pairs_of records.now)) }
 {
     for record in records {
         if let Some(row) = seen.insert(record.rid, &record.row)? {

@@ -1,57 +1,46 @@
-use Rattle.std.proofs.Common.{◌≡◌, false, true, ℕ, List, ◌∷◌, Bool, Bor, sym, refl, ◌∙◌, ap, [], drop, arith}
-use Rattle.std.specs.Prelude.{Some}
+use Rattle.std.proofs.Common.{◌≡◌, ◌++◌, true, false, Bool, refl, sym, ◌∙◌, ap, subst, take}
+use Rattle.std.specs.Prelude.{Some, not}
 use Rattle.std.specs.Option.{option_map}
-use Rattle.std.proofs.lemmas.List.{drop_all}
+use Rattle.std.proofs.lemmas.Option.{same_Some, none-some}
 use Rattle.ov_model.specs.Book.{Row}
+use Rattle.ov_model.specs.Records.{is_same_row}
+use Rattle.ov_model.proofs.Widening.{same_rows}
 use Rattle.ov_records.specs.Records.{pairs_of}
-use Rattle.ov_agree.specs.Seeing.{row_of, is_other, clashes, over}
-use Rattle.ov_agree.proofs.Seen.{saw_more, clash_now, clash_later, over_later}
+use Rattle.ov_agree.specs.Seeing.{Maps}
+use Rattle.ov_agree.proofs.Seen.{clash, maps_more, pairs_more}
 use Rattle.ov_agree.proofs.disagreeing.see.Goals.{in-Some+else-ne, in_default}
 use Rattle.ov_agree.proofs.disagreeing.see.Goals as goal
 
-pub loop-record-init : goal.loop-record-init
-loop-record-init c = λ pairs saw. (pairs, saw, refl, refl)
+is_false : (t : Bool) → not t ≡ true → t ≡ false
+is_false true e = cc
+is_false false e = refl
 
-pub returns-then-ne : goal.returns-then-ne
-returns-then-ne c = λ pairs saw.
-    let live = c.loop-record.invariant pairs saw in
-    let r = c.record-item.result in
-    let is = c.in_ok-row.ensures in
-    let found : row_of live.0 r.rid ≡ Some c.in-Some.row.now = sym (live.1 r.rid) ∙ ap (option_map (λ x. x.now)) (sym is.old ∙ c.in-Some.is) in
-    let other : is_other (row_of live.0 r.rid) r.row ≡ true = ap (λ o. is_other o r.row) found ∙ sym c.ne.ensures ∙ c.if-ne.true in
-    (sym (live.2 ∙ clash_now c.args.records.now c.loop-record.record-index r c.loop-record-test.true c.record-item.is live.0 other), λ e. absurd (clash e))
-  where
-    clash : true ≡ false → ⊥
-    clash e = cc
+is_true : (t : Bool) → not t ≡ false → t ≡ true
+is_true true e = refl
+is_true false e = cc
 
-pub loop-record-preserved : goal.loop-record-preserved
-loop-record-preserved c = λ pairs saw.
-    let live = c.loop-record.invariant pairs saw in
+pub returns-then-ne-clause-clash : goal.returns-then-ne-clause-clash
+returns-then-ne-clause-clash c = λ before maps e.
     let records = c.args.records.now in
     let k = c.loop-record.record-index in
     let r = c.record-item.result in
-    let low = c.loop-record-test.true in
-    let is = c.in_ok-row.ensures in
-    let seen : row_of live.0 r.rid ≡ option_map (λ x. x.now) c.in_ok-row.field-0 = sym (live.1 r.rid) ∙ ap (option_map (λ x. x.now)) (sym is.old) in
-    let same : is_other (row_of live.0 r.rid) r.row ≡ false =
-    ap (λ o. is_other o r.row) seen
-    ∙ elim c.match-branch-2.branch [
-      | in-Some+else-ne w ↦ ap (λ o. is_other (option_map (λ x. x.now) o) r.row) w.in-Some.is ∙ sym w.ne.ensures ∙ w.if-ne.false
-      | in_default w ↦ ap (λ o. is_other (option_map (λ x. x.now) o) r.row) w.in_default.is
-    ] in
-    (
-      (r.rid, r.row) ∷ live.0,
-      saw_more (λ x. x.now) c.loop-record.seen c.insert.new.self live.0 r.rid _ live.1 is.updates,
-      live.2 ∙ clash_later records k r low c.record-item.is live.0 same,
-      live.3 ∙ over_later records k r low c.record-item.is live.0,
-    )
+    let old = c.in-Some.row.now in
+    let was = (c.loop-record.invariant before maps r.rid old).0 (ap (option_map (λ x. x.now)) (sym c.in_ok-row.ensures.old ∙ c.in-Some.is)) in
+    clash records k r c.loop-record-test.true c.record-item.is c.requires.once before old was (is_false (is_same_row old r.row) (sym c.ne.ensures ∙ c.if-ne.true))
 
-pub returns : goal.returns
-returns c = λ pairs saw.
-    let live = c.loop-record.invariant pairs saw in
+pub loop-record-preserved : goal.loop-record-preserved
+loop-record-preserved c = λ before maps.
     let records = c.args.records.now in
-    let past : drop c.loop-record.record-index records ≡ [] = drop_all c.loop-record.record-index records (omega (arith, c.loop-record-test.false)) in
-    (
-      sym (live.2 ∙ ap (λ l. clashes live.0 (pairs_of l)) past),
-      λ e rid. live.1 rid ∙ ap (λ s. row_of s rid) (sym (live.3 ∙ ap (λ l. over live.0 (pairs_of l)) past)),
-    )
+    let k = c.loop-record.record-index in
+    let r = c.record-item.result in
+    let is = c.in_ok-row.ensures in
+    subst (Maps (λ x. x.now) c.insert.new.self) (pairs_more records k r c.loop-record-test.true c.record-item.is before)
+    (maps_more (λ x. x.now) c.loop-record.seen c.insert.new.self (before ++ pairs_of (take k records)) r.rid _ (c.loop-record.invariant before maps) is.updates
+    (λ row found.
+    elim c.match-branch-2.branch [
+      | in-Some+else-ne w ↦
+          let old = w.in-Some.row.now in
+          let same : old ≡ row = same_Some old row (ap (option_map (λ x. x.now)) (sym w.in-Some.is ∙ is.old) ∙ found) in
+          sym same ∙ same_rows old r.row (is_true (is_same_row old r.row) (sym w.ne.ensures ∙ w.if-ne.false))
+      | in_default w ↦ absurd (none-some row (ap (option_map (λ x. x.now)) (sym w.in_default.is ∙ is.old) ∙ found))
+    ]))
