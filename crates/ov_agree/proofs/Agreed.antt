@@ -1,12 +1,11 @@
 -- Where what was read agrees, nothing of a commit's event is off.
-use Rattle.std.proofs.Common.{◌≡◌, ◌≤◌, ◌<◌, ◌+◌, ◌^◌, ◌==◌, ◌&&◌, ℕ, suc, Bool, true, false, not, List, [], ◌∷◌, ◌++◌, length, map, filter, refl, sym, ◌∙◌, ap, subst, inl, inr, arith}
-use Rattle.std.specs.Prelude.{◌≢◌, Option, Some, None, nat_le, IsTrue, if◌then◌else◌}
+use Rattle.std.proofs.Common.{◌≡◌, ◌≤◌, ◌+◌, ◌^◌, ◌==◌, ◌&&◌, ℕ, suc, Bool, true, false, not, List, [], ◌∷◌, ◌++◌, length, map, refl, sym, ◌∙◌, ap, inl, inr, arith}
+use Rattle.std.specs.Prelude.{◌≢◌, Option, Some, None, nat_le, IsTrue}
 use Rattle.std.specs.List.{list_all, zip}
 use Rattle.std.specs.Option.{option_or}
 use Rattle.std.proofs.lemmas.Bool.{and_from, cases_Bool, eq-eqb, le-leb}
 use Rattle.std.proofs.lemmas.List.{length-append}
 use Rattle.std.proofs.lemmas.List.Sums.{length-filter, count_by-le-length}
-use Rattle.ov_event.specs.declared.event.Event as raw
 use Rattle.ov_event.specs.declared.event.Event.TheVariants as says
 use Rattle.ov_event.specs.declared.event.Placed.{Placed}
 use Rattle.ov_graph.specs.Versions.{heaviest}
@@ -28,9 +27,7 @@ use Rattle.ov_catalog.specs.declared.field.Field.TheVariants as off
 use Rattle.ov_catalog.specs.Applying.{off_unless, rows_at, are_distinct, is_parent, are_parents, part_numbered, records_in, facts_of, is_place, is_count, is_list, is_segment, commit_off, of_live, set_numbered, first_off}
 use Rattle.ov_catalog.specs.Numbers.{SetNumbers, Numbers}
 use Rattle.ov_catalog.specs.Raw.{place_in}
-use Rattle.ov_catalog.specs.Reached.{AreParents}
-use Rattle.ov_catalog.proofs.Members.{of_append, of_map}
-use Rattle.ov_agree.specs.Differing.{rids_of, NoneDiffer}
+use Rattle.ov_catalog.proofs.Members.{of_append}
 use Rattle.ov_agree.specs.Agreeing.{AreRids, EachAgrees, ParentsAgree, HeldAgrees}
 use Rattle.ov_agree.specs.Committing.{MayCommit, JoinedAgrees, rids_for, edges_for, place_for, lacking_of, added_for}
 use Rattle.ov_agree.proofs.Times.{pairs_rid, in_times, times_in, few_numbers, all_distinct}

@@ -1,9 +1,8 @@
 -- The rids that a commit gives: different ones, where its parents agree and its rows rise.
-use Rattle.std.proofs.Common.{◌≡◌, ◌≤◌, ◌<◌, ℕ, zero, suc, ◌+◌, Bool, true, false, ◌==◌, List, [], ◌∷◌, ◌++◌, length, filter, refl, sym, ◌∙◌, ap, subst, inl, inr, arith}
-use Rattle.std.specs.Prelude.{◌⊎◌, ◌≢◌, Option, Some, None, not, if◌then◌else◌}
-use Rattle.std.specs.declared.cmp.Ordering.{Ordering}
+use Rattle.std.proofs.Common.{◌≡◌, ◌≤◌, ◌<◌, ℕ, zero, suc, ◌+◌, Bool, true, false, ◌==◌, List, [], ◌∷◌, length, refl, sym, ◌∙◌, ap, inl, inr, arith}
+use Rattle.std.specs.Prelude.{◌⊎◌, Option, Some, None, not, if◌then◌else◌}
 use Rattle.std.specs.declared.cmp.Ordering.TheVariants.{Less}
-use Rattle.std.proofs.lemmas.Bool.{cases_Bool, eqb-true, false_from_ne_true}
+use Rattle.std.proofs.lemmas.Bool.{eqb-true, false_from_ne_true}
 use Rattle.std.proofs.lemmas.Option.{same_Some}
 use Rattle.ov_value.specs.Rows.{key_cmp}
 use Rattle.ov_value.specs.Shapes.{Shape}
@@ -13,7 +12,7 @@ use Rattle.ov_model.specs.Lists.{IsIn, IsBelow, Rises, joined}
 use Rattle.ov_model.specs.Placed.{times}
 use Rattle.ov_model.specs.Records.{is_same_row}
 use Rattle.ov_model.specs.World.{is_one}
-use Rattle.ov_model.proofs.Counting.{one_if, one_most, one_same, listed}
+use Rattle.ov_model.proofs.Counting.{one_if, listed}
 use Rattle.ov_model.proofs.Origins.{first_is}
 use Rattle.ov_model.proofs.Rids.{not_same}
 use Rattle.ov_model.proofs.Widening.{same_rows}

@@ -1,6 +1,6 @@
 -- Records of a dataset's versions have one row for each rid; the heaviest edge is one of the edges.
-use Rattle.std.proofs.Common.{◌≡◌, ◌≤◌, ℕ, suc, ◌+◌, ◌-◌, Bool, true, false, List, [], ◌∷◌, ◌++◌, length, get_or, map, refl, sym, ◌∙◌, ap, subst, inl, inr, arith}
-use Rattle.std.specs.Prelude.{◌≢◌, nat_lt, if◌then◌else◌, IsTrue}
+use Rattle.std.proofs.Common.{◌≡◌, ◌≤◌, ℕ, suc, ◌+◌, ◌-◌, Bool, true, false, List, [], ◌∷◌, length, get_or, refl, sym, ◌∙◌, ap, subst, inl, inr, arith}
+use Rattle.std.specs.Prelude.{◌≢◌, nat_lt, if◌then◌else◌}
 use Rattle.std.specs.List.{zip}
 use Rattle.std.proofs.lemmas.Bool.{cond-true, cond-false, cases_Bool, ltb-true}
 use Rattle.ov_graph.specs.Versions.{heaviest}
@@ -13,7 +13,7 @@ use Rattle.ov_model.proofs.Growing.{same_row-refl, same_rec-refl}
 use Rattle.ov_model.proofs.Holds.{same_recs, at_known}
 use Rattle.ov_model.proofs.Origins.{all_known}
 use Rattle.ov_records.specs.Records.{lists_of}
-use Rattle.ov_catalog.proofs.Members.{of_append, of_map, in_map}
+use Rattle.ov_catalog.proofs.Members.{of_append, of_map}
 use Rattle.ov_agree.specs.Differing.{NoneDiffer}
 
 -- ---- a rid is one record's

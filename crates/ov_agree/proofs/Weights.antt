@@ -1,12 +1,11 @@
 -- A weight is at most the rows of either version.
-use Rattle.std.proofs.Common.{◌≡◌, ◌≤◌, ◌<◌, ℕ, zero, suc, ◌+◌, Bool, true, false, ◌==◌, List, [], ◌∷◌, length, map, filter, cond, refl, sym, ◌∙◌, ap, inl, inr, arith}
+use Rattle.std.proofs.Common.{◌≡◌, ◌≤◌, ℕ, ◌+◌, Bool, true, false, ◌==◌, List, [], ◌∷◌, length, filter, cond, refl, ◌∙◌, ap, inl, inr, arith}
 use Rattle.std.specs.Prelude.{◌&&◌, ◌||◌, if◌then◌else◌}
-use Rattle.std.specs.List.{zip, list_any}
+use Rattle.std.specs.List.{zip}
 use Rattle.std.proofs.lemmas.List.Sums.{sum_by-cons, count_by-le-length}
 use Rattle.std.proofs.lemmas.Bool.{cases_Bool, eqb-true}
 use Rattle.ov_segment.specs.declared.numbered.Record.{Record}
 use Rattle.ov_model.specs.Book.{Row}
-use Rattle.ov_model.specs.Lists.{IsIn}
 use Rattle.ov_model.specs.Placed.{times}
 use Rattle.ov_model.specs.Records.{is_same_row}
 use Rattle.ov_model.specs.World.{is_one}
@@ -41,7 +40,7 @@ shared_rids records (rid ∷ rids) (row ∷ rows) =
       arith,
       sum_by-cons (λ x. cond (has_record (pairs_of records) x) 1 0) (rid, row) (zip rids rows),
       kept_if (has_record (pairs_of records) (rid, row)) (is_one (rids_of records) rid) rid (filter (is_one (rids_of records)) rids) (shared (zip rids rows) (pairs_of records))
-      (has_rid records rid row) (shared_rids records rids rows),
+          (has_rid records rid row) (shared_rids records rids rows),
     )
 
 -- what passes a test passes it

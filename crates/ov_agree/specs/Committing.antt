@@ -4,7 +4,7 @@
 --     edges_for d vids rows parents      its parents with the weights of their edges
 --     place_for d vids rows parents      where it goes
 --     added_for place rows rids held      how many records its partition takes
-use Rattle.std.specs.Prelude.{◌≡◌, ◌+◌, ◌≤◌, ◌<◌, ◌^◌, ℕ, not, List, length, map, filter}
+use Rattle.std.specs.Prelude.{◌+◌, ◌≤◌, ◌<◌, ◌^◌, ℕ, not, List, length, map, filter}
 use Rattle.std.specs.List.{zip}
 use Rattle.ov_graph.specs.Versions.{heaviest}
 use Rattle.ov_place.specs.Placement.{placed}

@@ -18,10 +18,7 @@ use std::collections::BTreeMap;
 /// rid has different rows among all records of the parents; so it is where these are records of a dataset's versions.
 ///
 /// It takes a time of n log n for n records.
-pub fn first_disagreeing(
-    alloc: Global,
-    parents: &[Records],
-) -> Result<Option<usize>, AllocError>
+pub fn first_disagreeing(alloc: Global, parents: &[Records]) -> Result<Option<usize>, AllocError>
     requires once { All HasNoRidTwice parents.now }
     ensures exactly { IfOk result (IsFirstDisagreeing (lists_of parents.now)) }
     ensures versions { IfOk result (λ found. (versions : List Version) (vids : List ℕ)
@@ -37,10 +34,7 @@ pub fn first_disagreeing(
 }
 
 // Whether one of the records has a rid that was seen with another row. If not, all of them are seen now.
-fn see<'a>(
-    seen: &mut BTreeMap<u32, &'a Row>,
-    records: &'a [Record],
-) -> Result<bool, AllocError>
+fn see<'a>(seen: &mut BTreeMap<u32, &'a Row>, records: &'a [Record]) -> Result<bool, AllocError>
     requires once { HasNoRidTwice records.now }
     ensures clash { IfOk result (λ other. (before : List (ℕ × ModelRow)) → Maps (λ r. r.now) seen.old before
         → other ≡ true → Clash before (pairs_of records.now)) }

@@ -12,7 +12,7 @@ mod disagreeing;
 mod edges;
 mod worlds;
 
-pub use applying::{a_commit_that_agrees_applies, a_commit_gives_different_rids};
+pub use applying::{a_commit_gives_different_rids, a_commit_that_agrees_applies};
 pub use disagreeing::first_disagreeing;
 pub use edges::the_tree_parent_is_a_parent;
 pub use worlds::records_of_versions_agree;

@@ -1,5 +1,4 @@
-use Rattle.std.proofs.Common.{◌≡◌, ◌++◌, ◌+◌, Some, subst, take, arith}
-use Rattle.ov_segment.specs.declared.numbered.Record.{Record}
+use Rattle.std.proofs.Common.{◌++◌, Some, subst, take, arith}
 use Rattle.ov_model.specs.Lists.{joined}
 use Rattle.ov_records.specs.Records.{pairs_of, lists_of}
 use Rattle.ov_agree.specs.Differing.{Clash}
@@ -35,8 +34,7 @@ loop-place-preserved c =
     let is = c.index-parents-place.is in
     let before = joined (take place (lists_of parents)) in
     let maps : Maps (λ r. r.now) c.see.new.seen (before ++ pairs_of p) =
-    subst (λ l. Maps (λ r. r.now) c.see.new.seen (before ++ pairs_of l)) c.as_slice.ensures (c.in_ok-see.ensures.seen before c.loop-place.invariant.0 c.if-branch.false) in
-    (
+    subst (λ l. Maps (λ r. r.now) c.see.new.seen (before ++ pairs_of l)) c.as_slice.ensures (c.in_ok-see.ensures.seen before c.loop-place.invariant.0 c.if-branch.false) in (
       subst (Maps (λ r. r.now) c.see.new.seen) (joined_more parents place p low is) maps,
       none_more parents place p low is c.loop-place.invariant.1 (one_row (λ r. r.now) c.see.new.seen (before ++ pairs_of p) maps),
     )

@@ -1,8 +1,7 @@
 use Rattle.std.proofs.Common.{◌≡◌, ◌++◌, true, false, Bool, refl, sym, ◌∙◌, ap, subst, take}
-use Rattle.std.specs.Prelude.{Some, not}
+use Rattle.std.specs.Prelude.{not}
 use Rattle.std.specs.Option.{option_map}
 use Rattle.std.proofs.lemmas.Option.{same_Some, none-some}
-use Rattle.ov_model.specs.Book.{Row}
 use Rattle.ov_model.specs.Records.{is_same_row}
 use Rattle.ov_model.proofs.Widening.{same_rows}
 use Rattle.ov_records.specs.Records.{pairs_of}
