@@ -115,7 +115,7 @@ module _ (d : SetNumbers Extent Extent) (schema : Shape) (vids message : List �
   pub different : AreRids (length rows) (d.records + fresh) rids
   different = record {
     all = length-assigned rows (lists_of parents) (d.records + 1);
-    once = single;
+    once = λ n. omega (arith, single n);
     from_one = λ n is. (bounds n is).0;
     there = λ n is. (bounds n is).1;
   }
