@@ -1,0 +1,7 @@
+pub mod Times
+pub mod Rids
+pub mod Weights
+pub mod Agreed
+pub mod Same
+pub mod Seen
+pub mod Kept
