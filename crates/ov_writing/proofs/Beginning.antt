@@ -1,5 +1,5 @@
 -- A dataset's first version: its records have the rids 1, 2, 3 and so on, and its event applies.
-use Rattle.std.proofs.Common.{◌≡◌, ◌≤◌, ◌<◌, ◌*◌, ◌^◌, ℕ, true, false, List, [], ◌∷◌, length, map, refl, sym, ◌∙◌, ap, subst, arith}
+use Rattle.std.proofs.Common.{◌≡◌, ◌≤◌, ◌<◌, ◌^◌, ℕ, true, false, List, [], ◌∷◌, length, map, refl, sym, ◌∙◌, ap, subst, arith}
 use Rattle.std.specs.Prelude.{Some, None, codes}
 use Rattle.std.specs.List.{list_any}
 use Rattle.std.proofs.lemmas.List.{length-map, append-nil}
@@ -7,7 +7,6 @@ use Rattle.ov_value.specs.Rows.{key_cmp}
 use Rattle.ov_value.specs.Naming.{is_name}
 use Rattle.ov_value.specs.Shapes.{Shape, IsSound}
 use Rattle.ov_host.specs.declared.area.Extent.{Extent}
-use Rattle.ov_event.specs.Fields.{IsExtent}
 use Rattle.ov_event.specs.Spelling.{IsEvent}
 use Rattle.ov_model.specs.Book.{Row}
 use Rattle.ov_model.specs.Lists.{Rises}
@@ -15,19 +14,18 @@ use Rattle.ov_model.specs.Moves.{piece_of, version_of}
 use Rattle.ov_model.specs.Records.{Rec, record_of, records_of, order_of, rid_in, fresh_in, counted, lacking}
 use Rattle.ov_model.proofs.Rids.{no_gap}
 use Rattle.ov_segment.specs.declared.numbered.Record.{Record}
-use Rattle.ov_catalog.specs.Applying.{first_off, is_named}
+use Rattle.ov_catalog.specs.Applying.{first_off, is_named, is_segment}
 use Rattle.ov_catalog.specs.Numbers.{Numbers}
 use Rattle.ov_catalog.specs.Reached.{AreRows}
 use Rattle.ov_catalog.specs.Shown.{Records, sorted_by, kept_as, list_of, segment_of}
 use Rattle.ov_core.specs.Brought.{segments_in, extent_at}
-use Rattle.ov_core.specs.Rooms.{pages_for}
 use Rattle.ov_image.specs.Lists.{list_in}
 use Rattle.ov_image.specs.Segments.{as_kept}
 use Rattle.ov_writing.specs.Written.{numbered, not_held, list_written, segment_written, first_event}
-use Rattle.ov_writing.proofs.Counting.{counted_given, counted_long}
-use Rattle.ov_writing.proofs.Keeping.{numbered_long, segment_sized}
-use Rattle.ov_writing.proofs.Listing.{IsSized, list_sized}
-use Rattle.ov_writing.proofs.Sizes.{extent_is, sized_list, sized_segment, init_applies}
+use Rattle.ov_writing.proofs.Counting.{counted_given}
+use Rattle.ov_writing.proofs.Keeping.{numbered_long}
+use Rattle.ov_writing.proofs.Sizes.{init_applies}
+use Rattle.ov_writing.proofs.Fitting.{AreRuns, extent_fits, list_sound, segment_sound}
 use Rattle.ov_writing.proofs.Texts.{name_text, schema_spelled}
 use Rattle.ov_writing.proofs.Reading.{HoldSame, in_segments, list_reads, segment_reads, piece_segments, kept_lacking}
 
@@ -83,46 +81,24 @@ first_segments schema rows are =
 
 -- ---- the event
 
-pub extent_fits : (bytes : List ℕ) → length bytes < 2 ^ 32 → IsExtent (extent_at 0 bytes)
-extent_fits bytes low = subst IsExtent (sym (extent_is bytes)) (omega arith, low)
-
 pub first_spelled : (name : List ℕ) (schema : Shape) (rows : List Row) (list segment : List ℕ) → is_name name ≡ true → IsSound schema → length rows ≤ 1000000
     → length list < 2 ^ 32 → length segment < 2 ^ 32 → IsEvent (first_event name schema rows list segment)
 unfolding IsEvent
 first_spelled name schema rows list segment named sound few list_low segment_low =
     (name_text name named, schema_spelled schema sound, omega (arith, few), extent_fits list list_low, extent_fits segment segment_low)
 
--- what is written of the rows
-pub record IsWritten (rows : List Row) (list segment : List ℕ) : Type 0 where
-  pub list_is : list ≡ list_written (counted 1 (length rows))
-  pub segment_is : segment ≡ segment_written [] (counted 1 (length rows)) rows
-  pub short : pages_for segment < 2 ^ 20
-
-pub list_low : (rows : List Row) (list segment : List ℕ) → length rows ≤ 1000000 → IsWritten rows list segment → length list < 2 ^ 32
-list_low rows list segment few written =
-    let sized = list_sized (counted 1 (length rows))
-    in subst (λ (bs : List ℕ). length bs < 2 ^ 32) (sym written.list_is) (omega (arith, sized.size, sized.few, counted_long 1 (length rows), few))
-
 not_held_all : (rs : List Record) → not_held [] rs ≡ rs
 not_held_all [] = refl
 not_held_all (r ∷ rs) = ap (λ qs. r ∷ qs) (not_held_all rs)
 
-none_written : (rids : List ℕ) (rows : List Row) → length rows ≡ 0 → length rids ≡ length rows → segment_written [] rids rows ≡ []
-none_written [] rows none same = refl
-none_written (rid ∷ rids) rows none same = absurd (omega (arith, none, same))
-
 pub first_applies : (name : List ℕ) (schema : Shape) (rows : List Row) (list segment : List ℕ) → is_name name ≡ true → IsSound schema → AreRows schema rows
-    → IsWritten rows list segment
+    → AreRuns [] (counted 1 (length rows)) rows list segment
     → (n : Numbers Extent Extent) → n.next < 4294967295 → list_any (is_named name) n.sets ≡ false → length n.sets < 1024
     → first_off (first_event name schema rows list segment) n ≡ None
-first_applies name schema rows list segment named sound are written =
+first_applies name schema rows list segment named sound are runs =
     let rids : List ℕ = counted 1 (length rows)
     in let given = counted_given rows are.few
-    in let sized : IsSized list (length rows) =
-    subst (λ n. IsSized list n) (counted_long 1 (length rows)) (subst (λ (bs : List ℕ). IsSized bs (length rids)) (sym written.list_is) (list_sized rids))
-    in let long = segment_sized schema [] rids rows are given
     in let kept : length (not_held [] (numbered rids rows)) ≡ length rows = ap (λ (rs : List Record). length rs) (not_held_all (numbered rids rows)) ∙ numbered_long rids rows given.as_many
-    in let more : 8 * length rows ≤ length segment = subst (λ (bs : List ℕ). 8 * length rows ≤ length bs) (sym written.segment_is) (omega (arith, long.0, kept))
     in init_applies name schema (length rows) (extent_at 0 list) (extent_at 0 segment) named sound are.few
-    (sized_list (length rows) list sized are.few)
-    (sized_segment (length rows) segment more (λ none. written.segment_is ∙ none_written rids rows none given.as_many) written.short)
+    (list_sound [] rids rows list segment are.few given runs)
+    (subst (λ n. is_segment n (extent_at 0 segment) ≡ true) kept (segment_sound schema [] rids rows list segment are given runs))

@@ -6,9 +6,11 @@
 #![tactic(auto)]
 
 mod first;
+mod next;
 mod order;
 mod runs;
 mod write_err;
 
 pub use first::first_version;
+pub use next::{Next, next_version};
 pub use write_err::WriteErr;

@@ -1,4 +1,4 @@
-use Rattle.std.proofs.Common.{rules, ◌≡◌, ◌<◌, ◌^◌, ℕ, List, length, sym, ◌∙◌, ap, subst, arith}
+use Rattle.std.proofs.Common.{[], rules, ◌≡◌, ◌<◌, ◌^◌, ℕ, List, length, sym, ◌∙◌, ap, subst, arith}
 use Rattle.ov_event.specs.declared.event.Event.TheVariants as says
 use Rattle.ov_event.specs.Spelling.{IsEvent}
 use Rattle.ov_model.specs.Records.{counted}
@@ -8,7 +8,8 @@ use Rattle.ov_catalog.specs.Raw.{shape_in}
 use Rattle.ov_core.specs.Brought.{extent_at, segments_in}
 use Rattle.ov_image.specs.Lists.{list_in}
 use Rattle.ov_writing.specs.Written.{AreGiven, first_event, list_written, segment_written}
-use Rattle.ov_writing.proofs.Beginning.{IsWritten, list_low, first_spelled, first_applies, first_list, first_segments}
+use Rattle.ov_writing.proofs.Beginning.{first_spelled, first_applies, first_list, first_segments}
+use Rattle.ov_writing.proofs.Fitting.{AreRuns, list_low}
 use Rattle.ov_writing.proofs.Counting.{counted_given}
 use Rattle.ov_writing.proofs.first.first_version.Goals as goal
 
@@ -21,14 +22,14 @@ pub unplaced-requires : goal.unplaced-requires
 unplaced-requires c =
     let count : c.len-count.result ≡ length c.args.rows.items = search rules
     in let rids = c.as_slice.ensures.value ∙ c.in_ok-rids.ensures ∙ ap (counted 1) count
-    in let is : IsWritten c.args.rows.items c.in_ok-runs.runs.list.items c.in_ok-runs.runs.segment.items = record {
+    in let is : AreRuns [] (counted 1 (length c.args.rows.items)) c.args.rows.items c.in_ok-runs.runs.list.items c.in_ok-runs.runs.segment.items = record {
       list_is = c.in_ok-runs.ensures.list ∙ ap list_written rids;
       segment_is = c.in_ok-runs.ensures.segment ∙ (λ i. segment_written (c.in_ok-none.ensures i) (rids i) c.args.rows.items);
       short = c.in_ok-runs.ensures.short;
     }
-    in subst (λ (bs : List ℕ). length bs < 2 ^ 32) (sym c.as_slice-2.ensures.value) (list_low c.args.rows.items c.in_ok-runs.runs.list.items c.in_ok-runs.runs.segment.items c.requires.rows.few is)
+    in subst (λ (bs : List ℕ). length bs < 2 ^ 32) (sym c.as_slice-2.ensures.value) (list_low [] (counted 1 (length c.args.rows.items)) c.args.rows.items c.in_ok-runs.runs.list.items c.in_ok-runs.runs.segment.items c.requires.rows.few (counted_given c.args.rows.items c.requires.rows.few) is)
 
-written : (c : goal.After-drop-rids-2) → IsWritten c.args.rows.items c.in_ok-runs.runs.list.items c.in_ok-runs.runs.segment.items
+written : (c : goal.After-drop-rids-2) → AreRuns [] (counted 1 (length c.args.rows.items)) c.args.rows.items c.in_ok-runs.runs.list.items c.in_ok-runs.runs.segment.items
 written c =
     let count : c.len-count.result ≡ length c.args.rows.items = search rules
     in let rids = c.as_slice.ensures.value ∙ c.in_ok-rids.ensures ∙ ap (counted 1) count
@@ -51,7 +52,7 @@ returns-clause-event c =
     let is = written c
     in subst IsEvent (sym (event_is c))
     (first_spelled c.args.name.now c.args.schema.now c.args.rows.items c.in_ok-runs.runs.list.items c.in_ok-runs.runs.segment.items c.requires.name c.in_ok-schema_of.ensures.sound c.requires.rows.few
-    (list_low c.args.rows.items c.in_ok-runs.runs.list.items c.in_ok-runs.runs.segment.items c.requires.rows.few is) (omega (arith, is.short)))
+    (list_low [] (counted 1 (length c.args.rows.items)) c.args.rows.items c.in_ok-runs.runs.list.items c.in_ok-runs.runs.segment.items c.requires.rows.few (counted_given c.args.rows.items c.requires.rows.few) is) (omega (arith, is.short)))
 
 pub returns-clause-says : goal.returns-clause-says
 returns-clause-says c = λ w.
