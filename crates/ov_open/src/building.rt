@@ -1,0 +1,67 @@
+// A core, from a journal and its payloads.
+
+ghost use Rattle.std.specs.Prelude.{◌≡◌, MatchResult};
+ghost use Rattle.ov_replay.specs.Replaying.{IsReplay};
+ghost use Rattle.ov_open.specs.Building.{IsBuilt, NotBuilt, NotReplayed, gate_within};
+
+use crate::errors::OpenErr;
+use crate::extents::live;
+use crate::missing::first_missing;
+use ov_catalog::Catalog;
+use ov_core::Core;
+use ov_host::Area;
+use ov_journal::{Journal, Payload};
+use ov_pages::Pages;
+use ov_replay::{ReplayErr, replay};
+use std::alloc::Global;
+
+// The bytes of a record beside its payload: its gate, and the payload's length.
+const FRONT_BYTES: u64 = 5;
+
+/// The core of a journal with these payloads, beside so many whole pages.
+pub fn core_of(
+    alloc: Global,
+    journal: Journal,
+    payloads: &[Payload],
+    there: u64,
+) -> Result<Core, OpenErr>
+    ensures { MatchResult result (IsBuilt journal payloads.now there) (λ why. NotBuilt why journal.start payloads.now there) }
+{
+    let catalog = catalog_of(alloc, journal.start(), payloads)?;
+    let extents = live(alloc, &catalog)?;
+    let pages = Pages::of(alloc, &extents)?;
+    if let Some(at) = first_missing(&extents, there) {
+        return Err(OpenErr::Damaged {
+            area: Area::Pages,
+            at,
+        });
+    }
+    Ok(Core::of(journal, catalog, pages))
+}
+
+// The catalog of these payloads, of a journal whose live half begins at this place.
+fn catalog_of(alloc: Global, start: u32, payloads: &[Payload]) -> Result<Catalog, OpenErr>
+    ensures { MatchResult result (λ catalog. IsReplay payloads.now catalog.numbers) (λ why. NotReplayed why start payloads.now) }
+{
+    match replay(alloc, payloads) {
+        Ok(catalog) => Ok(catalog),
+        Err(ReplayErr::Memory) => Err(OpenErr::Memory),
+        Err(ReplayErr::Damaged { nth }) => Err(OpenErr::Damaged {
+            area: Area::Journal,
+            at: gate_behind(start, &payloads[..nth]),
+        }),
+    }
+}
+
+// The place of the gate behind these payloads' records, the first of which begins at this place.
+fn gate_behind(start: u32, before: &[Payload]) -> u64
+    ensures { result ≡ gate_within start before.now }
+{
+    let mut at = u64::from(start);
+    for payload in before {
+        at = at
+            .saturating_add(FRONT_BYTES)
+            .saturating_add(payload.as_slice().len() as u64);
+    }
+    at
+}
