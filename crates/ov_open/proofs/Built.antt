@@ -11,31 +11,37 @@ use Rattle.ov_catalog.specs.Extents.{covers, live}
 use Rattle.ov_catalog.specs.Numbers.{Numbers}
 use Rattle.ov_replay.specs.Replaying.{IsReplay}
 use Rattle.ov_core.specs.Held.{Held}
+use Rattle.ov_host.specs.declared.area.Area.TheVariants.{Pages, Journal}
+use Rattle.ov_open.specs.declared.errors.OpenErr.{OpenErr}
+use Rattle.ov_open.specs.declared.errors.OpenErr.TheVariants as errors
 use Rattle.ov_open.specs.Refusing.{IsMissing, IsOff, SharesNone}
-use Rattle.ov_open.specs.Building.{AreThere, HasOff, IsBuilt, NotBuilt, of_pages}
+use Rattle.ov_open.specs.Building.{AreThere, IsBuilt, NotBuilt, NotReserved, of_pages}
 use Rattle.ov_open.proofs.Counting.{counted, least_twice}
 use Rattle.ov_open.proofs.Low.{never_high}
 
 shares_none : (es : List Extent) (reserved : Reserved) → AreReserved es reserved → SharesNone es
 shares_none es reserved is = λ page. let same : times_covered es page ≡ covers es page = counted es page in omega (arith, same, is.once page)
 
-module _ (payloads : List (List ℕ)) (there : ℕ) (n : Numbers Extent Extent) (es : List Extent) (replays : IsReplay payloads n) (are : es ≡ live n) where
-  pub pages_refuse : (start : ℕ) (why : PagesErr) → IsCause es why → NotBuilt (of_pages why) start payloads there
-  pages_refuse start (pages.TooHigh page) is =
-      let none : too_high_page es ≡ None = subst (λ (xs : List Extent). too_high_page xs ≡ None) (sym are) (never_high payloads n replays) in cc
-  pages_refuse start (pages.Overlap page) is = record {
-    numbers = n;
-    replays = replays;
-    off = subst (λ (xs : List Extent). IsOff xs there page) are (inl (least_twice es page is));
-  }
-  pages_refuse start pages.Memory is = tt
+pub pages_refuse : (es : List Extent) (there : ℕ) (why : PagesErr) → too_high_page es ≡ None → IsCause es why → NotReserved (of_pages why) es there
+pages_refuse es there (pages.TooHigh page) low is = cc
+pages_refuse es there (pages.Overlap page) low is = inl (least_twice es page is)
+pages_refuse es there pages.Memory low is = tt
 
-  pub page_missing : (reserved : Reserved) (page : ℕ) → AreReserved es reserved → IsMissing es there page → HasOff payloads there page
-  page_missing reserved page is missing = record {
-    numbers = n;
-    replays = replays;
-    off = subst (λ (xs : List Extent). IsOff xs there page) are (inr (shares_none es reserved is, missing));
-  }
+pub page_missing : (es : List Extent) (there page : ℕ) (reserved : Reserved) → AreReserved es reserved → IsMissing es there page → IsOff es there page
+page_missing es there page reserved is missing = inr (shares_none es reserved is, missing)
+
+module _ (payloads : List (List ℕ)) (there : ℕ) (n : Numbers Extent Extent) (es : List Extent) (replays : IsReplay payloads n) (are : es ≡ live n) where
+  pub low : too_high_page es ≡ None
+  low = subst (λ (xs : List Extent). too_high_page xs ≡ None) (sym are) (never_high payloads n replays)
+
+  pub not_built : (start : ℕ) (why : OpenErr) → NotReserved why es there → NotBuilt why start payloads there
+  not_built start errors.Host is = absurd is
+  not_built start errors.Memory is = tt
+  not_built start errors.NotAStore is = absurd is
+  not_built start (errors.Format found) is = absurd is
+  not_built start (errors.Damaged Journal place) is = absurd is
+  not_built start (errors.Damaged Pages page) is =
+      record { numbers = n; replays = replays; off = subst (λ (xs : List Extent). IsOff xs there page) are is }
 
   pub built : (numbers : journals.Numbers) (reserved : Reserved) (held : Held) → held ≡ record { journal = numbers; numbers = n } → AreReserved es reserved → AreThere es there
       → IsBuilt numbers payloads there held

@@ -49,11 +49,16 @@ pub record HasOff (payloads : List (List ℕ)) (there page : ℕ) : Type 0 where
   pub replays : IsReplay payloads numbers
   pub off : IsOff (live numbers) there page
 
--- why there is no catalog, and no core
+-- why there is no catalog, no reserved pages, no core
 abbrev pub NotReplayed : OpenErr → ℕ → List (List ℕ) → Type 0
 NotReplayed errors.Memory start payloads = Unit {0}
 NotReplayed (errors.Damaged Journal place) start payloads = StopsWithin start payloads place
 NotReplayed _ start payloads = ⊥
+
+abbrev pub NotReserved : OpenErr → List Extent → ℕ → Type 0
+NotReserved errors.Memory es there = Unit {0}
+NotReserved (errors.Damaged Pages page) es there = IsOff es there page
+NotReserved _ es there = ⊥
 
 abbrev pub NotBuilt : OpenErr → ℕ → List (List ℕ) → ℕ → Type 0
 NotBuilt errors.Memory start payloads there = Unit {0}

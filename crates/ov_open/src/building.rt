@@ -1,15 +1,16 @@
 // A core, from a journal and its payloads.
 
-ghost use Rattle.std.specs.Prelude.{◌≡◌, MatchResult};
+ghost use Rattle.std.specs.Prelude.{◌≡◌, None, MatchResult};
+ghost use Rattle.ov_pages.specs.Live.{AreReserved, too_high_page};
 ghost use Rattle.ov_replay.specs.Replaying.{IsReplay};
-ghost use Rattle.ov_open.specs.Building.{IsBuilt, NotBuilt, NotReplayed, gate_within};
+ghost use Rattle.ov_open.specs.Building.{AreThere, IsBuilt, NotBuilt, NotReplayed, NotReserved, gate_within};
 
 use crate::errors::OpenErr;
 use crate::extents::live;
 use crate::missing::first_missing;
 use ov_catalog::Catalog;
 use ov_core::Core;
-use ov_host::Area;
+use ov_host::{Area, Extent};
 use ov_journal::{Journal, Payload};
 use ov_pages::Pages;
 use ov_replay::{ReplayErr, replay};
@@ -29,13 +30,7 @@ pub fn core_of(
 {
     let catalog = catalog_of(alloc, journal.start(), payloads)?;
     let extents = live(alloc, &catalog)?;
-    let pages = Pages::of(alloc, &extents)?;
-    if let Some(at) = first_missing(&extents, there) {
-        return Err(OpenErr::Damaged {
-            area: Area::Pages,
-            at,
-        });
-    }
+    let pages = reserved(alloc, &extents, there)?;
     Ok(Core::of(journal, catalog, pages))
 }
 
@@ -64,4 +59,19 @@ fn gate_behind(start: u32, before: &[Payload]) -> u64
             .saturating_add(payload.as_slice().len() as u64);
     }
     at
+}
+
+// The pages of the live extents, reserved. Of the pages there are only the first so many.
+fn reserved(alloc: Global, extents: &[Extent], there: u64) -> Result<Pages, OpenErr>
+    requires { too_high_page extents.now ≡ None }
+    ensures { MatchResult result (λ pages. AreReserved extents.now pages × AreThere extents.now there) (λ why. NotReserved why extents.now there) }
+{
+    let pages = Pages::of(alloc, extents)?;
+    match first_missing(extents, there) {
+        Some(at) => Err(OpenErr::Damaged {
+            area: Area::Pages,
+            at,
+        }),
+        None => Ok(pages),
+    }
 }
