@@ -7,6 +7,7 @@
 mod brought;
 mod change;
 mod errors;
+mod long;
 mod parts;
 mod runs;
 mod writing;
