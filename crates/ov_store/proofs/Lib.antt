@@ -3,4 +3,5 @@ pub mod Still
 pub mod Beginning
 pub mod Fitting
 pub mod Answering
+pub mod Unreadying
 pub mod Dropping

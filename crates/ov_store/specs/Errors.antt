@@ -2,10 +2,14 @@
 use Rattle.std.specs.Prelude.{Bool, true, false}
 use Rattle.ov_core.specs.declared.errors.ChangeErr.{ChangeErr}
 use Rattle.ov_core.specs.declared.errors.ChangeErr.TheVariants as change
-use Rattle.ov_rows.specs.declared.RowsErr.{RowsErr}
-use Rattle.ov_rows.specs.declared.RowsErr.TheVariants as rows
+use Rattle.ov_rows.specs.declared.rows_err.RowsErr.{RowsErr}
+use Rattle.ov_rows.specs.declared.rows_err.RowsErr.TheVariants as rows
+use Rattle.ov_writing.specs.declared.write_err.WriteErr.{WriteErr}
+use Rattle.ov_writing.specs.declared.write_err.WriteErr.TheVariants as write
 use Rattle.ov_store.specs.declared.errors.StoreErr.{StoreErr}
 use Rattle.ov_store.specs.declared.errors.StoreErr.TheVariants as why
+use Rattle.ov_store.specs.declared.unready.Unready.{Unready}
+use Rattle.ov_store.specs.declared.unready.Unready.TheVariants as unready
 
 abbrev pub of_rows : RowsErr → StoreErr
 of_rows rows.TooManyRows = why.TooManyRows
@@ -22,3 +26,7 @@ of_change change.JournalFull = why.JournalFull
 abbrev pub is_host : ChangeErr → Bool
 is_host change.Host = true
 is_host _ = false
+
+abbrev pub unready_of : WriteErr → Unready
+unready_of write.Memory = unready.Off why.Memory
+unready_of (write.TooLong list_pages segment_pages) = unready.TooLong list_pages segment_pages

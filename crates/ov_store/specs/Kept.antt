@@ -1,7 +1,7 @@
 -- What contracts see of a store, and what its calls keep to.
 use Rattle.std.specs.Prelude.{◌≡◌, Bool, true}
 use Rattle.ov_host.specs.Host.{State}
-use Rattle.ov_core.specs.Held.{Held, IsBeside}
+use Rattle.ov_core.specs.Held.{GoesOn, Held}
 use Rattle.ov_fetch.specs.Extents.{Looked}
 use Rattle.ov_store.specs.declared.errors.StoreErr.{StoreErr}
 use Rattle.ov_store.specs.declared.errors.StoreErr.TheVariants as why
@@ -14,7 +14,7 @@ pub record Kept : Type 0 where
 -- what a call that takes a host asks
 pub record MayCall (store : Kept) (s : State) : Type 0 where
   pub usable : store.usable ≡ true
-  pub beside : s.tells ≡ true → IsBeside store.held s
+  pub goes_on : s.tells ≡ true → GoesOn store.held s
 
 -- after a refusal the store is as it was, and the host was at most looked at
 abbrev pub Stays : StoreErr → Kept → Kept → State → State → Type 0

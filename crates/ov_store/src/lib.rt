@@ -8,6 +8,7 @@ mod errors;
 mod laws;
 mod listing;
 mod store;
+mod unready;
 
 pub use errors::StoreErr;
 pub use laws::refusals_are_the_worlds;

@@ -1,6 +1,6 @@
 // The store.
 
-ghost use Rattle.std.specs.Prelude.{◌≡◌, ◌<◌, ◌≤◌, ◌&&◌, not, true, false, None, IfOk, IfErr, IsTrue, OnOk, OnErr, IsErrOf, MatchResult, length, option_map, option_copied, find};
+ghost use Rattle.std.specs.Prelude.{◌≡◌, ◌<◌, ◌≤◌, ◌&&◌, ℕ, List, not, true, false, None, IfOk, IfErr, IsTrue, OnOk, OnErr, IsErrOf, MatchResult, length, option_map, option_copied, find};
 ghost use Rattle.std.specs.List.{All, list_any};
 ghost use Rattle.ov_host.specs.Host.{State};
 ghost use Rattle.ov_host.specs.Stops.{Only};
@@ -10,18 +10,23 @@ ghost use Rattle.ov_value.specs.Shapes.{IsSound};
 ghost use Rattle.ov_value.specs.Spelling.{IsRow};
 ghost use Rattle.ov_model.specs.Moves.{Move, moved};
 ghost use Rattle.ov_model.specs.World.{World};
-ghost use Rattle.ov_core.specs.AtWorld.{IsAtWorld, IsEither};
+ghost use Rattle.ov_core.specs.AtWorld.{IsAtNext, IsAtWorld, IsEither};
 ghost use Rattle.ov_core.specs.Brought.{Brings};
-ghost use Rattle.ov_core.specs.Rooms.{IsMade};
 ghost use Rattle.ov_store.specs.declared.errors.StoreErr.TheVariants as why;
-ghost use Rattle.ov_store.specs.Beginning.{first_move, first_said, init_off, IsShort};
-ghost use Rattle.ov_store.specs.Changes.{IsDone, IsReady, IsRefused, IsUnstored, IsWhy, Says};
+ghost use Rattle.ov_store.specs.Beginning.{first_move, first_of, init_off, IsShort};
+ghost use Rattle.ov_store.specs.Changes.{IsDone, IsReady, IsUnstored, IsWhy, bringing_of};
 ghost use Rattle.ov_store.specs.Dropping.{IsDropped, IsKept, dropped, number_named};
 ghost use Rattle.ov_store.specs.Errors.{is_host, of_change};
 ghost use Rattle.ov_store.specs.Kept.{MayCall, Stays};
 ghost use Rattle.ov_store.specs.Refusals.{new_off};
+ghost use Rattle.ov_store.specs.Unready.{IsFewPages, IsNoRoom, IsUnready};
+ghost use Rattle.ov_store.specs.declared.errors.StoreErr.{StoreErr as StoreErrValue};
+ghost use Rattle.ov_store.specs.declared.unready.Unready.TheVariants as unready;
+ghost use Rattle.ov_writing.specs.Written.{IsLong};
+ghost use Rattle.ov_catalog.specs.Extents.{live};
 
 use crate::errors::StoreErr;
+use crate::unready::Unready;
 use ov_catalog::Catalog;
 use ov_core::{Brought, ChangeErr, Core};
 use ov_host::Host;
@@ -112,15 +117,15 @@ impl Store {
         requires call { MayCall self.old (H.state host.old) }
         requires ready { IsReady brought self.old.held }
         ensures passes { Passes (H.state host.old) (H.state host.new) }
-        ensures made { OnOk result (IsMade self.old.held self.new.held brought) }
-        ensures why { IfErr result (IsUnstored self.old.held brought (H.state host.old) (H.state host.new)) }
+        ensures done { OnOk result (IsDone (bringing_of brought) self.old.held self.new.held) }
+        ensures why { IfErr result (IsUnstored self.old.held (bringing_of brought) (H.state host.old) (H.state host.new)) }
         ensures stays { IfErr result (λ off. Stays off self.old self.new (H.state host.old) (H.state host.new)) }
         ensures usable { OnOk result (MayCall self.new (H.state host.new)) }
         ensures unusable { IsErrOf result StoreErr.Host → self.new.usable ≡ false }
         ensures stops { (w : World) (m : Move) → IsAtWorld w self.old.held (H.state host.old) → Brings m w brought
             → Only (H.state host.old).tape (H.state host.new).tape (IsEither w (moved m w) (H.state host.old).tape.disk.printed) }
         ensures moves { (w : World) (m : Move) → IsAtWorld w self.old.held (H.state host.old) → Brings m w brought
-            → OnOk result (IsAtWorld (moved m w) self.new.held (H.state host.new)) }
+            → OnOk result (IsAtNext (moved m w) self.new.held (H.state host.old) (H.state host.new)) }
     {
         match self.core.add(self.alloc, host, brought) {
             Ok(()) => Ok(()),
@@ -128,17 +133,34 @@ impl Store {
         }
     }
 
+    // Why a call isn't done whose version isn't ready.
+    fn unready(&mut self, why: Unready) -> StoreErr
+        requires long { IsFewPages why }
+        ensures off { (refusal : StoreErrValue) → why ≡ unready.Off refusal → result ≡ refusal }
+        ensures long { (list_pages segment_pages : ℕ) (list segment : List ℕ) → why ≡ unready.TooLong list_pages segment_pages
+            → IsLong list_pages segment_pages list segment → IsNoRoom (live self.old.held.numbers) list segment result }
+        ensures same { self.new ≡ self.old }
+    {
+        match why {
+            Unready::Off(refusal) => refusal,
+            Unready::TooLong {
+                list_pages,
+                segment_pages,
+            } => StoreErr::from(self.core.refuse_long(list_pages, segment_pages)),
+        }
+    }
+
     // What a dataset of these rows brings.
-    fn first(&self, name: &Txt, schema: &Schema, rows: Vec<Row>) -> Result<Brought, StoreErr>
+    fn first(&self, name: &Txt, schema: &Schema, rows: Vec<Row>) -> Result<Brought, Unready>
         requires name { IsTrue (is_a_name name.now) }
         requires sound { IsSound schema.now }
         requires fit { All (IsRow schema.now) rows.items }
         requires short { All IsShort rows.items }
-        ensures says { IfOk result (λ b. Says b (first_said name.now schema.now rows.items)) }
         ensures ready { IfOk result (λ b. IsReady b self.now.held) }
         ensures allowed { OnOk result (init_off self.now.held name.now schema.now rows.items ≡ None) }
         ensures few { OnOk result (length rows.items ≤ 1000000) }
-        ensures why { IfErr result (IsRefused (init_off self.now.held name.now schema.now rows.items)) }
+        ensures is { IfOk result (λ b. bringing_of b ≡ first_of name.now schema.now rows.items) }
+        ensures why { IfErr result (IsUnready (init_off self.now.held name.now schema.now rows.items) (first_of name.now schema.now rows.items)) }
         ensures brings { (w : World) (s : State) → IsAtWorld w self.now.held s → IfOk result (Brings (first_move name.now schema.now rows.items) w) }
     {
         self.may_begin(name)?;
@@ -150,7 +172,7 @@ impl Store {
     /// Makes a dataset with version 1, of these rows.
     ///
     /// Refusals in their order: `CvdExists`, `TooManyCvds`, `NoNumbers`, `TooManyRows`, `DuplicateKey`, `FormatOne`, `Full`,
-    /// `JournalFull`. All memory is taken before the first write; a change costs the writes of its list, its segment and its
+    /// `JournalFull`. All memory is taken before the first write; an `init` costs the writes of its list, its segment and its
     /// record, and three syncs.
     pub fn init<H: Host>(
         &mut self,
@@ -164,10 +186,10 @@ impl Store {
         requires fit { All (IsRow schema) rows.items }
         requires short { All IsShort rows.items }
         ensures passes { Passes (H.state host.old) (H.state host.new) }
-        ensures done { OnOk result (IsDone (first_said name.now schema rows.items) self.old.held self.new.held) }
+        ensures done { OnOk result (IsDone (first_of name.now schema rows.items) self.old.held self.new.held) }
         ensures allowed { OnOk result (init_off self.old.held name.now schema rows.items ≡ None) }
         ensures made { IfOk result (λ made. made ≡ record { vid = 1; rows = length rows.items; fresh = length rows.items }) }
-        ensures why { IfErr result (IsWhy (init_off self.old.held name.now schema rows.items) (first_said name.now schema rows.items)
+        ensures why { IfErr result (IsWhy (init_off self.old.held name.now schema rows.items) (first_of name.now schema rows.items)
             self.old.held (H.state host.old) (H.state host.new)) }
         ensures stays { IfErr result (λ off. Stays off self.old self.new (H.state host.old) (H.state host.new)) }
         ensures usable { OnOk result (MayCall self.new (H.state host.new)) }
@@ -176,10 +198,13 @@ impl Store {
             → Only (H.state host.old).tape (H.state host.new).tape
             (IsEither w (moved (first_move name.now schema rows.items) w) (H.state host.old).tape.disk.printed) }
         ensures moves { (w : World) → IsAtWorld w self.old.held (H.state host.old)
-            → OnOk result (IsAtWorld (moved (first_move name.now schema rows.items) w) self.new.held (H.state host.new)) }
+            → OnOk result (IsAtNext (moved (first_move name.now schema rows.items) w) self.new.held (H.state host.old) (H.state host.new)) }
     {
         let count = rows.len();
-        let brought = self.first(name, &schema, rows)?;
+        let brought = match self.first(name, &schema, rows) {
+            Ok(brought) => brought,
+            Err(why) => return Err(self.unready(why)),
+        };
         self.change(host, brought)?;
         let count = count as u32;
         Ok(Committed {
@@ -209,7 +234,7 @@ impl Store {
         ensures stops { (w : World) → IsAtWorld w self.old.held (H.state host.old)
             → Only (H.state host.old).tape (H.state host.new).tape (IsEither w (dropped name.now w) (H.state host.old).tape.disk.printed) }
         ensures moves { (w : World) → IsAtWorld w self.old.held (H.state host.old)
-            → OnOk result (IsAtWorld (dropped name.now w) self.new.held (H.state host.new)) }
+            → OnOk result (IsAtNext (dropped name.now w) self.new.held (H.state host.old) (H.state host.new)) }
     {
         let Some(cvd) = self.number_of(name) else {
             return Err(StoreErr::NoCvd);

@@ -2,7 +2,7 @@ use Rattle.std.proofs.Common.{◌≡◌, ◌∙◌, sym, ap, subst}
 use Rattle.std.specs.Prelude.{Some}
 use Rattle.ov_host.specs.Stops.{Only}
 use Rattle.ov_model.specs.Moves.{Drop, moved}
-use Rattle.ov_core.specs.AtWorld.{IsAtWorld, IsEither}
+use Rattle.ov_core.specs.AtWorld.{IsAtNext, IsAtWorld, IsEither}
 use Rattle.ov_core.specs.Held.{Held}
 use Rattle.ov_store.specs.Dropping.{dropped, number_named}
 use Rattle.ov_store.proofs.Dropping.{drop_applies, drop_fits, drop_is}
@@ -26,7 +26,7 @@ returns-in-Ok-clause-stops g c = λ w at.
 
 pub returns-in-Ok-clause-moves : goal.returns-in-Ok-clause-moves
 returns-in-Ok-clause-moves g c = λ w at.
-    subst (λ v. IsAtWorld v c.drop_cvd.new.self (g.H.Host.state c.drop_cvd.new.host))
+    subst (λ v. IsAtNext v c.drop_cvd.new.self (g.H.Host.state c.args.host.now) (g.H.Host.state c.drop_cvd.new.host))
     (drop_is w c.args.self.now.held (g.H.Host.state c.args.host.now) at c.args.name.now c.in-Some.cvd (sym c.in-Some.ensures))
     (c.in-Ok.ensures.done w (subst (λ held. IsAtWorld w held (g.H.Host.state c.args.host.now)) (sym (ap (λ kept. kept.held) c.self.view_is)) at)
     (drop_fits w c.args.self.now.held (g.H.Host.state c.args.host.now) at c.args.name.now c.in-Some.cvd (sym c.in-Some.ensures)))
