@@ -8,11 +8,11 @@ use Rattle.ov_store.specs.Unready.{IsNoRoom}
 use Rattle.ov_store.proofs.Unreadying.{no_room}
 use Rattle.ov_store.proofs.store.Store.unready.Goals as goal
 
-list_in : Unready → ℕ
+abbrev list_in : Unready → ℕ
 list_in (Off refusal) = 0
 list_in (TooLong list_pages segment_pages) = list_pages
 
-segment_in : Unready → ℕ
+abbrev segment_in : Unready → ℕ
 segment_in (Off refusal) = 0
 segment_in (TooLong list_pages segment_pages) = segment_pages
 
@@ -22,4 +22,4 @@ returns-in-TooLong-clause-long c = λ list_pages segment_pages list segment is l
     in subst (λ (held : Held). IsNoRoom (live held.numbers) list segment c.from.result) (ap (λ kept. kept.held) c.self.view_is)
     (subst (IsNoRoom (live c.self.inside.core.numbers) list segment) (sym c.from.ensures)
     (no_room (live c.self.inside.core.numbers) list segment c.refuse_long.result
-    (c.refuse_long.ensures.why list segment (sym long.0 ∙ sym (ap list_in same)) (sym long.1 ∙ sym (ap segment_in same)))))
+    (c.refuse_long.ensures.why list segment (sym (ap list_in same ∙ long.0)) (sym (ap segment_in same ∙ long.1)))))
