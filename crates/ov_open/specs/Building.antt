@@ -29,7 +29,7 @@ of_pages (pages.TooHigh page) = errors.Damaged Pages page
 of_pages (pages.Overlap page) = errors.Damaged Pages page
 of_pages pages.Memory = errors.Memory
 
--- the gate's place as a u64, or the greatest u64 where it would pass that
+-- the place of that gate, or the greatest u64 where it would pass that
 abbrev pub gate_within : ℕ → List (List ℕ) → ℕ
 gate_within start payloads = min (gate_behind start payloads) (2 ^ 64 - 1)
 
@@ -38,7 +38,7 @@ pub record IsBuilt (numbers : journals.Numbers) (payloads : List (List ℕ)) (th
   pub replays : IsReplay payloads held.numbers
   pub apart : AreApart (live held.numbers) there
 
--- the first payload that spells no event that follows, behind a record that ends there
+-- the place is that of the gate of the first record whose payload spells no event that follows
 pub record StopsWithin (start : ℕ) (payloads : List (List ℕ)) (place : ℕ) : Type 0 where
   pub nth : ℕ
   pub stops : IsStopped payloads nth

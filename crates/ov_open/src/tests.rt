@@ -107,7 +107,7 @@ const HOSTILE: [(usize, &[u8], &[(usize, u8)], Named); 18] = [
     (PAGES, &[], &[(20, 37)], Named::Journal(12)),
     (PAGES, &[], &[(20, 104)], Named::Journal(12)),
     (PAGES, &[], &[(42, 61)], Named::Journal(38)),
-    // An unknown event, a key column that isn't there, a list of no rows.
+    // An unknown event, a key column that isn't there, a list though there are no rows.
     (PAGES, &[], &[(43, 10)], Named::Journal(38)),
     (PAGES, &[], &[(82, 3)], Named::Journal(38)),
     (PAGES, &[], &[(86, 0)], Named::Journal(38)),
