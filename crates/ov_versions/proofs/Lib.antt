@@ -9,3 +9,4 @@ pub mod Picked
 pub mod Gatherings
 pub mod Passed
 pub mod Ending
+pub mod Shows

@@ -1,6 +1,6 @@
 -- The rows of versions, with so many partitions passed.
 use Rattle.std.proofs.Common.{◌≡◌, ◌<◌, ◌≤◌, ◌+◌, ◌-◌, ◌*◌, ◌/◌, ◌⊎◌, ℕ, zero, suc, Bool, true, false, Option, Some, None, List, [], ◌∷◌, ◌++◌, length, map, take, get_or, refl, sym, ◌∙◌, ap, subst, inl, inr, arith}
-use Rattle.std.specs.Prelude.{cond, ◌||◌, find, slice_get}
+use Rattle.std.specs.Prelude.{cond, ◌||◌, find, is_some, slice_get}
 use Rattle.std.specs.List.{All, AllZip, Contains, list_any, sum_by}
 use Rattle.std.proofs.lemmas.Bool.{cases_Bool}
 use Rattle.std.proofs.lemmas.List.{length-map, get_or-map}
@@ -11,7 +11,7 @@ use Rattle.ov_host.specs.declared.area.Extent.{Extent}
 use Rattle.ov_host.specs.Extent.{pages_of}
 use Rattle.ov_host.specs.Host.{State}
 use Rattle.ov_layout.specs.declared.part.Part.{Part}
-use Rattle.ov_layout.specs.Parts.{is_placed, serves as serves_in, times_placed}
+use Rattle.ov_layout.specs.Parts.{is_placed, part_with, serves as serves_in, times_placed}
 use Rattle.ov_layout.proofs.PlacedLemmas.{times-cons, placed-somewhere, once-rest}
 use Rattle.ov_member.specs.Rids.{has}
 use Rattle.ov_value.specs.declared.value.Value.{Value}
@@ -242,3 +242,16 @@ stops s0 s1 d vids lists k part group (Damaged page) low is once grouped looked 
     twice : (ps : List ℕ) → map (list_of (set_in d)) (numbers_at vids ps) ≡ map (λ (p : ℕ). list_of (set_in d) (get_or vids p 0)) ps
     twice [] = refl
     twice (p ∷ ps) = ap (λ l. list_of (set_in d) (get_or vids p 0) ∷ l) (twice ps)
+
+-- ---- whether a version is placed
+
+found_some : (vid : ℕ) (parts : List Part) → is_some (part_with vid parts) ≡ is_placed parts vid
+found_some vid [] = refl
+found_some vid (p ∷ parts) = by (has p.versions vid) (found_some vid parts)
+  where
+    by : (b : Bool) → is_some (part_with vid parts) ≡ is_placed parts vid → is_some (cond b (Some p) (part_with vid parts)) ≡ (b || is_placed parts vid)
+    by true e = refl
+    by false e = e
+
+pub served_is : (d : Cvd) (vid : ℕ) (found : Option Part) → found ≡ part_with vid d.layout.parts → is_some found ≡ is_served (set_in d) vid
+served_is d vid found is = ap is_some is ∙ (found_some vid d.layout.parts ∙ sym (any_parts vid d.layout.parts))

@@ -6,3 +6,4 @@ pub mod Counting
 pub mod Partitions
 pub mod Gathering
 pub mod Gathered
+pub mod OfWorld

@@ -15,4 +15,7 @@ mod scans;
 
 pub use lists::lists_of;
 pub use partitions::rids_in_part;
-pub use scans::scan_versions;
+pub use scans::{has_version, scan_versions};
+
+#[cfg(test)]
+mod tests;

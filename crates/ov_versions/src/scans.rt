@@ -1,6 +1,6 @@
 // The rows of versions.
 
-ghost use Rattle.std.specs.Prelude.{◌≡◌, ◌≤◌, ◌+◌, ℕ, true, All, IfOk, IsErrOf, MatchResult};
+ghost use Rattle.std.specs.Prelude.{◌≡◌, ◌↔◌, ◌≤◌, ◌+◌, ℕ, true, IsTrue, All, IfOk, IsErrOf, MatchResult};
 ghost use Rattle.std.specs.List.{AllZip};
 ghost use Rattle.ov_host.specs.Host.{Rose};
 ghost use Rattle.ov_catalog.specs.Sets.{set_in};
@@ -58,4 +58,15 @@ pub fn scan_versions<H: Host>(
         records: Records::new(records),
         picks: Picks::new(picks),
     })
+}
+
+/// Whether a dataset has a version, in a partition: what is asked of each version that is scanned. It takes the
+/// logarithm of the number of versions and partitions.
+pub fn has_version(d: &Cvd, vid: u32) -> bool
+    ensures { IsTrue result ↔ (IsThere (set_in d.now) vid × (is_served (set_in d.now) vid ≡ true)) }
+{
+    if vid == 0 || vid as usize > d.versions.len() {
+        return false;
+    }
+    d.layout.part_of(vid).is_some()
 }
