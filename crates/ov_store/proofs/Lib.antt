@@ -5,3 +5,4 @@ pub mod Fitting
 pub mod Answering
 pub mod Unreadying
 pub mod Dropping
+pub mod Versions

@@ -2,6 +2,9 @@
 use Rattle.std.specs.Prelude.{Bool, true, false}
 use Rattle.ov_core.specs.declared.errors.ChangeErr.{ChangeErr}
 use Rattle.ov_core.specs.declared.errors.ChangeErr.TheVariants as change
+use Rattle.ov_fetch.specs.declared.errors.FetchErr.{FetchErr}
+use Rattle.ov_fetch.specs.declared.errors.FetchErr.TheVariants as fetch
+use Rattle.ov_host.specs.declared.area.Area.TheVariants.{Pages}
 use Rattle.ov_rows.specs.declared.rows_err.RowsErr.{RowsErr}
 use Rattle.ov_rows.specs.declared.rows_err.RowsErr.TheVariants as rows
 use Rattle.ov_writing.specs.declared.write_err.WriteErr.{WriteErr}
@@ -30,3 +33,8 @@ is_host _ = false
 abbrev pub unready_of : WriteErr → Unready
 unready_of write.Memory = unready.Off why.Memory
 unready_of (write.TooLong list_pages segment_pages) = unready.TooLong list_pages segment_pages
+
+abbrev pub of_fetch : FetchErr → StoreErr
+of_fetch fetch.Host = why.Host
+of_fetch fetch.Memory = why.Memory
+of_fetch (fetch.Damaged page) = why.Damaged Pages page

@@ -6,3 +6,4 @@ pub mod Changes
 pub mod Unready
 pub mod Beginning
 pub mod Dropping
+pub mod Scanning

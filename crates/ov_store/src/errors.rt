@@ -2,9 +2,10 @@
 
 ghost use Rattle.std.specs.Prelude.{◌≡◌};
 ghost use Rattle.ov_store.specs.declared.errors.StoreErr.TheVariants as why;
-ghost use Rattle.ov_store.specs.Errors.{of_change, of_rows};
+ghost use Rattle.ov_store.specs.Errors.{of_change, of_fetch, of_rows};
 
 use ov_core::ChangeErr;
+use ov_fetch::FetchErr;
 use ov_host::Area;
 use ov_rows::RowsErr;
 use std::alloc::{AllocError, AllocFailed};
@@ -84,6 +85,21 @@ impl From<ChangeErr> for StoreErr {
             ChangeErr::Memory => StoreErr::Memory,
             ChangeErr::Full { pages } => StoreErr::Full { pages },
             ChangeErr::JournalFull => StoreErr::JournalFull,
+        }
+    }
+}
+
+impl From<FetchErr> for StoreErr {
+    ghost from_gives = { λ off made. made ≡ of_fetch off };
+
+    fn from(error: FetchErr) -> StoreErr {
+        match error {
+            FetchErr::Host => StoreErr::Host,
+            FetchErr::Memory => StoreErr::Memory,
+            FetchErr::Damaged { page } => StoreErr::Damaged {
+                area: Area::Pages,
+                at: u64::from(page),
+            },
         }
     }
 }

@@ -7,6 +7,7 @@
 mod errors;
 mod laws;
 mod listing;
+mod reading;
 mod store;
 mod unready;
 

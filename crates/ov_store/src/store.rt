@@ -2,9 +2,14 @@
 
 ghost use Rattle.std.specs.Prelude.{◌≡◌, ◌<◌, ◌≤◌, ◌&&◌, ℕ, List, not, true, false, None, IfOk, IfErr, IsTrue, OnOk, OnErr, IsErrOf, MatchResult, length, option_map, option_copied, find};
 ghost use Rattle.std.specs.List.{All, list_any};
-ghost use Rattle.ov_host.specs.Host.{State};
+ghost use Rattle.ov_host.specs.Disk.{AllSettled, as_read};
+ghost use Rattle.ov_host.specs.Host.{Rose, State};
 ghost use Rattle.ov_host.specs.Stops.{Only};
+ghost use Rattle.ov_image.specs.Images.{StandsAs};
 ghost use Rattle.ov_journal.specs.Held.{Passes};
+ghost use Rattle.ov_journal.specs.Opened.{IsLeftByOpen};
+ghost use Rattle.ov_open.specs.Opening.{IsOpened, IsOutside, IsWorld};
+ghost use Rattle.ov_open.specs.Refusing.{Refuses};
 ghost use Rattle.ov_value.specs.Naming.{is_name as is_a_name};
 ghost use Rattle.ov_value.specs.Shapes.{IsSound};
 ghost use Rattle.ov_value.specs.Spelling.{IsRow};
@@ -30,6 +35,7 @@ use crate::unready::Unready;
 use ov_catalog::Catalog;
 use ov_core::{Brought, ChangeErr, Core};
 use ov_host::Host;
+use ov_open::{OpenErr, open as open_core};
 use ov_rows::version_rows;
 use ov_value::{Row, Schema, Txt};
 use ov_writing::first_version;
@@ -54,9 +60,9 @@ pub struct Committed {
 /// can be used: after a fault of the host in a call that writes it can't, and is opened again.
 #[derive(Debug, Drop)]
 pub struct Store {
-    alloc: Global,
-    core: Core,
-    usable: bool,
+    pub(crate) alloc: Global,
+    pub(crate) core: Core,
+    pub(crate) usable: bool,
 }
 
 impl Model for Store {
@@ -68,6 +74,32 @@ impl Model for Store {
 }
 
 impl Store {
+    /// Opens the store that a host keeps, or makes an empty one where there is none yet. No page is read.
+    ///
+    /// `NotAStore`, `Format` and `Damaged` by the bytes as they read, which stay as they were. Where the bytes stand for a World,
+    /// the store is at it.
+    pub fn open<H: Host>(alloc: Global, host: &mut H) -> Result<Store, OpenErr>
+        ensures passes { Passes (H.state host.old) (H.state host.new) }
+        ensures cause { IsErrOf result OpenErr.Host → Rose (H.state host.old).faults (H.state host.new).faults }
+        ensures usable { IfOk result (λ store. MayCall store (H.state host.new)) }
+        ensures answer { (H.state host.old).tells ≡ true → MatchResult result
+            (λ store. IsOpened (H.state host.old).tape.disk store.held (H.state host.new))
+            (λ why. Refuses why (H.state host.old).tape.disk (H.state host.new).tape.disk) }
+        ensures world { (w : World) → (H.state host.old).tells ≡ true → StandsAs w (as_read (H.state host.old).tape.disk)
+            → MatchResult result (λ store. IsAtWorld w store.held (H.state host.new)) IsOutside }
+        ensures left { (H.state host.old).tells ≡ true → Only (H.state host.old).tape (H.state host.new).tape
+            (IsLeftByOpen (H.state host.old).tape.disk) }
+        ensures stops { (w : World) → (H.state host.old).tells ≡ true → AllSettled (H.state host.old).tape.disk
+            → StandsAs w (as_read (H.state host.old).tape.disk)
+            → Only (H.state host.old).tape (H.state host.new).tape (IsWorld w (H.state host.old).tape.disk.printed) }
+    {
+        Ok(Store {
+            alloc,
+            core: open_core(alloc, host)?,
+            usable: true,
+        })
+    }
+
     /// Whether the store can be used.
     pub fn usable(&self) -> bool
         ensures { result ≡ self.now.usable }
