@@ -5,6 +5,10 @@
 //! `ov_catalog`, `ov_image` and `ov_versions`.
 #![tactic(auto)]
 
+mod listing;
+mod parting;
 mod seeing;
 
+pub use listing::lists_are_seen;
+pub use parting::partitions_are_seen;
 pub use seeing::{datasets_are_found, numbers_are_seen};
