@@ -4,3 +4,9 @@ pub mod Parting
 pub mod Numbered
 pub mod Uniting
 pub mod Matching
+pub mod Placing
+pub mod Picked
+pub mod Gatherings
+pub mod Passed
+pub mod Ending
+pub mod Shows

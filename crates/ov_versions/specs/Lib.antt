@@ -1,5 +1,9 @@
 pub mod Agreement
-pub mod Counting
 pub mod Damages
-pub mod Partitions
 pub mod Sizes
+pub mod Found
+pub mod Counting
+pub mod Partitions
+pub mod Gathering
+pub mod Gathered
+pub mod OfWorld

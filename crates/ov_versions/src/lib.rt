@@ -6,8 +6,16 @@
 #![tactic(auto)]
 
 mod agreeing;
+mod gathering;
+mod grouping;
 mod lists;
 mod partitions;
+mod picking;
+mod scans;
 
 pub use lists::lists_of;
 pub use partitions::rids_in_part;
+pub use scans::{has_version, scan_versions};
+
+#[cfg(test)]
+mod tests;

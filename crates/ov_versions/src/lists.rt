@@ -1,6 +1,6 @@
 // The lists of versions.
 
-ghost use Rattle.std.specs.Prelude.{◌≡◌, ◌≤◌, ◌+◌, ◌^◌, true, All, IfOk, IsErrOf, MatchResult};
+ghost use Rattle.std.specs.Prelude.{◌≡◌, ◌≤◌, ◌+◌, ◌^◌, true, map, All, IfOk, IsErrOf, MatchResult};
 ghost use Rattle.std.specs.List.{AllZip};
 ghost use Rattle.ov_host.specs.Host.{Rose};
 ghost use Rattle.ov_catalog.specs.Sets.{set_in};
@@ -8,6 +8,8 @@ ghost use Rattle.ov_fetch.specs.Extents.{Looked, page_bytes, IsList};
 ghost use Rattle.ov_versions.specs.Agreement.{IsThere, list_of, records_after, Agrees, IsBorneOut};
 ghost use Rattle.ov_versions.specs.Counting.{AreCounts, RefusesTested, capped};
 ghost use Rattle.ov_versions.specs.Damages.{RefusesList, RefusesLists};
+ghost use Rattle.ov_model.specs.World.{Dataset, World};
+ghost use Rattle.ov_versions.specs.OfWorld.{IsSetOf, IsSpared, rids_in};
 ghost use Rattle.ov_versions.specs.Sizes.{list_bytes_for};
 
 use crate::agreeing::is_borne_out;
@@ -33,6 +35,30 @@ pub fn lists_of<H: Host>(
     ensures fetched { (H.state host.new).fetched ≤ (H.state host.old).fetched + list_bytes_for (set_in d.now) vids.now }
 
     // On every host each list has as many rids as its version has rows, and no rid that came later.
+    ensures agree { IfOk result (λ lists. AllZip (Agrees (set_in d.now)) vids.now lists.items) }
+    ensures answer { (H.state host.old).tells ≡ true → MatchResult result
+        (λ lists. AllZip (λ vid. IsList (page_bytes (H.state host.old)) (list_of (set_in d.now) vid)) vids.now lists.items)
+        (λ e. RefusesLists e (page_bytes (H.state host.old)) (set_in d.now) vids.now) }
+
+    // Where the pages stand for a World, nothing is damaged, and each list has the rids of its version's records.
+    ensures world { (H.state host.old).tells ≡ true → (w : World) (ds : Dataset)
+        → IsSetOf w ds (page_bytes (H.state host.old)) (set_in d.now)
+        → MatchResult result (λ lists. lists.items ≡ map (rids_in ds) vids.now) IsSpared }
+{
+    read_lists(alloc, host, d, vids)
+}
+
+// The lists of these versions.
+fn read_lists<H: Host>(
+    alloc: Global,
+    host: &mut H,
+    d: &Cvd,
+    vids: &[u32],
+) -> Result<Vec<Members>, FetchErr>
+    requires { All (IsThere (set_in d.now)) vids.now }
+    ensures looked { Looked (H.state host.old) (H.state host.new) }
+    ensures cause { IsErrOf result FetchErr.Host → Rose (H.state host.old).faults (H.state host.new).faults }
+    ensures fetched { (H.state host.new).fetched ≤ (H.state host.old).fetched + list_bytes_for (set_in d.now) vids.now }
     ensures agree { IfOk result (λ lists. AllZip (Agrees (set_in d.now)) vids.now lists.items) }
     ensures answer { (H.state host.old).tells ≡ true → MatchResult result
         (λ lists. AllZip (λ vid. IsList (page_bytes (H.state host.old)) (list_of (set_in d.now) vid)) vids.now lists.items)
