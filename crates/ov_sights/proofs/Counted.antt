@@ -14,7 +14,9 @@ use Rattle.ov_catalog.specs.Shown.{Rids, shown_version, shown_versions, shown_se
 use Rattle.ov_fitting.proofs.Seeing.{versions_long, rows_shown}
 use Rattle.ov_image.specs.Pages.{readings_of}
 use Rattle.ov_versions.specs.Agreement.{Numbers, rows_of, records_after}
-use Rattle.ov_sights.specs.Sights.{Shows, IsSight, HasNumbers}
+use Rattle.ov_versions.specs.OfWorld.{IsSetOf}
+use Rattle.ov_sights.specs.Sights.{HasNumbers}
+use Rattle.ov_sights.proofs.Founds.{Shows}
 
 module _ {L M : Type 0} (f : L → M) where
   each_rows : (vs : List (VersionNumbers L)) → map (λ v. v.rows) (map (each_version f) vs) ≡ map (λ v. v.rows) vs
@@ -48,9 +50,9 @@ pub shown_rows : (all : List Rec) (done : List (List Rec)) (vs : List Version)
 shown_rows all done [] = refl
 shown_rows all done (v ∷ vs) = ap (λ ns. length v.rows ∷ ns) (shown_rows all (done ++ records_of v done ∷ []) vs)
 
-pub numbers : (w : World) (area : List ℕ) (s : Numbers) (d : Dataset) → IsSight w area s d → HasNumbers s d
-numbers w area s d sight =
-    let shows : Shows area s d = sight.shows
+pub numbers : (w : World) (area : List ℕ) (s : Numbers) (d : Dataset) → IsSetOf w d area s → HasNumbers s d
+numbers w area s d of_world =
+    let shows : Shows area s d = of_world.shows
     in let all : List Rec = order_of d.cvd.versions
     in record {
       number = ap (λ x. x.number) shows;

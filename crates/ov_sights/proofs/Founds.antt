@@ -1,5 +1,5 @@
 -- The dataset that a catalog finds is the World's.
-use Rattle.std.proofs.Common.{◌≡◌, ℕ, Bool, true, false, ◌==◌, List, [], ◌∷◌, map, cond, refl, ap, subst, inl, inr}
+use Rattle.std.proofs.Common.{◌≡◌, ℕ, Bool, true, false, ◌==◌, List, [], ◌∷◌, map, cond, refl, sym, ◌∙◌, ap, subst, inl, inr}
 use Rattle.std.specs.Prelude.{if◌then◌else◌, Option, Some, None, unwrap_or}
 use Rattle.std.specs.List.{find}
 use Rattle.std.specs.Str.{bytes_eq}
@@ -13,13 +13,19 @@ use Rattle.ov_catalog.specs.Numbers.{Numbers as Catalog, each_set}
 use Rattle.ov_catalog.specs.Reached.{Reached}
 use Rattle.ov_catalog.specs.Shown.{shown_set}
 use Rattle.ov_catalog.specs.Stands.{asked, seen}
+use Rattle.std.proofs.lemmas.Bool.{eqb-true, eq-eqb}
+use Rattle.ov_catalog.proofs.Good.{NoneNumbered, Distinct, good}
 use Rattle.ov_catalog.proofs.Members.{heads, tails}
 use Rattle.ov_image.specs.Pages.{readings_of}
 use Rattle.ov_versions.specs.Agreement.{Numbers}
-use Rattle.ov_sights.specs.Sights.{Shows, IsSight, IsFound}
+use Rattle.ov_versions.specs.OfWorld.{IsSetOf, seen_set, asked_set}
+use Rattle.ov_sights.specs.Sights.{IsFound}
 
 some_is : {A : Type 0} (a b : A) → Some a ≡ Some b → a ≡ b
 some_is a b e = ap (λ o. unwrap_or o a) e
+
+abbrev pub Shows : List ℕ → Numbers → Dataset → Type 0
+Shows area s d = seen_set (readings_of area) s ≡ asked_set d
 
 abbrev AreShown : List ℕ → List Numbers → List Dataset → Type 0
 AreShown area ss ds = map (each_set (readings_of area).list (readings_of area).segment) ss ≡ map (each_set Some Some) (map shown_set ds)
@@ -57,8 +63,49 @@ module _ (area : List ℕ) (p : Numbers → Bool) (q : Dataset → Bool) (same :
 sets_shown : (w : World) (n : Catalog Extent Extent) (area : List ℕ) → seen (readings_of area) n ≡ asked w → AreShown area n.sets w.sets
 sets_shown w n area shows = ap (λ x. x.sets) shows
 
+-- ---- the dataset of its number
+
+not_both : (b : Bool) → b ≡ true → b ≡ false → ⊥
+not_both true e f = cc
+not_both false e f = cc
+
+other_number : (number : ℕ) (ds : List Dataset) (d : Dataset) → NoneNumbered number ds → IsIn ds d → d.cvd.number ≡ number → ⊥
+other_number number [] d none is same = is
+other_number number (x ∷ ds) d none (inl here) same = none.0 (ap (λ y. y.cvd.number) (sym here) ∙ same)
+other_number number (x ∷ ds) d none (inr later) same = other_number number ds d none.1 later same
+
+is_first : (ds : List Dataset) (d : Dataset) → Distinct ds → IsIn ds d → first_set (moves.numbered d.cvd.number) ds ≡ Some d
+is_first [] d distinct is = absurd is
+is_first (x ∷ ds) d distinct is =
+    by (x.cvd.number == d.cvd.number) is (λ same. eq-eqb x.cvd.number d.cvd.number same) (λ e. eqb-true x.cvd.number d.cvd.number e) (λ later. is_first ds d distinct.1 later)
+  where
+    by : (b : Bool) → IsIn (x ∷ ds) d → (x.cvd.number ≡ d.cvd.number → b ≡ true) → (b ≡ true → x.cvd.number ≡ d.cvd.number)
+        → (IsIn ds d → first_set (moves.numbered d.cvd.number) ds ≡ Some d) → (if b then Some x else first_set (moves.numbered d.cvd.number) ds) ≡ Some d
+    by true (inl here) test back rest = ap Some (sym here)
+    by true (inr later) test back rest = absurd (other_number x.cvd.number ds d distinct.0 later (sym (back refl)))
+    by false (inl here) test back rest = absurd (not_both false (test (ap (λ y. y.cvd.number) (sym here))) refl)
+    by false (inr later) test back rest = rest later
+
+pub first_in : (q : Dataset → Bool) (ds : List Dataset) (d : Dataset) → first_set q ds ≡ Some d → IsIn ds d
+first_in q [] d e = cc
+first_in q (x ∷ ds) d e = by (q x) e (λ later. first_in q ds d later)
+  where
+    by : (b : Bool) → (if b then Some x else first_set q ds) ≡ Some d → (first_set q ds ≡ Some d → IsIn ds d) → IsIn (x ∷ ds) d
+    by true here rest = inl (sym (some_is x d here))
+    by false later rest = inr (rest later)
+
 found : (w : World) (area : List ℕ) (s : Numbers) (o : Option Dataset) → Reached w → ((d : Dataset) × ((o ≡ Some d) × IsIn w.sets d × Shows area s d)) → IsFound w area s o
-found w area s o reached it = record { set = it.0; is = it.1.0; sight = record { reached = reached; one = it.1.1; shows = it.1.2 } }
+found w area s o reached it =
+    let number : s.number ≡ it.0.cvd.number = ap (λ x. x.number) it.1.2
+    in record {
+      set = it.0;
+      is = it.1.0;
+      of_world = record {
+        reached = reached;
+        among = ap (λ n. first_set (moves.numbered n) w.sets) number ∙ is_first w.sets it.0 (good w reached).distinct it.1.1;
+        shows = it.1.2;
+      };
+    }
 
 same_name : (area name : List ℕ) (s : Numbers) (d : Dataset) → Shows area s d → is_named name s ≡ named name d
 same_name area name s d shows = ap (λ x. bytes_eq x.name name) shows

@@ -20,7 +20,7 @@ use Rattle.ov_catalog.specs.Shown.{Rids, shown_versions}
 use Rattle.ov_catalog.proofs.Members.{of_map, of_sorted}
 use Rattle.ov_versions.specs.Agreement.{Numbers, nowhere, list_of, rows_of, records_after, IsThere, IsBorneOut, Agrees}
 use Rattle.ov_versions.specs.Damages.{IsBadList}
-use Rattle.ov_sights.specs.Sights.{IsSight, rids_at}
+use Rattle.ov_versions.specs.OfWorld.{IsSetOf, rids_in}
 use Rattle.ov_sights.proofs.Counted.{numbers, shown_rows}
 use Rattle.ov_sights.proofs.Orders.{all_of, sorted_long, rid_before}
 
@@ -42,33 +42,33 @@ some_at g [] k x o low = absurd (omega (arith, low))
 some_at g (y ∷ xs) zero x o low = refl
 some_at g (y ∷ xs) (suc k) x o low = some_at g xs k x o (omega (arith, low))
 
-list_read : (w : World) (area : List ℕ) (s : Numbers) (d : Dataset) (vid : ℕ) → IsSight w area s d → IsThere s vid
-    → (readings_of area).list (list_of s vid) ≡ Some (rids_at d vid)
-list_read w area s d vid sight there =
+list_read : (w : World) (area : List ℕ) (s : Numbers) (d : Dataset) (vid : ℕ) → IsSetOf w d area s → IsThere s vid
+    → (readings_of area).list (list_of s vid) ≡ Some (rids_in d vid)
+list_read w area s d vid of_world there =
     let read : Extent → Option Rids = (readings_of area).list
     in let all : List Rec = order_of d.cvd.versions
     in let done : List (List Rec) = recs d.cvd.versions []
     in let count : length done ≡ 0 + length d.cvd.versions = length_recs d.cvd.versions []
-    in let low : vid - 1 < length done = omega (arith, there.0, there.1, count, (numbers w area s d sight).versions)
+    in let low : vid - 1 < length done = omega (arith, there.0, there.1, count, (numbers w area s d of_world).versions)
     in sym (get_or-map read (map (λ v. v.list) s.versions) (vid - 1) nowhere)
     ∙ ap (λ ls. get_or ls (vid - 1) (read nowhere)) (sym (each_lists read s.versions))
-    ∙ ap (λ x. get_or (map (λ v. v.list) x.versions) (vid - 1) (read nowhere)) sight.shows
+    ∙ ap (λ x. get_or (map (λ v. v.list) x.versions) (vid - 1) (read nowhere)) of_world.shows
     ∙ ap (λ ls. get_or ls (vid - 1) (read nowhere)) (each_lists Some (shown_versions all [] d.cvd.versions) ∙ ap (map Some) (sym (shown_lists all [] d.cvd.versions)))
     ∙ some_at (shown.list_of all) done (vid - 1) [] (read nowhere) low
 
-pub is_list : (w : World) (area : List ℕ) (s : Numbers) (d : Dataset) (vid : ℕ) → IsSight w area s d → IsThere s vid
-    → IsList area (list_of s vid) (rids_at d vid)
-is_list w area s d vid sight there =
-    let both = (list_is area (list_of s vid) (rids_at d vid)).0 (list_read w area s d vid sight there)
+pub is_list : (w : World) (area : List ℕ) (s : Numbers) (d : Dataset) (vid : ℕ) → IsSetOf w d area s → IsThere s vid
+    → IsList area (list_of s vid) (rids_in d vid)
+is_list w area s d vid of_world there =
+    let both = (list_is area (list_of s vid) (rids_in d vid)).0 (list_read w area s d vid of_world there)
     in record { whole = both.0; spells = both.1 }
 
 some_same : {A : Type 0} (a b : A) → Some a ≡ Some b → a ≡ b
 some_same a b e = ap (λ o. unwrap_or o a) e
 
-pub only : (w : World) (area : List ℕ) (s : Numbers) (d : Dataset) (vid : ℕ) (rids : List ℕ) → IsSight w area s d → IsThere s vid
-    → IsList area (list_of s vid) rids → rids ≡ rids_at d vid
-only w area s d vid rids sight there is =
-    some_same rids (rids_at d vid) (sym ((list_is area (list_of s vid) rids).1 (is.whole, is.spells)) ∙ list_read w area s d vid sight there)
+pub only : (w : World) (area : List ℕ) (s : Numbers) (d : Dataset) (vid : ℕ) (rids : List ℕ) → IsSetOf w d area s → IsThere s vid
+    → IsList area (list_of s vid) rids → rids ≡ rids_in d vid
+only w area s d vid rids of_world there is =
+    some_same rids (rids_in d vid) (sym ((list_is area (list_of s vid) rids).1 (is.whole, is.spells)) ∙ list_read w area s d vid of_world there)
 
 pub rows_long : (vs : List Version) (vid : ℕ) → length (of_version (recs vs []) vid) ≡ length (rows_at vs vid)
 rows_long vs vid =
@@ -76,21 +76,21 @@ rows_long vs vid =
     ∙ ap (λ ns. get_or ns (vid - 1) 0) (shown_rows [] [] vs)
     ∙ get_or-map (λ rows. length rows) (map (λ v. v.rows) vs) (vid - 1) []
 
-pub agrees : (w : World) (area : List ℕ) (s : Numbers) (d : Dataset) (vid : ℕ) → IsSight w area s d → IsThere s vid → Agrees s vid (rids_at d vid)
-agrees w area s d vid sight there =
-    let counts = numbers w area s d sight
+pub agrees : (w : World) (area : List ℕ) (s : Numbers) (d : Dataset) (vid : ℕ) → IsSetOf w d area s → IsThere s vid → Agrees s vid (rids_in d vid)
+agrees w area s d vid of_world there =
+    let counts = numbers w area s d of_world
     in let all : List Rec = order_of d.cvd.versions
     in let rs : List Rec = of_version (recs d.cvd.versions []) vid
     in let last : vid ≤ length d.cvd.versions = omega (arith, there.1, counts.versions)
     in record {
       count_is = sorted_long (λ rid. rid) (map (rid_in all) rs) ∙ length-map rs (rid_in all) ∙ rows_long d.cvd.versions vid ∙ sym (counts.rows vid);
-      below = all_of (λ rid. rid ≤ records_after s vid) (rids_at d vid) (λ rid is.
+      below = all_of (λ rid. rid ≤ records_after s vid) (rids_in d vid) (λ rid is.
           let of = of_map (rid_in all) rs rid (of_sorted (λ n. n) (map (rid_in all) rs) rid is)
           in omega (arith, of.1.1, rid_before d.cvd.versions vid there.0 last of.0 of.1.0, counts.after vid));
     }
 
-pub not_bad : (w : World) (area : List ℕ) (s : Numbers) (d : Dataset) (vid : ℕ) → IsSight w area s d → IsThere s vid → IsBadList area s vid → ⊥
-not_bad w area s d vid sight there (inl (inl short)) = omega (arith, short, (is_list w area s d vid sight there).whole)
-not_bad w area s d vid sight there (inl (inr none)) = none (rids_at d vid) (is_list w area s d vid sight there).spells
-not_bad w area s d vid sight there (inr off) =
-    off.off (subst (Agrees s vid) (sym (only w area s d vid off.rids sight there off.list)) (agrees w area s d vid sight there))
+pub not_bad : (w : World) (area : List ℕ) (s : Numbers) (d : Dataset) (vid : ℕ) → IsSetOf w d area s → IsThere s vid → IsBadList area s vid → ⊥
+not_bad w area s d vid of_world there (inl (inl short)) = omega (arith, short, (is_list w area s d vid of_world there).whole)
+not_bad w area s d vid of_world there (inl (inr none)) = none (rids_in d vid) (is_list w area s d vid of_world there).spells
+not_bad w area s d vid of_world there (inr off) =
+    off.off (subst (Agrees s vid) (sym (only w area s d vid off.rids of_world there off.list)) (agrees w area s d vid of_world there))

@@ -18,6 +18,7 @@ use Rattle.ov_laws.specs.Pieces.{NoTwice, IsPieces, PartsArePieces, HasPieces, A
 use Rattle.ov_laws.specs.Sound.{IsSound}
 use Rattle.ov_model.specs.Holding.{VersionsAreIn, PartsHold, IsHeld, AreHeld}
 use Rattle.ov_model.specs.Lists.{IsIn, AllAreIn, joined}
+use Rattle.ov_model.specs.Moves.{numbered}
 use Rattle.ov_model.specs.Placed.{IsPlaced, ArePlaced, id_times, part_times}
 use Rattle.ov_model.specs.Plans.{pieces_of}
 use Rattle.ov_model.specs.Records.{Rec, recs, order_of, rid_in}
@@ -30,8 +31,10 @@ use Rattle.ov_catalog.proofs.Members.{heads, tails, of_map, of_sorted}
 use Rattle.ov_catalog.proofs.Showing.{PiecesAreIn}
 use Rattle.ov_versions.specs.Agreement.{Numbers, IsThere, IsBorneOut, PartAgrees, AreTogether, serves, is_served}
 use Rattle.ov_versions.specs.Partitions.{IsPartRead}
-use Rattle.ov_sights.specs.Sights.{IsSight, record_in, records_in, contents_of, part_rids}
+use Rattle.ov_versions.specs.OfWorld.{IsSetOf}
+use Rattle.ov_sights.specs.Sights.{record_in, records_in, contents_of, part_rids}
 use Rattle.ov_sights.proofs.Counted.{numbers}
+use Rattle.ov_sights.proofs.Founds.{first_in}
 use Rattle.ov_sights.proofs.Orders.{all_of, sorted_long, rid_low}
 use Rattle.ov_sights.proofs.Rowed.{held_is}
 use Rattle.ov_sights.proofs.Stored.{segments_are, segments_once, rids_most}
@@ -52,10 +55,10 @@ facts_in (x ∷ ds) d (inl same) known placed hold rowed pieces =
     subst Facts (sym same) (record { known = known.0; placed = placed.0; hold = hold.0; rowed = rowed.0; pieces = pieces.0 })
 facts_in (x ∷ ds) d (inr later) known placed hold rowed pieces = facts_in ds d later known.1 placed.1 hold.1 rowed.1 pieces.1
 
-pub facts : (w : World) (area : List ℕ) (s : Numbers) (d : Dataset) → IsSight w area s d → Facts d
-facts w area s d sight =
-    let is : IsGood w = good w sight.reached
-    in facts_in w.sets d sight.one is.known is.placed is.held is.rowed (reached_sound w sight.reached).pieces
+pub facts : (w : World) (area : List ℕ) (s : Numbers) (d : Dataset) → IsSetOf w d area s → Facts d
+facts w area s d of_world =
+    let is : IsGood w = good w of_world.reached
+    in facts_in w.sets d (first_in (numbered s.number) w.sets d of_world.among) is.known is.placed is.held is.rowed (reached_sound w of_world.reached).pieces
 
 -- ---- its partition of a number
 
@@ -74,9 +77,9 @@ part_in area all (p ∷ ps) (q ∷ qs) part same (inr later) =
     let it = part_in area all ps qs part (tails _ _ _ _ same) later
     in (it.0, (inr it.1.0, it.1.1))
 
-pub part_at : (w : World) (area : List ℕ) (s : Numbers) (d : Dataset) (part : PartNumbers Extent) → IsSight w area s d → IsIn s.parts part
+pub part_at : (w : World) (area : List ℕ) (s : Numbers) (d : Dataset) (part : PartNumbers Extent) → IsSetOf w d area s → IsIn s.parts part
     → (q : Part) × (IsIn d.parts q × IsPart area (order_of d.cvd.versions) part q)
-part_at w area s d part sight is = part_in area (order_of d.cvd.versions) s.parts d.parts part (ap (λ x. x.parts) sight.shows) is
+part_at w area s d part of_world is = part_in area (order_of d.cvd.versions) s.parts d.parts part (ap (λ x. x.parts) of_world.shows) is
 
 ids_some : (parts : List Part) (q : Part) → IsIn parts q → 1 ≤ id_times parts q.id
 ids_some [] q is = absurd is
@@ -130,16 +133,16 @@ pub record Read (area : List ℕ) (s : Numbers) (d : Dataset) (part : PartNumber
   pub count : part.records ≡ length (joined pieces)
   pub hold : VersionsAreIn (recs d.cvd.versions []) part.versions (joined pieces)
 
-pub reads : (w : World) (area : List ℕ) (s : Numbers) (d : Dataset) (part : PartNumbers Extent) → IsSight w area s d → IsIn s.parts part
+pub reads : (w : World) (area : List ℕ) (s : Numbers) (d : Dataset) (part : PartNumbers Extent) → IsSetOf w d area s → IsIn s.parts part
     → Read area s d part (pieces_of d.parts part.id)
-reads w area s d part sight is =
+reads w area s d part of_world is =
     let all : List Rec = order_of d.cvd.versions
-    in let fact : Facts d = facts w area s d sight
-    in let it = part_at w area s d part sight is
+    in let fact : Facts d = facts w area s d of_world
+    in let it = part_at w area s d part of_world is
     in let q : Part = it.0
     in let same : pieces_of d.parts part.id ≡ q.pieces = ap (λ x. pieces_of d.parts x.id) it.1.1 ∙ pieces_at d.parts q fact.placed.ids_once it.1.0
     in let whole : IsPieces (recs d.cvd.versions []) q = whole_at (recs d.cvd.versions []) d.parts q fact.pieces.parts it.1.0
-    in let schema : s.schema ≡ d.cvd.schema = (numbers w area s d sight).schema
+    in let schema : s.schema ≡ d.cvd.schema = (numbers w area s d of_world).schema
     in subst (Read area s d part) (sym same) (record {
       read = subst (λ shape. AreSegments shape area part.segments (map (records_in all) q.pieces)) (sym schema)
           (segments_are d.cvd.schema area all part.segments q.pieces
@@ -150,48 +153,48 @@ reads w area s d part sight is =
       hold = subst (λ vids. VersionsAreIn (recs d.cvd.versions []) vids (held q)) (sym (ap (λ x. x.versions) it.1.1)) (hold_at (recs d.cvd.versions []) d.parts q fact.hold it.1.0);
     })
 
-pub read : (w : World) (area : List ℕ) (s : Numbers) (d : Dataset) (part : PartNumbers Extent) → IsSight w area s d
+pub read : (w : World) (area : List ℕ) (s : Numbers) (d : Dataset) (part : PartNumbers Extent) → IsSetOf w d area s
     → IsIn s.parts part → AreSegments s.schema area part.segments (contents_of d part.id)
-read w area s d part sight is = (reads w area s d part sight is).read
+read w area s d part of_world is = (reads w area s d part of_world is).read
 
 pub only : (w : World) (area : List ℕ) (s : Numbers) (d : Dataset) (part : PartNumbers Extent) (contents : List (List Record))
-    → IsSight w area s d → IsIn s.parts part → AreSegments s.schema area part.segments contents → contents ≡ contents_of d part.id
-only w area s d part contents sight is are = segments_once s.schema area part.segments contents (contents_of d part.id) are (read w area s d part sight is)
+    → IsSetOf w d area s → IsIn s.parts part → AreSegments s.schema area part.segments contents → contents ≡ contents_of d part.id
+only w area s d part contents of_world is are = segments_once s.schema area part.segments contents (contents_of d part.id) are (read w area s d part of_world is)
 
-pub records : (w : World) (area : List ℕ) (s : Numbers) (d : Dataset) (part : PartNumbers Extent) → IsSight w area s d
+pub records : (w : World) (area : List ℕ) (s : Numbers) (d : Dataset) (part : PartNumbers Extent) → IsSetOf w d area s
     → IsIn s.parts part → part.records ≡ length (held_by d.parts part.id)
-records w area s d part sight is = (reads w area s d part sight is).count ∙ ap length (sym (held_pieces d.parts part.id))
+records w area s d part of_world is = (reads w area s d part of_world is).count ∙ ap length (sym (held_pieces d.parts part.id))
 
-are_together : (w : World) (area : List ℕ) (s : Numbers) (d : Dataset) (part : PartNumbers Extent) → IsSight w area s d → IsIn s.parts part
+are_together : (w : World) (area : List ℕ) (s : Numbers) (d : Dataset) (part : PartNumbers Extent) → IsSetOf w d area s → IsIn s.parts part
     → AreTogether (map rids_of (contents_of d part.id)) (list_of (order_of d.cvd.versions) (joined (pieces_of d.parts part.id)))
-are_together w area s d part sight is =
-    let it = reads w area s d part sight is
+are_together w area s d part of_world is =
+    let it = reads w area s d part of_world is
     in together (order_of d.cvd.versions) (pieces_of d.parts part.id) it.once it.known
     (rids_most s.schema area (order_of d.cvd.versions) part.segments (pieces_of d.parts part.id) it.read)
 
-pub agrees : (w : World) (area : List ℕ) (s : Numbers) (d : Dataset) (part : PartNumbers Extent) → IsSight w area s d
+pub agrees : (w : World) (area : List ℕ) (s : Numbers) (d : Dataset) (part : PartNumbers Extent) → IsSetOf w d area s
     → IsIn s.parts part → PartAgrees part.records s.records (map rids_of (contents_of d part.id))
-agrees w area s d part sight is =
+agrees w area s d part of_world is =
     let all : List Rec = order_of d.cvd.versions
     in let rs : List Rec = joined (pieces_of d.parts part.id)
-    in let it = reads w area s d part sight is
+    in let it = reads w area s d part of_world is
     in record {
       all = list_of all rs;
-      together = are_together w area s d part sight is;
+      together = are_together w area s d part of_world is;
       borne_out = record {
         count_is = sorted_long (λ n. n) (map (rid_in all) rs) ∙ length-map rs (rid_in all) ∙ sym it.count;
         below = all_of (λ rid. rid ≤ s.records) (list_of all rs) (λ rid there.
             let of = of_map (rid_in all) rs rid (of_sorted (λ n. n) (map (rid_in all) rs) rid there)
-            in omega (arith, of.1.1, rid_low all of.0 (it.known of.0 of.1.0), (numbers w area s d sight).records));
+            in omega (arith, of.1.1, rid_low all of.0 (it.known of.0 of.1.0), (numbers w area s d of_world).records));
       };
     }
 
-pub rids : (w : World) (area : List ℕ) (s : Numbers) (d : Dataset) (part : PartNumbers Extent) (all : List ℕ) → IsSight w area s d
+pub rids : (w : World) (area : List ℕ) (s : Numbers) (d : Dataset) (part : PartNumbers Extent) (all : List ℕ) → IsSetOf w d area s
     → IsIn s.parts part → IsPartRead s.schema area part.segments all → all ≡ part_rids d part.id
-rids w area s d part all sight is it =
+rids w area s d part all of_world is it =
     together_once (map rids_of (contents_of d part.id)) all (list_of (order_of d.cvd.versions) (joined (pieces_of d.parts part.id)))
-    (subst (λ cs. AreTogether (map rids_of cs) all) (only w area s d part it.contents sight is it.read) it.together)
-    (are_together w area s d part sight is)
+    (subst (λ cs. AreTogether (map rids_of cs) all) (only w area s d part it.contents of_world is it.read) it.together)
+    (are_together w area s d part of_world is)
     ∙ ap (list_of (order_of d.cvd.versions)) (sym (held_pieces d.parts part.id))
 
 -- ---- the partition of a version
@@ -216,8 +219,8 @@ served_in area all vid (p ∷ ps) (q ∷ qs) same some =
       | inr none ↦ or_right (has p.versions vid) (list_any (serves vid) ps) (served_in area all vid ps qs (tails _ _ _ _ same) (omega (arith, some, not_listed q.versions vid none)))
     ]
 
-pub served : (w : World) (area : List ℕ) (s : Numbers) (d : Dataset) (vid : ℕ) → IsSight w area s d → IsThere s vid → is_served s vid ≡ true
-served w area s d vid sight there =
-    let last : vid ≤ length d.cvd.versions = omega (arith, there.1, (numbers w area s d sight).versions)
-    in served_in area (order_of d.cvd.versions) vid s.parts d.parts (ap (λ x. x.parts) sight.shows)
-    (omega (arith, (facts w area s d sight).placed.each vid there.0 last))
+pub served : (w : World) (area : List ℕ) (s : Numbers) (d : Dataset) (vid : ℕ) → IsSetOf w d area s → IsThere s vid → is_served s vid ≡ true
+served w area s d vid of_world there =
+    let last : vid ≤ length d.cvd.versions = omega (arith, there.1, (numbers w area s d of_world).versions)
+    in served_in area (order_of d.cvd.versions) vid s.parts d.parts (ap (λ x. x.parts) of_world.shows)
+    (omega (arith, (facts w area s d of_world).placed.each vid there.0 last))

@@ -1,26 +1,16 @@
 -- What a store reads of a dataset where its bytes stand for a World.
---     Shows area s d      the numbers, with what the bytes have at their extents, are those of the dataset
---     IsSight w area s d      it is one of a World that moves reach
---     IsFound w area s found      so is what was found
---     rids_at d vid      the rids of a version's records
+--     IsFound w area s found      a dataset of the World was found, and the numbers and bytes are its own
 --     contents_of d id      the records of a partition's segments, piece after piece
 --     part_rids d id      the rids of the records that it holds
 --     HasNumbers s d      how many versions, rows and records there are
 use Rattle.std.specs.Prelude.{◌≡◌, ℕ, List, [], length, map, take, Option, Some, None}
-use Rattle.ov_model.specs.Lists.{IsIn}
 use Rattle.ov_model.specs.Plans.{pieces_of}
-use Rattle.ov_model.specs.Records.{Rec, recs, of_version, order_of, rid_in, rows_at}
+use Rattle.ov_model.specs.Records.{Rec, order_of, rid_in, rows_at}
 use Rattle.ov_model.specs.World.{Dataset, World}
-use Rattle.ov_catalog.specs.Numbers.{each_set}
-use Rattle.ov_catalog.specs.Reached.{Reached}
-use Rattle.ov_catalog.specs.Shown.{sorted_by, list_of, held_by, shown_set}
+use Rattle.ov_catalog.specs.Shown.{sorted_by, list_of, held_by}
 use Rattle.ov_segment.specs.declared.numbered.Record.{Record}
-use Rattle.ov_image.specs.Pages.{readings_of}
 use Rattle.ov_versions.specs.Agreement.{Numbers, rows_of, records_after}
-
--- ascending; none of a version that isn't there
-abbrev pub rids_at : Dataset → ℕ → List ℕ
-rids_at d vid = list_of (order_of d.cvd.versions) (of_version (recs d.cvd.versions []) vid)
+use Rattle.ov_versions.specs.OfWorld.{IsSetOf}
 
 -- a record as it stands in a segment, and those of a piece, by their rids
 abbrev pub record_in : List Rec → Rec → Record
@@ -36,18 +26,10 @@ contents_of d id = map (records_in (order_of d.cvd.versions)) (pieces_of d.parts
 abbrev pub part_rids : Dataset → ℕ → List ℕ
 part_rids d id = list_of (order_of d.cvd.versions) (held_by d.parts id)
 
-abbrev pub Shows : List ℕ → Numbers → Dataset → Type 0
-Shows area s d = each_set (readings_of area).list (readings_of area).segment s ≡ each_set Some Some (shown_set d)
-
-pub record IsSight (w : World) (area : List ℕ) (s : Numbers) (d : Dataset) : Type 0 where
-  pub reached : Reached w
-  pub one : IsIn w.sets d
-  pub shows : Shows area s d
-
 pub record IsFound (w : World) (area : List ℕ) (s : Numbers) (found : Option Dataset) : Type 0 where
   pub set : Dataset
   pub is : found ≡ Some set
-  pub sight : IsSight w area s set
+  pub of_world : IsSetOf w set area s
 
 -- the numbers are the dataset's, and count its versions, the rows of each, and the records that there were after each
 pub record HasNumbers (s : Numbers) (d : Dataset) : Type 0 where

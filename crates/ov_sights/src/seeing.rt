@@ -11,7 +11,8 @@ ghost use Rattle.ov_catalog.specs.Reached.{Reached};
 ghost use Rattle.ov_catalog.specs.Stands.{asked, seen};
 ghost use Rattle.ov_image.specs.Pages.{readings_of};
 ghost use Rattle.ov_versions.specs.Agreement.{Numbers};
-ghost use Rattle.ov_sights.specs.Sights.{HasNumbers, IsFound, IsSight};
+ghost use Rattle.ov_sights.specs.Sights.{HasNumbers, IsFound};
+ghost use Rattle.ov_versions.specs.OfWorld.{IsSetOf};
 
 /// Where the bytes of a store stand for a World, the dataset that its catalog finds by a name or by a number is the World's,
 /// and where the catalog finds none, the World has none.
@@ -30,5 +31,5 @@ pub fn datasets_are_found()
 
 /// The numbers of a dataset count its versions, their rows, and its records.
 pub fn numbers_are_seen()
-    ensures { (w : World) (area : List ℕ) (s : Numbers) (d : Dataset) → IsSight w area s d → HasNumbers s d }
+    ensures { (w : World) (area : List ℕ) (s : Numbers) (d : Dataset) → IsSetOf w d area s → HasNumbers s d }
 {}
