@@ -1,6 +1,6 @@
 -- The rows of a version in a scan are the version's.
-use Rattle.std.proofs.Common.{◌≡◌, ◌≤◌, ◌<◌, ◌+◌, ◌-◌, ◌==◌, ℕ, zero, suc, cond, List, [], ◌∷◌, ◌++◌, length, map, refl, sym, ◌∙◌, ap, subst, inl, inr, arith}
-use Rattle.std.specs.Prelude.{slice_get, Option, Some, unwrap_or}
+use Rattle.std.proofs.Common.{◌≡◌, ◌≤◌, ◌-◌, ◌==◌, ℕ, zero, suc, cond, List, [], ◌∷◌, map, refl, sym, ◌∙◌, ap, subst, arith}
+use Rattle.std.specs.Prelude.{slice_get, Some, unwrap_or}
 use Rattle.std.specs.List.{All, AllZip}
 use Rattle.std.proofs.lemmas.List.Elements.{All-head, All-tail}
 use Rattle.std.proofs.lemmas.List.Sorted.{list_any-IsPermutation, sum_by-IsPermutation}
@@ -14,7 +14,6 @@ use Rattle.ov_fetch.specs.Rows.{record_of}
 use Rattle.ov_fetch.specs.Scans.{row_at, rows_of, rows_at as picked_rows}
 use Rattle.ov_fitting.proofs.Counts.{are_at}
 use Rattle.ov_model.specs.Assigned.{stored, stored_parents}
-use Rattle.ov_model.specs.Book.{Row}
 use Rattle.ov_model.specs.Lists.{IsIn, IsBelow, Rises, joined}
 use Rattle.ov_model.specs.Records.{Rec, recs, of_version, order_of, rid_in, rows_at}
 use Rattle.ov_model.specs.World.{Dataset, World}

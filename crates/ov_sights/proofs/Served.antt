@@ -1,7 +1,7 @@
 -- The partition that serves a version has its records, and so nothing is damaged.
-use Rattle.std.proofs.Common.{◌≡◌, ◌≤◌, ◌<◌, ◌+◌, ◌-◌, ◌==◌, ℕ, zero, suc, Bool, true, false, cond, List, [], ◌∷◌, ◌++◌, length, map, refl, sym, ◌∙◌, ap, subst, inl, inr, arith}
-use Rattle.std.specs.Prelude.{◌⊎◌, ◌||◌, slice_index_or, Option, Some, None, unwrap_or}
-use Rattle.std.specs.List.{All, Contains, find, list_any}
+use Rattle.std.proofs.Common.{◌≡◌, ◌<◌, ◌==◌, ℕ, zero, suc, Bool, true, false, cond, List, [], ◌∷◌, ◌++◌, length, map, refl, sym, ◌∙◌, ap, subst, inl, inr, arith}
+use Rattle.std.specs.Prelude.{◌⊎◌, ◌||◌, slice_index_or, Some, None, unwrap_or}
+use Rattle.std.specs.List.{All, find, list_any}
 use Rattle.std.proofs.lemmas.Bool.{eqb-true, eq-eqb}
 use Rattle.std.proofs.lemmas.List.Elements.{All-contains}
 use Rattle.ov_host.specs.declared.area.Extent.{Extent}
@@ -20,8 +20,8 @@ use Rattle.ov_model.specs.Records.{Rec, recs, of_version, order_of, rid_in}
 use Rattle.ov_model.specs.World.{Dataset, World}
 use Rattle.ov_catalog.specs.Numbers.{PartNumbers}
 use Rattle.ov_catalog.proofs.Members.{left_in, right_in, of_append, in_map, of_map, in_sorted, of_sorted}
-use Rattle.ov_versions.specs.Agreement.{Numbers, IsThere, PartAgrees, serves, segments_in, segments_of, list_of}
-use Rattle.ov_versions.specs.Damages.{HasBadList, HasBadSegment, LacksMember, IsDamage, RefusesScan, PartDisagrees, RefusesPart}
+use Rattle.ov_versions.specs.Agreement.{Numbers, IsThere, PartAgrees, serves, segments_in, segments_of}
+use Rattle.ov_versions.specs.Damages.{LacksMember, IsDamage, RefusesScan, PartDisagrees, RefusesPart}
 use Rattle.ov_versions.specs.OfWorld.{IsSetOf, IsSpared, rids_in}
 use Rattle.ov_sights.specs.Sights.{record_in, records_in, contents_of}
 use Rattle.ov_sights.proofs.Listed as listed
