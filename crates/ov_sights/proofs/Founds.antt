@@ -21,7 +21,7 @@ use Rattle.ov_versions.specs.Agreement.{Numbers}
 use Rattle.ov_versions.specs.OfWorld.{seen_set, asked_set}
 use Rattle.ov_sights.specs.Sights.{IsFound}
 
-some_is : {A : Type 0} (a b : A) → Some a ≡ Some b → a ≡ b
+pub some_is : {A : Type 0} (a b : A) → Some a ≡ Some b → a ≡ b
 some_is a b e = ap (λ o. unwrap_or o a) e
 
 abbrev pub Shows : List ℕ → Numbers → Dataset → Type 0

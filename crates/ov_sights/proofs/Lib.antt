@@ -1,4 +1,5 @@
 pub mod Founds
+pub mod Worked
 pub mod Counted
 pub mod Orders
 pub mod Listed

@@ -20,6 +20,7 @@ use Rattle.ov_versions.specs.Agreement.{Numbers, nowhere, list_of, records_after
 use Rattle.ov_versions.specs.Damages.{IsBadList}
 use Rattle.ov_versions.specs.OfWorld.{IsSetOf, rids_in}
 use Rattle.ov_sights.proofs.Counted.{numbers, shown_rows}
+use Rattle.ov_sights.proofs.Founds.{some_is}
 use Rattle.ov_sights.proofs.Orders.{all_of, sorted_long, rid_before}
 
 each_lists : {L M : Type 0} (f : L → M) (vs : List (VersionNumbers L)) → map (λ v. v.list) (map (each_version f) vs) ≡ map f (map (λ v. v.list) vs)
@@ -60,13 +61,10 @@ is_list w area s d vid of_world there =
     let both = (list_is area (list_of s vid) (rids_in d vid)).0 (list_read w area s d vid of_world there)
     in record { whole = both.0; spells = both.1 }
 
-some_same : {A : Type 0} (a b : A) → Some a ≡ Some b → a ≡ b
-some_same a b e = ap (λ o. unwrap_or o a) e
-
 pub only : (w : World) (area : List ℕ) (s : Numbers) (d : Dataset) (vid : ℕ) (rids : List ℕ) → IsSetOf w d area s → IsThere s vid
     → IsList area (list_of s vid) rids → rids ≡ rids_in d vid
 only w area s d vid rids of_world there is =
-    some_same rids (rids_in d vid) (sym ((list_is area (list_of s vid) rids).1 (is.whole, is.spells)) ∙ list_read w area s d vid of_world there)
+    some_is rids (rids_in d vid) (sym ((list_is area (list_of s vid) rids).1 (is.whole, is.spells)) ∙ list_read w area s d vid of_world there)
 
 pub rows_long : (vs : List Version) (vid : ℕ) → length (of_version (recs vs []) vid) ≡ length (rows_at vs vid)
 rows_long vs vid =

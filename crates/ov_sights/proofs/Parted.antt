@@ -35,7 +35,7 @@ use Rattle.ov_sights.proofs.Founds.{first_in}
 use Rattle.ov_sights.proofs.Orders.{all_of, sorted_long, rid_low}
 use Rattle.ov_sights.proofs.Rowed.{held_is}
 use Rattle.ov_sights.proofs.Stored.{segments_are, segments_once, rids_most}
-use Rattle.ov_sights.proofs.Together.{together, together_once}
+use Rattle.ov_sights.proofs.Together.{or_right, together, together_once}
 
 -- ---- what holds of a dataset
 
@@ -199,10 +199,6 @@ rids w area s d part all of_world is it =
 or_left : (a b : Bool) → a ≡ true → (a || b) ≡ true
 or_left true b e = refl
 or_left false b e = cc
-
-or_right : (a b : Bool) → b ≡ true → (a || b) ≡ true
-or_right true b e = refl
-or_right false b e = e
 
 served_in : (area : List ℕ) (all : List Rec) (vid : ℕ) (ps : List (PartNumbers Extent)) (qs : List Part) → AreParts area all ps qs → 1 ≤ part_times qs vid
     → list_any (serves vid) ps ≡ true

@@ -27,6 +27,7 @@ use Rattle.ov_versions.specs.OfWorld.{IsSetOf, rids_in}
 use Rattle.ov_sights.specs.Sights.{record_in, records_in}
 use Rattle.ov_sights.proofs.Ascending.{count_of, count_once, record_cmp, record_total, rise_picked}
 use Rattle.ov_sights.proofs.Counted.{numbers}
+use Rattle.ov_sights.proofs.Founds.{some_is}
 use Rattle.ov_sights.proofs.Listed as listed
 use Rattle.ov_sights.proofs.Orders.{place_same}
 use Rattle.ov_sights.proofs.Parted.{facts}
@@ -123,7 +124,7 @@ some_once [] [] e = refl
 some_once [] (y ∷ b) e = cc
 some_once (x ∷ a) [] e = cc
 some_once (x ∷ a) (y ∷ b) e =
-    let first : x ≡ y = ap (λ o. unwrap_or o x) (heads (Some x) (Some y) (map Some a) (map Some b) e)
+    let first : x ≡ y = some_is x y (heads (Some x) (Some y) (map Some a) (map Some b) e)
     in let rest : a ≡ b = some_once a b (tails (Some x) (Some y) (map Some a) (map Some b) e)
     in λ i. first i ∷ rest i
 
@@ -137,7 +138,7 @@ rows_in all (r ∷ rs) = ap (λ l. r.row ∷ l) (rows_in all rs)
 
 row_is : (records : List Record) (place : ℕ) (r : Record) → slice_get records place ≡ Some r → row_at records place ≡ r.row
 row_is [] place r e = cc
-row_is (x ∷ records) zero r e = ap (λ (y : Record). y.row) (ap (λ o. unwrap_or o x) e)
+row_is (x ∷ records) zero r e = ap (λ (y : Record). y.row) (some_is x r e)
 row_is (x ∷ records) (suc place) r e = row_is records place r e
 
 rows_are : (records : List Record) (pick : List ℕ) (found : List Record) → map (slice_get records) pick ≡ map Some found → picked_rows records pick ≡ rows_of found

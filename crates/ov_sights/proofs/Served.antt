@@ -24,6 +24,7 @@ use Rattle.ov_versions.specs.Agreement.{Numbers, IsThere, PartAgrees, serves, se
 use Rattle.ov_versions.specs.Damages.{LacksMember, IsDamage, RefusesScan, PartDisagrees, RefusesPart}
 use Rattle.ov_versions.specs.OfWorld.{IsSetOf, IsSpared, rids_in}
 use Rattle.ov_sights.specs.Sights.{record_in, records_in, contents_of}
+use Rattle.ov_sights.proofs.Founds.{some_is}
 use Rattle.ov_sights.proofs.Listed as listed
 use Rattle.ov_sights.proofs.Parted.{Read, reads, read, only, agrees, served}
 use Rattle.ov_sights.proofs.Stored.{segments_once}
@@ -100,15 +101,12 @@ from_contents all (piece ∷ pieces) x is = by (of_append (records_in all piece)
         let it = rest later
         in (it.0, (right_in piece (joined pieces) it.0 it.1.0, it.1.1))
 
-some_record : (a b : Record) → Some a ≡ Some b → a ≡ b
-some_record a b e = ap (λ o. unwrap_or o a) e
-
 pub record_there : (rs : List Record) (rid : ℕ) (r : Record) → record_of rs rid ≡ Some r → IsIn rs r
 record_there [] rid r e = cc
 record_there (x ∷ rs) rid r e = by (x.rid == rid) e (λ later. record_there rs rid r later)
   where
     by : (b : Bool) → cond b (Some x) (record_of rs rid) ≡ Some r → (record_of rs rid ≡ Some r → IsIn rs r) → IsIn (x ∷ rs) r
-    by true here rest = inl (sym (some_record x r here))
+    by true here rest = inl (sym (some_is x r here))
     by false later rest = inr (rest later)
 
 none_lacks : (rs : List Record) (r : Record) → IsIn rs r → record_of rs r.rid ≡ None → ⊥

@@ -18,6 +18,7 @@ use Rattle.ov_model.specs.Lists.{IsIn, joined}
 use Rattle.ov_model.specs.Records.{Rec, rid_in}
 use Rattle.ov_catalog.specs.Shown.{Records, put_by, sorted_by, kept_as, segment_of}
 use Rattle.ov_catalog.proofs.Members.{heads, tails, left_in, right_in, of_append, in_map, of_map, in_sorted, of_sorted}
+use Rattle.ov_sights.proofs.Founds.{some_is}
 use Rattle.ov_sights.specs.Sights.{record_in, records_in}
 
 -- ---- sorted records, and what they are kept as
@@ -91,9 +92,6 @@ kept_once schema (r ∷ rs) (q ∷ qs) here there same =
     in let row : r.row ≡ q.row = rows_same schema r.row q.row (here r (inl refl)) (there q (inl refl)) (ap (λ k. k.1) first)
     in let rest : rs ≡ qs = kept_once schema rs qs (λ x is. here x (inr is)) (λ x is. there x (inr is)) (tails (as_kept r) (as_kept q) (map as_kept rs) (map as_kept qs) same)
     in λ i. record { rid = ap (λ k. k.0) first i; row = row i } ∷ rest i
-
-some_is : {A : Type 0} (a b : A) → Some a ≡ Some b → a ≡ b
-some_is a b e = ap (λ o. unwrap_or o a) e
 
 segment_once : (schema : Shape) (area : List ℕ) (e : Extent) (rs qs : List Record) → IsSegment schema area e rs → IsSegment schema area e qs → rs ≡ qs
 segment_once schema area e rs qs here there =

@@ -22,7 +22,7 @@ use Rattle.ov_sights.proofs.Stored.{sorted_map}
 
 -- ---- membership, tested and said
 
-or_right : (a b : Bool) → b ≡ true → (a || b) ≡ true
+pub or_right : (a b : Bool) → b ≡ true → (a || b) ≡ true
 or_right true b e = refl
 or_right false b e = e
 

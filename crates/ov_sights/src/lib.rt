@@ -15,4 +15,4 @@ pub use damaging::nothing_is_damaged;
 pub use listing::lists_are_seen;
 pub use parting::partitions_are_seen;
 pub use scanning::scans_are_seen;
-pub use seeing::{datasets_are_found, numbers_are_seen};
+pub use seeing::{a_first_dataset_is_found, datasets_are_found, numbers_are_seen};

@@ -1,5 +1,5 @@
 // What the numbers of a catalog say of a dataset.
-ghost use Rattle.std.specs.Prelude.{◌≡◌, ℕ, List, None, Some};
+ghost use Rattle.std.specs.Prelude.{◌≡◌, ℕ, List, None, Some, codes};
 ghost use Rattle.std.specs.List.{find};
 ghost use Rattle.ov_host.specs.declared.area.Extent.{Extent};
 ghost use Rattle.ov_model.specs.Moves as moves;
@@ -10,6 +10,7 @@ ghost use Rattle.ov_catalog.specs.Numbers.{Numbers as Catalog};
 ghost use Rattle.ov_catalog.specs.Reached.{Reached};
 ghost use Rattle.ov_catalog.specs.Stands.{asked, seen};
 ghost use Rattle.ov_image.specs.Pages.{readings_of};
+ghost use Rattle.ov_image.specs.Worked.{the_pages, the_world};
 ghost use Rattle.ov_versions.specs.Agreement.{Numbers};
 ghost use Rattle.ov_sights.specs.Sights.{HasNumbers, IsFound};
 ghost use Rattle.ov_versions.specs.OfWorld.{IsSetOf};
@@ -27,6 +28,11 @@ pub fn datasets_are_found()
     ensures not_numbered { (w : World) (n : Catalog Extent Extent) (area : List ℕ) (k : ℕ)
         → seen (readings_of area) n ≡ asked w → find (numbered k) n.sets ≡ None
         → first_set (moves.numbered k) w.sets ≡ None }
+{}
+
+/// What these laws ask for can be met: a dataset is found in the bytes of a store in which it was made.
+pub fn a_first_dataset_is_found()
+    ensures { (s : Numbers) × IsFound the_world the_pages s (set_named the_world (codes "people")) }
 {}
 
 /// The numbers of a dataset count its versions, their rows, and its records.
