@@ -29,7 +29,7 @@ use Rattle.ov_catalog.proofs.Showing.{PiecesAreIn}
 use Rattle.ov_versions.specs.Agreement.{Numbers, IsThere, PartAgrees, AreTogether, serves, is_served}
 use Rattle.ov_versions.specs.Partitions.{IsPartRead}
 use Rattle.ov_versions.specs.OfWorld.{IsSetOf}
-use Rattle.ov_sights.specs.Sights.{records_in, contents_of, part_rids}
+use Rattle.ov_sights.specs.Sights.{IsPartOf, records_in, contents_of, part_rids}
 use Rattle.ov_sights.proofs.Counted.{numbers}
 use Rattle.ov_sights.proofs.Founds.{first_in}
 use Rattle.ov_sights.proofs.Orders.{all_of, sorted_long, rid_low}
@@ -120,6 +120,19 @@ hold_at : (done : List (List Rec)) (parts : List Part) (q : Part) → PartsHold 
 hold_at done [] q are is = absurd is
 hold_at done (p ∷ parts) q are (inl same) = subst (λ x. VersionsAreIn done x.versions (held x)) (sym same) are.0
 hold_at done (p ∷ parts) q are (inr later) = hold_at done parts q are.1 later
+
+pub part_of : (w : World) (area : List ℕ) (s : Numbers) (d : Dataset) (part : PartNumbers Extent) → IsSetOf w d area s → IsIn s.parts part → IsPartOf d part
+part_of w area s d part of_world is =
+    let it = part_at w area s d part of_world is
+    in record {
+      is = it.0;
+      one = it.1.0;
+      id = ap (λ x. x.id) it.1.1;
+      versions = ap (λ x. x.versions) it.1.1;
+      holds = ap (λ x. x.holds) it.1.1;
+      found = held_pieces d.parts part.id
+          ∙ ap joined (ap (λ x. pieces_of d.parts x.id) it.1.1 ∙ pieces_at d.parts it.0 (facts w area s d of_world).placed.ids_once it.1.0);
+    }
 
 -- ---- what is read of it
 

@@ -1,6 +1,6 @@
 -- The partition that serves a version has its records, and so nothing is damaged.
 use Rattle.std.proofs.Common.{◌≡◌, ◌<◌, ◌==◌, ℕ, zero, suc, Bool, true, false, cond, List, [], ◌∷◌, ◌++◌, length, map, refl, sym, ◌∙◌, ap, subst, inl, inr, arith}
-use Rattle.std.specs.Prelude.{◌⊎◌, ◌||◌, slice_index_or, Some, None, unwrap_or}
+use Rattle.std.specs.Prelude.{◌⊎◌, ◌||◌, slice_index_or, Some, None}
 use Rattle.std.specs.List.{All, find, list_any}
 use Rattle.std.proofs.lemmas.Bool.{eqb-true, eq-eqb}
 use Rattle.std.proofs.lemmas.List.Elements.{All-contains}

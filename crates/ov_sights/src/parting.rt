@@ -10,12 +10,14 @@ ghost use Rattle.ov_model.specs.Lists.{IsIn};
 ghost use Rattle.ov_model.specs.World.{Dataset, World};
 ghost use Rattle.ov_versions.specs.Agreement.{IsThere, Numbers, PartAgrees, is_served};
 ghost use Rattle.ov_versions.specs.Partitions.{IsPartRead};
-ghost use Rattle.ov_sights.specs.Sights.{contents_of, part_rids};
+ghost use Rattle.ov_sights.specs.Sights.{IsPartOf, contents_of, part_rids};
 ghost use Rattle.ov_versions.specs.OfWorld.{IsSetOf};
 
 /// The segments of a partition have the records of its pieces and no others; they share no rid, and together they agree with
 /// its numbers and are the records that the partition holds. Each version that is there is in a partition.
 pub fn partitions_are_seen()
+    ensures one { (w : World) (area : List ℕ) (s : Numbers) (d : Dataset) (part : PartNumbers Extent) → IsSetOf w d area s
+        → IsIn s.parts part → IsPartOf d part }
     ensures read { (w : World) (area : List ℕ) (s : Numbers) (d : Dataset) (part : PartNumbers Extent) → IsSetOf w d area s
         → IsIn s.parts part → AreSegments s.schema area part.segments (contents_of d part.id) }
     ensures only { (w : World) (area : List ℕ) (s : Numbers) (d : Dataset) (part : PartNumbers Extent) (contents : List (List Record))

@@ -1,5 +1,8 @@
-use Rattle.ov_sights.proofs.Parted.{read, only, records, agrees, rids, served}
+use Rattle.ov_sights.proofs.Parted.{part_of, read, only, records, agrees, rids, served}
 use Rattle.ov_sights.proofs.parting.partitions_are_seen.Goals as goal
+
+pub returns-clause-one : goal.returns-clause-one
+returns-clause-one c = part_of
 
 pub returns-clause-read : goal.returns-clause-read
 returns-clause-read c = read
