@@ -1,5 +1,5 @@
 -- The dataset of a World whose numbers were found by its name.
-use Rattle.std.proofs.Common.{◌≡◌, ℕ, Bool, true, false, Option, Some, None, List, [], ◌∷◌, map, refl, sym, ◌∙◌, ap, subst, inl, inr}
+use Rattle.std.proofs.Common.{◌≡◌, ℕ, Bool, true, false, Option, Some, List, [], ◌∷◌, map, refl, sym, ◌∙◌, ap, inl, inr}
 use Rattle.std.specs.Prelude.{cond, find, if◌then◌else◌}
 use Rattle.std.specs.Str.{bytes_eq}
 use Rattle.ov_host.specs.declared.area.Extent.{Extent}
@@ -11,7 +11,7 @@ use Rattle.ov_catalog.specs.Stands.{asked, seen}
 use Rattle.ov_image.specs.Pages.{readings_of}
 use Rattle.ov_model.specs.Lists.{IsIn}
 use Rattle.ov_model.specs.World.{Dataset, World, first_set, named}
-use Rattle.ov_versions.specs.OfWorld.{IsNamed, IsSetOf, asked_set}
+use Rattle.ov_versions.specs.OfWorld.{IsNamed, asked_set}
 
 heads : {X : Type 0} (x y : X) (xs ys : List X) → x ∷ xs ≡ y ∷ ys → x ≡ y
 heads x y xs ys e = cc
@@ -38,6 +38,7 @@ in_sets f g name (x ∷ xs) (y ∷ ys) s same here =
   where
     first : each_set f g x ≡ asked_set y
     first = heads (each_set f g x) (asked_set y) (map (each_set f g) xs) (map (each_set Some Some) (map shown_set ys)) same
+
     by : (b c : Bool) → bytes_eq y.cvd.name name ≡ c → b ≡ c → cond b (Some x) (find (is_named name) xs) ≡ Some s → (find (is_named name) xs ≡ Some s → InSets f g name ys s) → InSets f g name (y ∷ ys) s
     by true true is e found rest = record {
       ds = y;
