@@ -1,12 +1,11 @@
 -- So many rids, none of them over a number.
-use Rattle.std.proofs.Common.{◌≡◌, ◌<◌, ◌≤◌, ◌+◌, ◌^◌, ℕ, suc, Bool, true, false, ◌&&◌, cond, List, [], ◌∷◌, length, get_or, refl, sym, ◌∙◌, ap, subst, inl, inr, arith}
+use Rattle.std.proofs.Common.{◌≡◌, ◌≤◌, ◌^◌, ℕ, suc, Bool, true, false, cond, List, [], ◌∷◌, length, get_or, refl, sym, ◌∙◌, ap, subst, inl, inr, arith}
 use Rattle.std.specs.Prelude.{filter}
 use Rattle.std.specs.List.{All}
-use Rattle.std.proofs.lemmas.Bool.{cases_order, cases_Bool}
+use Rattle.std.proofs.lemmas.Bool.{cases_order}
 use Rattle.std.proofs.lemmas.List.Elements.{All-nil, All-cons, All-head, All-tail}
 use Rattle.ov_member.specs.Lists.{run}
 use Rattle.ov_member.specs.Rids.{RiseFrom, AreRids, has, shared}
-use Rattle.ov_member.proofs.RidLemmas.{RiseFrom-filter}
 use Rattle.ov_member.proofs.RunLemmas.{has-run_in, has-run_past}
 use Rattle.ov_versions.specs.Agreement.{IsBorneOut}
 use Rattle.ov_versions.specs.Counting.{capped}

@@ -1,9 +1,9 @@
 -- The scan, when all partitions were passed.
-use Rattle.std.proofs.Common.{◌≡◌, ◌<◌, ◌≤◌, ◌+◌, ℕ, zero, suc, true, Option, Some, None, List, [], ◌∷◌, length, map, get_or, refl, sym, ◌∙◌, ap, subst, inl, arith}
+use Rattle.std.proofs.Common.{◌≡◌, ◌<◌, ℕ, zero, suc, true, Some, List, [], ◌∷◌, length, map, get_or, refl, sym, ◌∙◌, ap, subst, inl, arith}
 use Rattle.std.specs.Prelude.{slice_get}
 use Rattle.std.specs.List.{All, AllZip}
 use Rattle.std.proofs.lemmas.List.{length-map}
-use Rattle.std.proofs.lemmas.List.Elements.{All-nil, All-cons, All-from_get_or, All-get_or}
+use Rattle.std.proofs.lemmas.List.Elements.{All-nil, All-cons, All-from_get_or}
 use Rattle.std.proofs.lemmas.List.Sorted.{length_permutation}
 use Rattle.ov_host.specs.Host.{State}
 use Rattle.ov_value.specs.declared.value.Value.{Value}
@@ -89,6 +89,7 @@ are_sound s n vids lists found scan vids_are records_are picks_are h placed = re
   where
     rows : (k : ℕ) → k < length found.picks.items → IsRowsOf n.schema s (segments_of n (get_or vids k 0)) found.records.items (get_or lists k []) (get_or found.picks.items k [])
     rows k low = let below : k < length vids = omega (arith, low, h.count) in h.each k below (placed k 0 below)
+
     at : (k : ℕ) (low : k < length found.picks.items) → Stands found.records.items (get_or found.picks.items k []) (rows k low).found
     at k low = stands found.records.items (get_or found.picks.items k []) (rows k low).found (rows k low).picked.at
 

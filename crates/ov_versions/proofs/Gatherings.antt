@@ -1,8 +1,7 @@
 -- The rows of versions, one partition more.
-use Rattle.std.proofs.Common.{◌≡◌, ◌<◌, ◌≤◌, ◌+◌, ◌*◌, ◌⊎◌, ℕ, zero, suc, Bool, true, false, Option, Some, None, List, [], ◌∷◌, ◌++◌, length, map, take, get_or, refl, sym, ◌∙◌, ap, subst, inl, inr, arith}
-use Rattle.std.specs.Prelude.{cond, ◌==◌, ◌||◌, slice_get}
-use Rattle.std.specs.List.{All, AllZip, list_any, sum_by}
-use Rattle.std.proofs.lemmas.Bool.{cases_Bool}
+use Rattle.std.proofs.Common.{◌≡◌, ◌<◌, ◌+◌, ◌⊎◌, ℕ, zero, suc, Bool, true, false, Some, List, [], ◌∷◌, ◌++◌, length, map, get_or, refl, sym, ◌∙◌, ap, subst, inl, inr, arith}
+use Rattle.std.specs.Prelude.{slice_get}
+use Rattle.std.specs.List.{All, AllZip, sum_by}
 use Rattle.std.proofs.lemmas.List.{get_or-map, length-map, map-append}
 use Rattle.std.proofs.lemmas.List.Elements.{All-append, All-get_or, All-map}
 use Rattle.ov_host.specs.declared.area.Extent.{Extent}
@@ -104,6 +103,7 @@ group_added schema s part vids lists group old new more picks paired counted is 
         subst (λ rids. IsRowsOf schema s part.segments more rids (get_or picks k []))
         (get_or-map (λ (p : ℕ). get_or lists p []) group k 0 [] low ∙ ap (λ p. get_or lists p []) at)
         (zip_at (IsRowsOf schema s part.segments more) (sets_at lists group) picks k [] [] rows (rw (length-map group (λ (p : ℕ). get_or lists p [])) low))
+
     here : (place : ℕ) → place < length vids → has part.versions (get_or vids place 0) ≡ true
         → IsNew (length group) (length old.records.items) group picks new.picks.items place ⊎ IsKept (length group) group old.picks.items new.picks.items place
         → IsRowsOf schema s part.segments (old.records.items ++ more) (get_or lists place []) (get_or new.picks.items place [])
@@ -111,6 +111,7 @@ group_added schema s part vids lists group old new more picks paired counted is 
         subst (IsRowsOf schema s part.segments (old.records.items ++ more) (get_or lists place [])) (sym h.is)
         (rows_behind schema s part.segments old.records.items more (get_or lists place []) (get_or picks h.k []) (one place h.k h.there h.at))
     here place low member (inr h) = let f = has-find group place (is.all place low member) in absurd (h.other f.at f.within (f.here 0))
+
     there : (place : ℕ) → place < length vids → has part.versions (get_or vids place 0) ≡ false → (rids : List ℕ) (found : List Record)
         → IsPicked schema old.records.items rids (get_or old.picks.items place []) found
         → IsNew (length group) (length old.records.items) group picks new.picks.items place ⊎ IsKept (length group) group old.picks.items new.picks.items place

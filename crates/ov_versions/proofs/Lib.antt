@@ -10,3 +10,4 @@ pub mod Gatherings
 pub mod Passed
 pub mod Ending
 pub mod Shows
+pub mod Named

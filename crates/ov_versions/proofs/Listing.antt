@@ -1,9 +1,8 @@
 -- Lists of versions, one after another.
-use Rattle.std.proofs.Common.{◌≡◌, ◌<◌, ◌≤◌, ◌+◌, ◌-◌, ◌*◌, ◌/◌, ◌^◌, ℕ, zero, suc, Bool, true, false, List, [], ◌∷◌, ◌++◌, length, map, take, drop, get_or, refl, sym, ◌∙◌, ap, subst, arith}
-use Rattle.std.specs.List.{All, AllZip, Contains, sum_by}
+use Rattle.std.proofs.Common.{◌≡◌, ◌<◌, ◌≤◌, ◌+◌, ◌*◌, ◌/◌, ℕ, true, List, [], ◌∷◌, ◌++◌, length, take, drop, get_or, sym, ◌∙◌, ap, subst, arith}
+use Rattle.std.specs.List.{AllZip, Contains, sum_by}
 use Rattle.std.proofs.lemmas.List.{take_more, take-append-drop}
 use Rattle.std.proofs.lemmas.List.Sums.{sum_by_push, sum_by-append}
-use Rattle.ov_host.specs.declared.area.Extent.{Extent}
 use Rattle.ov_host.specs.Extent.{pages_of}
 use Rattle.ov_host.specs.Host.{State}
 use Rattle.ov_fetch.specs.declared.errors.FetchErr.{FetchErr}
@@ -65,6 +64,7 @@ within s vids k before now more low h one = omega (arith, h, one, all, next, byt
   where
     next : sum_by (λ vid. pages_of (list_of s vid)) (take (k + 1) vids) ≡ sum_by (λ vid. pages_of (list_of s vid)) (take k vids) + pages_of (list_of s (get_or vids k 0))
     next = ap (sum_by (λ vid. pages_of (list_of s vid))) (take_more vids k 0 low) ∙ sum_by_push (λ vid. pages_of (list_of s vid)) (take k vids) (get_or vids k 0)
+
     all : sum_by (λ vid. pages_of (list_of s vid)) vids ≡ sum_by (λ vid. pages_of (list_of s vid)) (take (k + 1) vids) + sum_by (λ vid. pages_of (list_of s vid)) (drop (k + 1) vids)
     all =
         ap (sum_by (λ vid. pages_of (list_of s vid))) (sym (take-append-drop (k + 1) vids))

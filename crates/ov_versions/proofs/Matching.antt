@@ -1,5 +1,5 @@
 -- What is known of a result, put in other words.
-use Rattle.std.proofs.Common.{◌≡◌, true, false, Result, Ok, Err, Option, Some, None, sym, subst}
+use Rattle.std.proofs.Common.{◌≡◌, Result, Ok, Err, Option, Some, None, sym, subst}
 use mathlib.Core.Bool.{true≢false}
 use Rattle.std.specs.Prelude.{MatchResult, MatchOption, IfOk, IfErr, IsErr, IsErrAnd}
 

@@ -74,17 +74,20 @@ pub refuses_is : (area : List ℕ) (d : Cvd) (vid : ℕ) (v : Version) (last : �
     → last ≡ capped (records_after (set_in d) vid) → RefusesTested e area v.list v.rows last → RefusesList e area (set_in d) vid
 refuses_is area d vid v last Host low is same why = tt
 refuses_is area d vid v last Memory low is same why = tt
-refuses_is area d vid v last (Damaged page) low is same why =
-    (why.0 ∙ ap (λ (e : Extent). e.page) (sym list), elim why.1 [
-      | inl none ↦ inl (subst (IsNoList area) (sym list) none)
-      | inr off ↦ inr (record {
-        rids = off.rids;
-        list = subst (λ (e : Extent). IsList area e off.rids) (sym list) off.stands;
-        off = not_agrees d vid v last off.rids low is same (spelled_rids (extent_bytes area v.list) off.rids off.stands.spells) off.off;
-      })
-    ])
+refuses_is area d vid v last (Damaged page) low is same why = (
+  why.0 ∙ ap (λ (e : Extent). e.page) (sym list),
+  elim why.1 [
+    | inl none ↦ inl (subst (IsNoList area) (sym list) none)
+    | inr off ↦ inr (record {
+      rids = off.rids;
+      list = subst (λ (e : Extent). IsList area e off.rids) (sym list) off.stands;
+      off = not_agrees d vid v last off.rids low is same (spelled_rids (extent_bytes area v.list) off.rids off.stands.spells) off.off;
+    })
+  ],
+)
   where
     list : list_of (set_in d) vid ≡ v.list
     list = list_is d vid v low is
+
     spelled_rids : (bytes rids : List ℕ) → Spells bytes rids → AreRids rids
     spelled_rids bytes rids s = subst AreRids (sym s.listed) (RiseFrom-apart 0 s.ranges s.apart)

@@ -1,10 +1,9 @@
 -- The rows of versions, with so many partitions passed.
-use Rattle.std.proofs.Common.{◌≡◌, ◌<◌, ◌≤◌, ◌+◌, ◌-◌, ◌*◌, ◌/◌, ◌⊎◌, ℕ, zero, suc, Bool, true, false, Option, Some, None, List, [], ◌∷◌, ◌++◌, length, map, take, get_or, refl, sym, ◌∙◌, ap, subst, inl, inr, arith}
+use Rattle.std.proofs.Common.{◌≡◌, ◌<◌, ◌≤◌, ◌+◌, ◌*◌, ℕ, zero, suc, Bool, true, false, Option, Some, List, [], ◌∷◌, ◌++◌, length, map, take, get_or, refl, sym, ◌∙◌, ap, subst, inl, inr, arith}
 use Rattle.std.specs.Prelude.{cond, ◌||◌, find, is_some, slice_get}
-use Rattle.std.specs.List.{All, AllZip, Contains, list_any, sum_by}
-use Rattle.std.proofs.lemmas.Bool.{cases_Bool}
+use Rattle.std.specs.List.{AllZip, Contains, list_any, sum_by}
 use Rattle.std.proofs.lemmas.List.{length-map, get_or-map}
-use Rattle.std.proofs.lemmas.List.Elements.{All-nil, All-get_or, Contains-get_or}
+use Rattle.std.proofs.lemmas.List.Elements.{All-nil, Contains-get_or}
 use Rattle.std.proofs.lemmas.List.Folds.{list_any-append}
 use Rattle.std.proofs.lemmas.List.Sums.{sum_by_push, sum_by-cons, sum_by_more_le, sum_by-take-le}
 use Rattle.ov_host.specs.declared.area.Extent.{Extent}
@@ -14,7 +13,6 @@ use Rattle.ov_layout.specs.declared.part.Part.{Part}
 use Rattle.ov_layout.specs.Parts.{is_placed, part_with, serves as serves_in, times_placed}
 use Rattle.ov_layout.proofs.PlacedLemmas.{times-cons, placed-somewhere, once-rest}
 use Rattle.ov_member.specs.Rids.{has}
-use Rattle.ov_value.specs.declared.value.Value.{Value}
 use Rattle.ov_value.specs.Rows.{Fits}
 use Rattle.ov_value.specs.Shapes.{Shape}
 use Rattle.ov_segment.specs.declared.numbered.Record.{Record}
@@ -25,11 +23,11 @@ use Rattle.ov_fetch.specs.declared.errors.FetchErr.{FetchErr}
 use Rattle.ov_fetch.specs.declared.errors.FetchErr.TheVariants.{Host, Memory, Damaged}
 use Rattle.ov_fetch.specs.Extents.{IsList, Looked, page_bytes}
 use Rattle.ov_fetch.specs.Rows.{AreSegments, IsDamage, RefusesRows}
-use Rattle.ov_fetch.specs.Scans.{AllFit, rows_of}
+use Rattle.ov_fetch.specs.Scans.{AllFit}
 use Rattle.ov_fetch.proofs.Lacking.{get_below}
 use Rattle.ov_fetch.proofs.Looks.{looked_at_all, looked_again, same_pages}
 use Rattle.ov_versions.specs.declared.gathering.Gathered.{Gathered}
-use Rattle.ov_versions.specs.Agreement.{Numbers, is_served, list_of, segments_in, segments_of, serves}
+use Rattle.ov_versions.specs.Agreement.{is_served, list_of, segments_in, segments_of, serves}
 use Rattle.ov_versions.specs.Damages.{RefusesScan}
 use Rattle.ov_versions.specs.Found.{AreFirst, IsPicked}
 use Rattle.ov_versions.specs.Gathered.{AreGathered}
@@ -141,6 +139,7 @@ goes_on s0 s1 s2 d vids lists parts k part group old new low is once grouped h l
     or_no : (a : Bool) → (a || (false || false)) ≡ true → a ≡ true
     or_no true e = refl
     or_no false e = e
+
     by : (place : ℕ) → place < length vids → (b : Bool) → has part.versions (get_or vids place 0) ≡ b
         → (is_placed parts (get_or vids place 0) || (has part.versions (get_or vids place 0) || false)) ≡ true
         → IsRowsOf d.schema s0 (segments_of (set_in d) (get_or vids place 0)) new.records.items (get_or lists place []) (get_or new.picks.items place [])
@@ -237,8 +236,10 @@ stops s0 s1 d vids lists k part group (Damaged page) low is once grouped looked 
   where
     damage : IsDamage d.schema (page_bytes s0) part.segments (map (list_of (set_in d)) (numbers_at vids group)) (sets_at lists group) page
     damage = subst (λ (a : List ℕ). IsDamage d.schema a part.segments (map (list_of (set_in d)) (numbers_at vids group)) (sets_at lists group) page) (same_pages s0 s1 looked told) why.1
+
     segments : (place : ℕ) → has part.versions (get_or vids place 0) ≡ true → segments_of (set_in d) (get_or vids place 0) ≡ part.segments
     segments place member = own_segments d (get_or vids place 0) k part low is member (once (get_or vids place 0))
+
     twice : (ps : List ℕ) → map (list_of (set_in d)) (numbers_at vids ps) ≡ map (λ (p : ℕ). list_of (set_in d) (get_or vids p 0)) ps
     twice [] = refl
     twice (p ∷ ps) = ap (λ l. list_of (set_in d) (get_or vids p 0) ∷ l) (twice ps)

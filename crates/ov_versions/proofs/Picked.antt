@@ -1,7 +1,7 @@
 -- The records at the positions of a version's rows.
-use Rattle.std.proofs.Common.{◌≡◌, ◌<◌, ◌≤◌, ◌+◌, ◌⊎◌, ℕ, zero, suc, Bool, true, false, Option, Some, None, List, [], ◌∷◌, ◌++◌, length, map, get_or, refl, sym, ◌∙◌, ap, subst, inl, inr, arith}
+use Rattle.std.proofs.Common.{◌≡◌, ◌<◌, ◌+◌, ℕ, zero, suc, Bool, true, false, Some, List, [], ◌∷◌, length, map, get_or, refl, sym, ◌∙◌, ap, subst, arith}
 use Rattle.std.specs.Prelude.{if◌then◌else◌, cond, ◌==◌, ◌&&◌, ◌||◌, filter, is_some, slice_get}
-use Rattle.std.specs.List.{All, AllZip, list_any}
+use Rattle.std.specs.List.{All, AllZip}
 use Rattle.std.specs.List.Sorted.{IsPermutation}
 use Rattle.std.proofs.lemmas.Bool.{eq-eqb, ne_eqb}
 use Rattle.std.proofs.lemmas.List.{length-map}
@@ -11,13 +11,12 @@ use Rattle.ov_host.specs.declared.area.Extent.{Extent}
 use Rattle.ov_host.specs.Host.{State}
 use Rattle.ov_member.specs.Rids.{AreRids, has}
 use Rattle.ov_member.proofs.RidLemmas.{RiseFrom-filter, has-filter, same_from}
-use Rattle.ov_value.specs.declared.value.Value.{Value}
 use Rattle.ov_value.specs.Shapes.{Shape}
 use Rattle.ov_segment.specs.declared.numbered.Record.{Record}
 use Rattle.ov_segment.specs.Segments.{AreRecords}
 use Rattle.ov_segment.proofs.WrittenLemmas.{records_ascend}
 use Rattle.ov_fetch.specs.Extents.{page_bytes, rids_of}
-use Rattle.ov_fetch.specs.Rows.{AreAsked, AreRows, is_asked, joined, record_of}
+use Rattle.ov_fetch.specs.Rows.{AreRows, is_asked, joined, record_of}
 use Rattle.ov_fetch.specs.Scans.{AllStand, InKeyOrder, row_at, rows_at, rows_of}
 use Rattle.ov_fetch.proofs.Lacking.{get_at}
 use Rattle.ov_fetch.proofs.Ordered.{has_record}
@@ -71,8 +70,10 @@ places_rids f at (r ∷ records) rids h =
   where
     next : (k : ℕ) → f (suc at + k) ≡ f (at + suc k)
     next k = let e : suc at + k ≡ at + suc k = omega arith in ap f e
+
     zero_at : f at ≡ f (at + 0)
     zero_at = let e : at ≡ at + 0 = omega arith in ap f e
+
     by : (b : Bool) → map f (places_from (suc at) records rids) ≡ filter (has rids) (rids_of records) → f at ≡ r.rid
         → map f (if b then at ∷ places_from (suc at) records rids else places_from (suc at) records rids) ≡ cond b (r.rid ∷ filter (has rids) (rids_of records)) (filter (has rids) (rids_of records))
     by true rest first = ap (λ n. n ∷ map f (places_from (suc at) records rids)) first ∙ ap (λ l. r.rid ∷ l) rest
@@ -86,8 +87,10 @@ all_places Q at (r ∷ records) rids h =
   where
     next : (k : ℕ) → at + suc k ≡ suc at + k
     next k = omega arith
+
     here : at + 0 ≡ at
     here = omega arith
+
     by : (b : Bool) → has rids r.rid ≡ b → All Q (places_from (suc at) records rids) → All Q (if b then at ∷ places_from (suc at) records rids else places_from (suc at) records rids)
     by true is rest = All-cons Q at (places_from (suc at) records rids) (subst Q here (h 0 (omega arith) is)) rest
     by false is rest = rest
@@ -172,13 +175,15 @@ pub rows_zip : (schema : Shape) (s : State) (segments : List Extent) (all : List
 rows_zip schema s segments all got [] [] are rows within picked stand full = tt
 rows_zip schema s segments all got [] (p ∷ picks) are rows within picked stand full = absurd picked
 rows_zip schema s segments all got (m ∷ members) [] are rows within picked stand full = absurd picked
-rows_zip schema s segments all got (m ∷ members) (p ∷ picks) are rows within picked stand full =
-    (record {
-      found = at_places got p;
-      picked = is_picked schema got m p are (full 0 (omega arith)).1 picked.0 (All-head (AllStand got) p picks stand) (full 0 (omega arith)).0;
-      told = λ told. first_found schema (page_bytes s) segments all got m p are (rows told) picked.0 (λ rid member. within rid (one_asked m members rid member));
-    }, rows_zip schema s segments all got members picks are rows (λ rid asked. within rid (more_asked m members rid asked)) picked.1 (All-tail (AllStand got) p picks stand)
-    (λ k low. full (suc k) (omega (arith, low))))
+rows_zip schema s segments all got (m ∷ members) (p ∷ picks) are rows within picked stand full = (
+  record {
+    found = at_places got p;
+    picked = is_picked schema got m p are (full 0 (omega arith)).1 picked.0 (All-head (AllStand got) p picks stand) (full 0 (omega arith)).0;
+    told = λ told. first_found schema (page_bytes s) segments all got m p are (rows told) picked.0 (λ rid member. within rid (one_asked m members rid member));
+  },
+  rows_zip schema s segments all got members picks are rows (λ rid asked. within rid (more_asked m members rid asked)) picked.1 (All-tail (AllStand got) p picks stand)
+      (λ k low. full (suc k) (omega (arith, low))),
+)
 
 -- ---- no pick is short
 
@@ -194,6 +199,7 @@ full_count schema got rids pick are set there is =
     both true b h = refl
     both false true h = h refl
     both false false h = refl
+
     whole : filter (has rids) (rids_of got) ≡ rids
     whole =
         same_from 1 1 (filter (has rids) (rids_of got)) rids (RiseFrom-filter (has rids) 1 (rids_of got) (ascending schema got are)) set

@@ -1,8 +1,8 @@
 -- Where versions stand among those that were asked for.
-use Rattle.std.proofs.Common.{◌≡◌, ◌<◌, ◌≤◌, ◌+◌, ◌⊎◌, ℕ, zero, suc, Bool, true, false, Option, Some, None, List, [], ◌∷◌, ◌++◌, length, take, set, get_or, refl, sym, ◌∙◌, ap, subst, inl, inr, arith}
+use Rattle.std.proofs.Common.{◌≡◌, ◌<◌, ◌≤◌, ◌+◌, ℕ, zero, suc, Bool, true, false, Option, Some, None, List, [], ◌∷◌, length, set, get_or, refl, sym, ◌∙◌, ap, subst, inl, inr, arith}
 use Rattle.std.specs.Prelude.{if◌then◌else◌, replicate, ◌==◌, ◌||◌}
 use Rattle.std.specs.List.{All, filter_map, cons_option}
-use Rattle.std.proofs.lemmas.Bool.{cases_eq, cases_order, eq-eqb, eqb-true, cases_Bool, ne_eqb}
+use Rattle.std.proofs.lemmas.Bool.{cases_eq, eq-eqb}
 use Rattle.std.proofs.lemmas.Grind.{get_or-set_at}
 use Rattle.std.proofs.lemmas.List.{get_or-set_other}
 use Rattle.std.proofs.lemmas.List.Elements.{All-nil, All-cons}
@@ -43,9 +43,11 @@ has_in places (v ∷ versions) place vid member is =
     first : (o : Option ℕ) → o ≡ Some place → has (cons_option o (filter_map (place_at places) versions)) place ≡ true
     first None e = cc
     first (Some p) e = let same : p ≡ place = some_is p place e in rw (eq-eqb p place same) refl
+
     either : (b : Bool) → has (filter_map (place_at places) versions) place ≡ true → (b || has (filter_map (place_at places) versions) place) ≡ true
     either true h = refl
     either false h = h
+
     later : (o : Option ℕ) → has (filter_map (place_at places) versions) place ≡ true → has (cons_option o (filter_map (place_at places) versions)) place ≡ true
     later None h = h
     later (Some p) h = either (p == place) h
@@ -114,6 +116,7 @@ goes_on vids places k low fits once h = record { only = only; all = all }
               let old = h.only vid place (sym (get_or-set_other places (get_or vids k 0) vid (Some k) None other) ∙ e) in
               (omega (arith, old.0), old.1)
         ]
+
     all : (place : ℕ) → place < k + 1 → place_at (set places (get_or vids k 0) (Some k)) (get_or vids place 0) ≡ Some place
     all place below =
         elim (cases_eq place k) [

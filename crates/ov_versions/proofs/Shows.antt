@@ -1,5 +1,5 @@
 -- The lists that pages have where their numbers are those of a World.
-use Rattle.std.proofs.Common.{◌≡◌, ◌<◌, ◌≤◌, ◌+◌, ◌-◌, ℕ, zero, suc, Bool, true, false, Option, Some, None, List, [], ◌∷◌, ◌++◌, length, map, take, drop, get_or, refl, sym, ◌∙◌, ap, subst, inl, inr, arith}
+use Rattle.std.proofs.Common.{◌≡◌, ◌<◌, ◌≤◌, ◌+◌, ◌-◌, ℕ, zero, suc, Bool, true, false, Option, Some, List, [], ◌∷◌, ◌++◌, length, map, take, drop, get_or, refl, sym, ◌∙◌, ap, subst, inl, inr, arith}
 use Rattle.std.specs.Prelude.{if◌then◌else◌, nat_le}
 use Rattle.std.specs.List.{All, AllZip, sum_by}
 use Rattle.std.proofs.lemmas.List.{length-map, length-append, length-take-le, take-append-drop, append_assoc}
@@ -20,8 +20,8 @@ use Rattle.ov_model.proofs.Origins.{all_known}
 use Rattle.ov_model.specs.World.{Dataset, World}
 use Rattle.ov_fetch.specs.declared.errors.FetchErr.{FetchErr}
 use Rattle.ov_fetch.specs.declared.errors.FetchErr.TheVariants.{Host, Memory, Damaged}
-use Rattle.ov_fetch.specs.Extents.{IsList, IsNoList, extent_bytes}
-use Rattle.ov_versions.specs.Agreement.{Agrees, IsThere, Numbers, list_of, nowhere, records_after, rows_of}
+use Rattle.ov_fetch.specs.Extents.{IsList, extent_bytes}
+use Rattle.ov_versions.specs.Agreement.{Agrees, IsThere, Numbers, list_of, nowhere, records_after}
 use Rattle.ov_versions.specs.Damages.{IsBadList, RefusesLists}
 use Rattle.ov_versions.specs.OfWorld.{IsSetOf, IsSpared, rids_in}
 
@@ -165,12 +165,16 @@ rids_below vs k low =
   where
     g : Grows (drop (k + 1) vs) (recs (take (k + 1) vs) [])
     g = grows (drop (k + 1) vs) (recs (take (k + 1) vs) [])
+
     parts : recs vs [] ≡ recs (drop (k + 1) vs) (recs (take (k + 1) vs) [])
     parts = ap (λ l. recs l []) (sym (take-append-drop (k + 1) vs)) ∙ recs_append (take (k + 1) vs) (drop (k + 1) vs) []
+
     whole : order_of vs ≡ order_of (take (k + 1) vs) ++ g.more
     whole = ap (λ l. order l 1) parts ∙ g.is
+
     short : k < length (recs (take (k + 1) vs) [])
     short = omega (arith, low, length_recs (take (k + 1) vs) [], length-take-le (k + 1) vs (omega (arith, low)))
+
     same : get_or (recs vs []) k [] ≡ get_or (recs (take (k + 1) vs) []) k []
     same = ap (λ l. get_or l k []) parts ∙ recs_from (drop (k + 1) vs) (recs (take (k + 1) vs) []) k short
 
@@ -229,32 +233,45 @@ reads w ds area s vid of is = record {
   where
     vs : List Version
     vs = ds.cvd.versions
+
     all : List Rec
     all = order_of ds.cvd.versions
+
     f : Extent → Option (List ℕ)
     f = (readings_of area).list
+
     shown : List (VersionNumbers (List ℕ))
     shown = shown_versions (order_of ds.cvd.versions) [] ds.cvd.versions
+
     same : map (each_version (readings_of area).list) s.versions ≡ map (each_version Some) (shown_versions (order_of ds.cvd.versions) [] ds.cvd.versions)
     same = ap (λ x. x.versions) of.shows
+
     here : vid - 1 < length s.versions
     here = omega (arith, is.0, is.1)
+
     low : vid - 1 < length ds.cvd.versions
     low = omega (arith, here, same_count (readings_of area).list s.versions (shown_versions (order_of ds.cvd.versions) [] ds.cvd.versions) same, shown_count (order_of ds.cvd.versions) ds.cvd.versions [])
+
     at : SameAt (readings_of area).list s.versions (shown_versions (order_of ds.cvd.versions) [] ds.cvd.versions) (vid - 1)
     at = same_at (readings_of area).list s.versions (shown_versions (order_of ds.cvd.versions) [] ds.cvd.versions) (vid - 1) same here
+
     zero_plus : (n : ℕ) → 0 + n ≡ n
     zero_plus n = omega arith
+
     found : (readings_of area).list (list_of s vid) ≡ Some (rids_in ds vid)
     found =
         at.list ∙ ap Some (shown_list (order_of ds.cvd.versions) ds.cvd.versions [] (vid - 1) none_rids low
         ∙ ap (λ n. listed (order_of ds.cvd.versions) (get_or (recs ds.cvd.versions []) n [])) (zero_plus (vid - 1)))
+
     read : (length (extent_bytes area (list_of s vid)) ≡ (list_of s vid).bytes) × Spells (extent_bytes area (list_of s vid)) (rids_in ds vid)
     read = (list_is area (list_of s vid) (rids_in ds vid)).0 found
+
     next : vid - 1 + 1 ≡ vid
     next = omega (arith, is.0)
+
     zero_sum : sum_by (λ (v : VersionNumbers (List ℕ)). v.fresh) (take vid (shown_versions (order_of ds.cvd.versions) [] ds.cvd.versions)) + 0 ≡ length (order_of (take vid ds.cvd.versions))
     zero_sum = shown_sum (order_of ds.cvd.versions) ds.cvd.versions [] vid
+
     count : records_after s vid ≡ length (order_of (take (vid - 1 + 1) ds.cvd.versions))
     count =
         same_sum (readings_of area).list s.versions (shown_versions (order_of ds.cvd.versions) [] ds.cvd.versions) vid same

@@ -8,7 +8,7 @@ use Rattle.std.specs.Prelude.{◌≡◌, ◌≤◌, ℕ, ◌-◌, Bool, cond, Li
 use Rattle.std.specs.List.{All, find, list_any, sum_by, count_by}
 use Rattle.ov_host.specs.declared.area.Extent.{Extent}
 use Rattle.ov_member.specs.Rids.{has, AreRids}
-use Rattle.ov_catalog.specs.Numbers.{VersionNumbers, PartNumbers, SetNumbers}
+use Rattle.ov_catalog.specs.Numbers.{PartNumbers, SetNumbers}
 
 -- a dataset, in numbers
 abbrev pub Numbers : Type 0

@@ -2,7 +2,7 @@
 --     IsBadList area s vid      a version's list is short, is off its grammar or doesn't agree
 --     HasBadList area s vids page      it is that of one of these versions, and this is its first page
 --     IsDamage area s vids page      a damage of a scan of these versions, named by this page
-use Rattle.std.specs.Prelude.{◌≡◌, ◌⊎◌, ℕ, true, List, [], ◌∷◌, map, Option, None}
+use Rattle.std.specs.Prelude.{◌≡◌, ◌⊎◌, ℕ, true, List, [], ◌∷◌, map, None}
 use Rattle.std.specs.List.{Contains}
 use Rattle.ov_host.specs.declared.area.Extent.{Extent}
 use Rattle.ov_member.specs.Rids.{has}
@@ -12,7 +12,7 @@ use Rattle.ov_fetch.specs.declared.errors.FetchErr.{FetchErr}
 use Rattle.ov_fetch.specs.declared.errors.FetchErr.TheVariants.{Host, Memory, Damaged}
 use Rattle.ov_fetch.specs.Extents.{IsList, IsNoList, rids_of}
 use Rattle.ov_fetch.specs.Rows.{AreSegments, HasNoSegment, record_of, joined}
-use Rattle.ov_versions.specs.Agreement.{Numbers, nowhere, list_of, segments_of, Agrees, PartAgrees}
+use Rattle.ov_versions.specs.Agreement.{Numbers, list_of, segments_of, Agrees, PartAgrees}
 
 -- the list is whole, and its rids don't bear out the numbers of the version
 pub record Disagrees (area : List ℕ) (s : Numbers) (vid : ℕ) : Type 0 where

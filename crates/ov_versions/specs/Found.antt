@@ -2,14 +2,13 @@
 --     IsPicked schema records rids pick found      at these positions stand these records, which have the rids, each once, in
 --         key order
 --     IsScanned area s records vid pick      so they are those of the version, as they are read
-use Rattle.std.specs.Prelude.{◌≡◌, ℕ, true, List, length, map, Some, slice_get}
+use Rattle.std.specs.Prelude.{◌≡◌, ℕ, List, length, map, Some, slice_get}
 use Rattle.std.specs.List.{All}
 use Rattle.std.specs.List.Sorted.{IsPermutation}
 use Rattle.ov_host.specs.declared.area.Extent.{Extent}
-use Rattle.ov_host.specs.Host.{State}
 use Rattle.ov_value.specs.Shapes.{Shape}
 use Rattle.ov_segment.specs.declared.numbered.Record.{Record}
-use Rattle.ov_fetch.specs.Extents.{IsList, page_bytes, rids_of}
+use Rattle.ov_fetch.specs.Extents.{IsList, rids_of}
 use Rattle.ov_fetch.specs.Rows.{AreSegments, joined, record_of}
 use Rattle.ov_fetch.specs.Scans.{InKeyOrder, rows_of as rows_in}
 use Rattle.ov_versions.specs.Agreement.{Numbers, list_of, rows_of, segments_of}

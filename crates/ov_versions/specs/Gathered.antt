@@ -1,9 +1,6 @@
 -- The rows of versions when all partitions were passed.
 use Rattle.std.specs.Prelude.{◌≡◌, ◌<◌, ℕ, true, List, [], length, slice_index_or}
-use Rattle.std.specs.List.{All}
 use Rattle.ov_host.specs.Host.{State}
-use Rattle.ov_segment.specs.declared.numbered.Record.{Record}
-use Rattle.ov_fetch.specs.Extents.{page_bytes}
 use Rattle.ov_fetch.specs.Scans.{AllFit}
 use Rattle.ov_versions.specs.declared.gathering.Gathered.{Gathered}
 use Rattle.ov_versions.specs.Agreement.{Numbers, is_served, segments_of}

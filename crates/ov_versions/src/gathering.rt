@@ -95,7 +95,7 @@ fn add_group<H: Host>(
     ensures added { OnOk result (IsAdded d.now.schema (H.state host.old) part.now vids.now lists.now found.old found.new) }
     ensures err { (H.state host.old).tells ≡ true
         → IfErr result (λ e. (0 < length group.now) × RefusesRows e d.now.schema (page_bytes (H.state host.old)) part.now.segments
-            (map (list_of (set_in d.now)) (numbers_at vids.now group.now)) (sets_at lists.now group.now)) }
+        (map (list_of (set_in d.now)) (numbers_at vids.now group.now)) (sets_at lists.now group.now)) }
 {
     if group.is_empty() {
         return Ok(());

@@ -54,15 +54,15 @@ fn place_in(places: &[Option<usize>], vid: u32) -> Option<usize>
     ensures { result ≡ place_at places.now vid }
 {
     let vid = vid as usize;
-    if vid < places.len() { places[vid] } else { None }
+    if vid < places.len() {
+        places[vid]
+    } else {
+        None
+    }
 }
 
 /// The versions at these places.
-pub(crate) fn vids_at(
-    alloc: Global,
-    vids: &[u32],
-    group: &[usize],
-) -> Result<Vec<u32>, AllocError>
+pub(crate) fn vids_at(alloc: Global, vids: &[u32], group: &[usize]) -> Result<Vec<u32>, AllocError>
     requires { All (λ place. place < length vids.now) group.now }
     ensures { IfOk result (λ found. found.items ≡ numbers_at vids.now group.now) }
 {

@@ -10,7 +10,7 @@ use ov_value::{Column, Kind, Txt};
 use std::alloc::{AllocError, Global};
 use std::test::Fail;
 
-// Version 1 has the records 1 and 2, version 2 the records 1, 3 and 4; each has a partition of its own.
+// Version 1 has the records 1 and 2, version 2 the records 1, 3 and 4; they share a partition. No event makes two yet.
 const LIST_1: &[u8] = b"\0\0\0\x01\0\0\0\x02";
 
 const LIST_2: &[u8] = b"\0\0\0\x01\0\0\0\x01\0\0\0\x03\0\0\0\x02";
@@ -19,9 +19,8 @@ const LIST_2: &[u8] = b"\0\0\0\x01\0\0\0\x01\0\0\0\x03\0\0\0\x02";
 const SEGMENT_1: &[u8] = b"\0\0\0\x01\0\0\0\x17\0\0\0\0\0\0\0\x01\0\0\0\x03ann\0\0\0\0\0\0\0\x0a\
 \0\0\0\x02\0\0\0\x17\0\0\0\0\0\0\0\x02\0\0\0\x03bob\0\0\0\0\0\0\0\x14";
 
-// (1, ann, 10), (4, bob, 25) and (3, cy, 30) in the order of their rids 1, 3 and 4, so that the keys turn the last two.
-const SEGMENT_2: &[u8] = b"\0\0\0\x01\0\0\0\x17\0\0\0\0\0\0\0\x01\0\0\0\x03ann\0\0\0\0\0\0\0\x0a\
-\0\0\0\x03\0\0\0\x16\0\0\0\0\0\0\0\x03\0\0\0\x02cy\0\0\0\0\0\0\0\x1e\
+// (3, cy, 30) and (2, bob, 25): the keys turn them.
+const SEGMENT_2: &[u8] = b"\0\0\0\x03\0\0\0\x16\0\0\0\0\0\0\0\x03\0\0\0\x02cy\0\0\0\0\0\0\0\x1e\
 \0\0\0\x04\0\0\0\x17\0\0\0\0\0\0\0\x02\0\0\0\x03bob\0\0\0\0\0\0\0\x19";
 
 // Each stands at the front of a page, in this order.
@@ -81,10 +80,10 @@ fn commit(alloc: Global) -> Result<Event, AllocError> {
         parents: Items::new(parents),
         rows: 3,
         fresh: 2,
-        place: Placed::Own,
-        added: 3,
+        place: Placed::Join(1),
+        added: 2,
         list: Extent { page: 2, bytes: 16 },
-        segment: Extent { page: 3, bytes: 92 },
+        segment: Extent { page: 3, bytes: 61 },
     })
 }
 
@@ -116,7 +115,7 @@ fn scanned(
 }
 
 fn people(catalog: &Catalog) -> Result<&Cvd, Fail> {
-    catalog.cvd("people").ok_or("they are there".into())
+    Ok(catalog.cvd("people").ok_or("they are there")?)
 }
 
 // The rids of the rows of the version at a place, in order.
@@ -134,14 +133,14 @@ fn rids_at(alloc: Global, scan: &Scan, place: usize) -> Result<Vec<u32>, Fail> {
 }
 
 #[test]
-fn rows_come_in_key_order_out_of_their_own_partitions(rt: HostRuntime) -> Result<(), Fail> {
+fn rows_come_in_key_order_and_each_extent_is_read_once(rt: HostRuntime) -> Result<(), Fail> {
     let alloc = rt.alloc();
     let catalog = catalog(alloc)?;
     let d = people(&catalog)?;
     let mut host = host_of(alloc, area(alloc)?);
     let scan = scanned(alloc, &mut host, d, 2, 1)?;
     assert_eq!(rt; scan.vids.as_slice(), [2, 1].as_slice());
-    assert_eq!(rt; scan.records.as_slice().len(), 5);
+    assert_eq!(rt; scan.records.as_slice().len(), 4);
     assert_eq!(rt; rids_at(alloc, &scan, 0)?.as_slice(), [1, 4, 3].as_slice());
     assert_eq!(rt; rids_at(alloc, &scan, 1)?.as_slice(), [1, 2].as_slice());
     assert_eq!(rt; host.calls(), 4);
@@ -155,8 +154,8 @@ const DAMAGES: [(usize, u8, u32); 6] = [
     (7, 3, 0),
     (8203, 4, 2),
     (4103, 0x16, 1),
-    (12_319, 2, 3),
-    (12_352, 5, 2),
+    (12_291, 5, 3),
+    (12_321, 5, 2),
 ];
 
 #[test]
@@ -175,35 +174,41 @@ fn damage_is_named_by_its_page(rt: HostRuntime) -> Result<(), Fail> {
     Ok(())
 }
 
-// A scan of version 1 alone fetches its list and its segment.
+// Without scanning anything else.
 #[test]
-fn other_partitions_are_left_alone(rt: HostRuntime) -> Result<(), Fail> {
+fn a_list_is_read_alone(rt: HostRuntime) -> Result<(), Fail> {
     let alloc = rt.alloc();
     let catalog = catalog(alloc)?;
     let d = people(&catalog)?;
     let mut host = host_of(alloc, area(alloc)?);
-    if has_version(d, 1) {
-        let lists = lists_of(alloc, &mut host, d, &[1])?;
+    if has_version(d, 2) {
+        let lists = lists_of(alloc, &mut host, d, &[2])?;
         assert_eq!(rt; lists.len(), 1);
         assert_eq!(rt; host.calls(), 1);
     }
     Ok(())
 }
 
+// A byte of the area, what it becomes, and the page that is named: rids that two segments share, and one that is over the
+// dataset's records.
+const OFF: [(usize, u8, u32); 2] = [(12_291, 2, 1), (12_321, 5, 1)];
+
 #[test]
-fn rids_of_partitions(rt: HostRuntime) -> Result<(), Fail> {
+fn a_partition_that_disagrees_names_its_first_segment(rt: HostRuntime) -> Result<(), Fail> {
     let alloc = rt.alloc();
     let catalog = catalog(alloc)?;
     let d = people(&catalog)?;
-    let mut pages = area(alloc)?;
-    if pages.len() > 12_352 {
-        pages[12_352] = 5;
-    }
-    let mut host = host_of(alloc, pages);
-    if let [first, second] = d.layout.parts() {
-        assert_eq!(rt; rids_in_part(alloc, &mut host, d, first)?.len(), 2);
-        let over = rids_in_part(alloc, &mut host, d, second).err();
-        assert_eq!(rt; over, Some(FetchErr::Damaged { page: 3 }));
+    for part in d.layout.parts() {
+        let mut host = host_of(alloc, area(alloc)?);
+        assert_eq!(rt; rids_in_part(alloc, &mut host, d, part)?.len(), 4);
+        for (place, byte, page) in OFF {
+            let mut pages = area(alloc)?;
+            if place < pages.len() {
+                pages[place] = byte;
+            }
+            let off = rids_in_part(alloc, &mut host_of(alloc, pages), d, part).err();
+            assert_eq!(rt; off, Some(FetchErr::Damaged { page }), "byte {place}");
+        }
     }
     Ok(())
 }

@@ -12,6 +12,7 @@ returns c =
     let rids = c.args.rids.now in
     let same : length c.args.rids.now ≡ c.args.count = omega (arith, c.len.ensures.count, c.if-len-count.false) in
     let few : c.min.result ≡ capped c.args.last = omega (arith, c.min.ensures) in
-    let is : c.in_ok-first.first ≡ run 1 (capped c.args.last) = c.in_ok-first.ensures ∙ ap (run 1) few in
-    (λ t. borne_out count last rids c.in_ok-first.first c.len.ensures.set is same (sym c.common.ensures ∙ eqb-true c.common.result count t),
-    λ out. eq-eqb c.common.result count (c.common.ensures ∙ all_shared count last rids c.in_ok-first.first c.len.ensures.set is out))
+    let is : c.in_ok-first.first ≡ run 1 (capped c.args.last) = c.in_ok-first.ensures ∙ ap (run 1) few in (
+      λ t. borne_out count last rids c.in_ok-first.first c.len.ensures.set is same (sym c.common.ensures ∙ eqb-true c.common.result count t),
+      λ out. eq-eqb c.common.result count (c.common.ensures ∙ all_shared count last rids c.in_ok-first.first c.len.ensures.set is out),
+    )

@@ -1,7 +1,7 @@
-use Rattle.std.proofs.Common.{◌≡◌, ◌<◌, ◌≤◌, ◌^◌, ◌++◌, List, [], ◌∷◌, ℕ, refl, sym, ◌∙◌, ap, subst, rules, arith}
+use Rattle.std.proofs.Common.{◌≡◌, ◌<◌, ◌≤◌, ◌^◌, ◌++◌, List, [], ◌∷◌, ℕ, sym, ◌∙◌, ap, rules, arith}
 use Rattle.std.specs.Int.{w32, to_be_bytes}
 use Rattle.std.proofs.lemmas.List.{append-nil}
-use Rattle.ov_member.specs.Lists.{Spells, run, bytes_of}
+use Rattle.ov_member.specs.Lists.{Spells, run}
 use Rattle.ov_versions.proofs.agreeing.range_to.Goals as goal
 
 none_to : (last : ℕ) (bytes : List ℕ) → last ≡ 0 → bytes ≡ [] → Spells bytes (run 1 last)

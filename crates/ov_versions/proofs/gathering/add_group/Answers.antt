@@ -1,11 +1,10 @@
-use Rattle.std.proofs.Common.{◌≡◌, ◌<◌, ◌++◌, ℕ, List, length, map, sym, ◌∙◌, ap, subst, rules, arith}
+use Rattle.std.proofs.Common.{◌≡◌, ◌<◌, ◌++◌, ℕ, List, length, sym, ◌∙◌, ap, subst, rules, arith}
 use Rattle.std.specs.List.{All, AllZip}
 use Rattle.std.proofs.lemmas.Grind.{common_steps}
 use Rattle.std.proofs.lemmas.List.{length-map}
 use Rattle.ov_catalog.specs.Sets.{set_in}
 use Rattle.ov_host.specs.declared.area.Extent.{Extent}
 use Rattle.ov_segment.specs.declared.numbered.Record.{Record}
-use Rattle.ov_fetch.specs.Scans.{AllFit}
 use Rattle.ov_versions.specs.Agreement.{IsThere}
 use Rattle.ov_versions.specs.Gathering.{ArePut, IsRowsOf, sets_at}
 use Rattle.ov_versions.proofs.Gatherings.{group_added, group_there, some_bytes, zip_length}

@@ -1,9 +1,8 @@
-use Rattle.std.proofs.Common.{◌≡◌, ◌<◌, ◌≤◌, ◌++◌, [], ◌∷◌, ℕ, Option, List, length, take, get_or, sym, ◌∙◌, ap, subst, arith}
+use Rattle.std.proofs.Common.{◌≡◌, ◌<◌, ◌++◌, [], ◌∷◌, List, length, take, get_or, sym, ◌∙◌, ap, subst, arith}
 use Rattle.std.proofs.lemmas.List.{take_more, take_all}
 use Rattle.ov_catalog.specs.Sets.{set_in}
 use Rattle.ov_fetch.specs.Extents.{page_bytes}
 use Rattle.ov_layout.specs.declared.part.Part.{Part}
-use Rattle.ov_layout.specs.Parts.{times_placed}
 use Rattle.ov_versions.specs.Damages.{RefusesScan}
 use Rattle.ov_versions.specs.Gathering.{ArePlaces}
 use Rattle.ov_versions.proofs.Matching.{err_on}

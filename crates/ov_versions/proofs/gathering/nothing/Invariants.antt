@@ -1,4 +1,4 @@
-use Rattle.std.proofs.Common.{◌≡◌, ◌<◌, ◌≤◌, ◌+◌, ◌-◌, ℕ, Some, None, [], length, map, take, get_or}
+use Rattle.std.proofs.Common.{◌≤◌, ◌-◌, length}
 use Rattle.ov_versions.proofs.gathering.nothing.Given as goal
 
 abbrev pub invariant-loop-picks : goal.invariant-loop-picks

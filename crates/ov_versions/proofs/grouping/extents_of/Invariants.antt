@@ -1,4 +1,4 @@
-use Rattle.std.proofs.Common.{◌≡◌, ◌<◌, ◌≤◌, ◌+◌, ℕ, Some, None, [], length, map, take, get_or}
+use Rattle.std.proofs.Common.{◌≡◌, map, take}
 use Rattle.ov_catalog.specs.Sets.{set_in}
 use Rattle.ov_versions.specs.Agreement.{list_of}
 use Rattle.ov_versions.proofs.grouping.extents_of.Given as goal

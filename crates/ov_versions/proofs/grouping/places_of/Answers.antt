@@ -1,6 +1,5 @@
-use Rattle.std.proofs.Common.{◌≡◌, ◌<◌, ◌≤◌, ◌+◌, ℕ, Some, length, set, get_or, ◌∙◌, subst, arith}
+use Rattle.std.proofs.Common.{◌≡◌, ◌<◌, Some, length, get_or, ◌∙◌, subst, arith}
 use Rattle.std.proofs.lemmas.List.{length-set}
-use Rattle.ov_versions.specs.Gathering.{ArePlaces}
 use Rattle.ov_versions.proofs.Placing.{PlacesTo, goes_on}
 use Rattle.ov_versions.proofs.grouping.places_of.Goals as goal
 

@@ -1,4 +1,4 @@
-use Rattle.std.proofs.Common.{◌≡◌, ◌<◌, ◌≤◌, ◌+◌, ◌-◌, ℕ, Some, None, [], length, map, take, get_or}
+use Rattle.std.proofs.Common.{◌≡◌, ◌+◌, length}
 use Rattle.ov_versions.proofs.Placing.{PlacesTo}
 use Rattle.ov_versions.proofs.grouping.places_of.Given as goal
 

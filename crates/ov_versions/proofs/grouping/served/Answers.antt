@@ -1,4 +1,4 @@
-use Rattle.std.proofs.Common.{◌≡◌, ◌<◌, ◌+◌, length, ℕ, Option, Some, None, List, [], ◌∷◌, ◌++◌, take, get_or, sym, ◌∙◌, ap}
+use Rattle.std.proofs.Common.{◌≡◌, ◌<◌, ◌+◌, length, ℕ, Option, List, [], ◌∷◌, ◌++◌, take, get_or, sym, ◌∙◌, ap}
 use Rattle.std.specs.List.{filter_map, cons_option}
 use Rattle.std.proofs.lemmas.List.{take_more, append-nil}
 use Rattle.std.proofs.lemmas.List.Elements.{filter_map-append}
@@ -20,9 +20,9 @@ loop-vid-preserved c =
       | in-Some+in_ok-push-in-Some w ↦ rw (w.group-is, w.in_ok-push-in-Some.ensures.items) (
           ap (λ (l : List ℕ). l ++ w.in-Some.place ∷ []) c.loop-vid.invariant
           ∙ sym (more places versions k low ∙ ap (λ (o : Option ℕ). before ++ cons_option o []) (sym c.place_in.ensures ∙ w.in-Some.is))
-        )
+          )
       | in-None w ↦ rw w.group-is (
           c.loop-vid.invariant
           ∙ sym (more places versions k low ∙ (ap (λ (o : Option ℕ). before ++ cons_option o []) (sym c.place_in.ensures ∙ w.in-None.is) ∙ append-nil before))
-        )
+          )
     ]

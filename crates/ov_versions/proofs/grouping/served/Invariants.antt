@@ -1,4 +1,4 @@
-use Rattle.std.proofs.Common.{◌≡◌, ◌<◌, ◌≤◌, ◌+◌, ℕ, Some, None, [], length, map, take, get_or}
+use Rattle.std.proofs.Common.{◌≡◌, take}
 use Rattle.std.specs.List.{filter_map}
 use Rattle.ov_versions.specs.Gathering.{place_at}
 use Rattle.ov_versions.proofs.grouping.served.Given as goal

@@ -1,4 +1,4 @@
-use Rattle.std.proofs.Common.{◌≡◌, ◌<◌, ◌-◌, ℕ, List, length, get_or, sym, ◌∙◌, subst, ap, arith}
+use Rattle.std.proofs.Common.{◌≡◌, ℕ, List, sym, subst, ap, arith}
 use Rattle.std.proofs.lemmas.Result.{IfOk-weaker}
 use Rattle.ov_host.specs.declared.area.Extent.{Extent}
 use Rattle.ov_catalog.specs.Sets.{set_in}

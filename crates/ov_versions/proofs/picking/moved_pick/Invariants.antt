@@ -1,4 +1,4 @@
-use Rattle.std.proofs.Common.{◌≡◌, ◌<◌, ◌≤◌, ◌+◌, ℕ, Some, None, [], length, map, take, get_or}
+use Rattle.std.proofs.Common.{◌≡◌, take}
 use Rattle.ov_versions.specs.Gathering.{moved}
 use Rattle.ov_versions.proofs.picking.moved_pick.Given as goal
 

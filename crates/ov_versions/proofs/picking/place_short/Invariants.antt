@@ -1,4 +1,3 @@
-use Rattle.std.proofs.Common.{◌≡◌, ◌<◌, ◌≤◌, ◌+◌, ◌-◌, ℕ, Some, None, [], length, map, take, get_or}
 use Rattle.ov_versions.specs.Gathering.{AreFull}
 use Rattle.ov_versions.proofs.picking.place_short.Given as goal
 

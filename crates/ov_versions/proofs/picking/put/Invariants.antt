@@ -1,4 +1,3 @@
-use Rattle.std.proofs.Common.{◌≡◌, ◌<◌, ◌≤◌, ◌+◌, ◌-◌, ℕ, Some, None, [], length, map, take, get_or}
 use Rattle.ov_versions.specs.Gathering.{ArePut}
 use Rattle.ov_versions.proofs.picking.put.Given as goal
 

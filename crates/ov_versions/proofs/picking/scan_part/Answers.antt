@@ -1,4 +1,4 @@
-use Rattle.std.proofs.Common.{◌≡◌, ℕ, List, length, sym, ◌∙◌, ap, subst}
+use Rattle.std.proofs.Common.{ℕ, List, length, sym, subst}
 use Rattle.std.specs.List.{All, AllZip}
 use Rattle.ov_segment.specs.declared.numbered.Record.{Record}
 use Rattle.ov_fetch.specs.Extents.{page_bytes}
