@@ -47,7 +47,7 @@ same_recs r q e =
     let two = both_true (r.origin == q.origin) (is_same_row r.row q.row) e
     in λ i. record { origin = eqb-true r.origin q.origin two.0 i; row = same_row_is r.row q.row two.1 i }
 
-rid_some : (all : List Rec) (r : Rec) → 1 ≤ rid_in all r
+pub rid_some : (all : List Rec) (r : Rec) → 1 ≤ rid_in all r
 rid_some [] r = omega arith
 rid_some (x ∷ all) r = at (is_same_rec r x)
   where
@@ -55,14 +55,14 @@ rid_some (x ∷ all) r = at (is_same_rec r x)
     at true = omega arith
     at false = omega arith
 
-rest_in : (x p : Rec) (all : List Rec) → (p ≡ x) ⊎ IsIn all p → is_same_rec p x ≡ false → IsIn all p
+pub rest_in : (x p : Rec) (all : List Rec) → (p ≡ x) ⊎ IsIn all p → is_same_rec p x ≡ false → IsIn all p
 rest_in x p all (inl e) off = absurd (clash off (ap (λ y. is_same_rec y x) e ∙ same_rec-refl x))
   where
     clash : {b : Bool} → b ≡ false → b ≡ true → ⊥
     clash f t = cc
 rest_in x p all (inr there) off = there
 
-rid_own : (all : List Rec) (r q : Rec) → IsIn all r → IsIn all q → rid_in all r ≡ rid_in all q → r ≡ q
+pub rid_own : (all : List Rec) (r q : Rec) → IsIn all r → IsIn all q → rid_in all r ≡ rid_in all q → r ≡ q
 rid_own [] r q is other same = absurd is
 rid_own (x ∷ all) r q is other same =
     at (is_same_rec r x) (is_same_rec q x) (same_recs r x) (same_recs q x) (rest_in x r all is) (rest_in x q all other) same (rid_own all r q)
@@ -97,7 +97,7 @@ rows_back : (ps : List ℕ) (done : List (List Rec)) (rows : List Row) → map (
 rows_back ps done [] = refl
 rows_back ps done (row ∷ rows) = ap (λ rest. row ∷ rest) (rows_back ps done rows)
 
-ours_known : (versions : List Version) (v : Version) → AreIn (records_of v (recs versions [])) (order_of (versions ++ v ∷ []))
+pub ours_known : (versions : List Version) (v : Version) → AreIn (records_of v (recs versions [])) (order_of (versions ++ v ∷ []))
 ours_known versions v =
     last_are (recs versions []) (records_of v (recs versions [])) (order_of (versions ++ v ∷ []))
     (subst (λ rss. AllAreIn rss (order_of (versions ++ v ∷ []))) (recs_more versions v []) (all_known (versions ++ v ∷ [])))

@@ -9,3 +9,4 @@ pub mod Beginning
 pub mod Sizes
 pub mod Edges
 pub mod Following
+pub mod Given

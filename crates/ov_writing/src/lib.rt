@@ -6,11 +6,17 @@
 #![tactic(auto)]
 
 mod first;
+mod laws;
 mod next;
 mod order;
 mod runs;
 mod write_err;
 
 pub use first::first_version;
+pub use laws::records_are_given;
 pub use next::{Next, next_version};
+pub use runs::are_given;
 pub use write_err::WriteErr;
+
+#[cfg(test)]
+mod tests;

@@ -1,6 +1,6 @@
 //! The list and the segment of a version.
 
-ghost use Rattle.std.specs.Prelude.{◌≡◌, ◌<◌, ◌≤◌, ◌^◌, length, map, IfOk, IfErr, nat_eq};
+ghost use Rattle.std.specs.Prelude.{◌≡◌, ◌↔◌, ◌<◌, ◌≤◌, ◌^◌, length, map, IsTrue, IfOk, IfErr, nat_eq};
 ghost use Rattle.std.specs.List.{All, IsDistinct};
 ghost use Rattle.ov_value.specs.Spelling.{IsRow, row_spelling};
 ghost use Rattle.ov_catalog.specs.Reached.{AreRows};
@@ -63,6 +63,18 @@ pub(crate) fn runs_of(
         segment,
         added,
     })
+}
+
+/// Whether these can be the rids of the rows: as many as there are rows, from 1 to 2^31, and none twice.
+pub fn are_given(alloc: Global, rids: &[u32], rows: &[Row]) -> Result<bool, AllocError>
+    ensures { IfOk result (λ given. IsTrue given ↔ AreGiven rids.now rows.now) }
+{
+    let mut ordered = Vec::from_slice(alloc, rids)?;
+    sort_rids(&mut ordered)?;
+    match Members::of(alloc, ordered.as_slice())? {
+        Some(_) => Ok(rids.len() == rows.len()),
+        None => Ok(false),
+    }
 }
 
 // The bytes of the list with these rids.
