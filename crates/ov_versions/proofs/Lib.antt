@@ -10,4 +10,3 @@ pub mod Gatherings
 pub mod Passed
 pub mod Ending
 pub mod Shows
-pub mod Named

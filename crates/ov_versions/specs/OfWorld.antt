@@ -1,6 +1,5 @@
 -- A dataset of a World, whose numbers and pages are what the World asks for.
 --     IsSetOf w ds area s      these numbers, with what the pages have in their extents, are those of the dataset
---     IsNamed w name area s      they are those of the dataset of this name
 --     rids_in ds vid      the rids of the records of a version
 use Rattle.std.specs.Prelude.{◌≡◌, ℕ, List, [], Option, Some}
 use Rattle.ov_catalog.specs.Numbers.{SetNumbers, each_set}
@@ -10,9 +9,9 @@ use Rattle.ov_catalog.specs.Stands.{Readings}
 use Rattle.ov_fetch.specs.declared.errors.FetchErr.{FetchErr}
 use Rattle.ov_fetch.specs.declared.errors.FetchErr.TheVariants.{Host, Memory, Damaged}
 use Rattle.ov_image.specs.Pages.{readings_of}
-use Rattle.ov_model.specs.Lists.{IsIn}
+use Rattle.ov_model.specs.Moves.{numbered}
 use Rattle.ov_model.specs.Records.{of_version, order_of, recs}
-use Rattle.ov_model.specs.World.{Dataset, World, set_named}
+use Rattle.ov_model.specs.World.{Dataset, World, first_set}
 use Rattle.ov_versions.specs.Agreement.{Numbers}
 
 -- with what is read in the holes, and as the World has it
@@ -24,14 +23,8 @@ asked_set ds = each_set Some Some (shown_set ds)
 
 pub record IsSetOf (w : World) (ds : Dataset) (area : List ℕ) (s : Numbers) : Type 0 where
   pub reached : Reached w
-  pub among : IsIn w.sets ds
+  pub among : first_set (numbered s.number) w.sets ≡ Some ds
   pub shows : seen_set (readings_of area) s ≡ asked_set ds
-
--- the dataset of a name, and so are its numbers
-pub record IsNamed (w : World) (name area : List ℕ) (s : Numbers) : Type 0 where
-  pub ds : Dataset
-  pub named_is : set_named w name ≡ Some ds
-  pub of : IsSetOf w ds area s
 
 abbrev pub rids_in : Dataset → ℕ → List ℕ
 rids_in ds vid = list_of (order_of ds.cvd.versions) (of_version (recs ds.cvd.versions []) vid)

@@ -8,13 +8,11 @@
 mod agreeing;
 mod gathering;
 mod grouping;
-mod laws;
 mod lists;
 mod partitions;
 mod picking;
 mod scans;
 
-pub use laws::a_named_dataset_is_of_its_world;
 pub use lists::lists_of;
 pub use partitions::rids_in_part;
 pub use scans::{has_version, scan_versions};
