@@ -6,3 +6,4 @@ pub mod Answering
 pub mod Unreadying
 pub mod Dropping
 pub mod Versions
+pub mod Seeing

@@ -36,3 +36,8 @@ IsUnscanned off set vids old new why.Host = Rose old.faults new.faults
 IsUnscanned off set vids old new why.Memory = Unit {0}
 IsUnscanned off set vids old new (why.Damaged area at) = (area ≡ Pages) × (off ≡ None) × IsDamagedIn set vids old at
 IsUnscanned off set vids old new other = (off ≡ Some other) × (new ≡ old)
+
+-- where the store is at a World nothing is damaged
+abbrev pub IsUndamaged : StoreErr → Type 0
+IsUndamaged (why.Damaged area at) = ⊥
+IsUndamaged _ = Unit {0}

@@ -1,14 +1,17 @@
 // What a store reads.
 
-ghost use Rattle.std.specs.Prelude.{◌≡◌, ◌≤◌, ◌+◌, ℕ, true, None, Some, IfOk, IfErr, OnOk, MatchResult};
+ghost use Rattle.std.specs.Prelude.{◌≡◌, ◌≤◌, ◌+◌, ℕ, true, None, Some, IfOk, IfErr, OnOk, MatchResult, map};
 ghost use Rattle.std.specs.List.{AllZip};
 ghost use Rattle.ov_host.specs.declared.area.Extent.{Extent as ExtentValue};
 ghost use Rattle.ov_catalog.specs.Numbers.{SetNumbers};
 ghost use Rattle.ov_fetch.specs.Extents.{Looked, page_bytes};
-ghost use Rattle.ov_fetch.specs.Scans.{IsSound};
+ghost use Rattle.ov_fetch.specs.Scans.{IsSound, rows_at};
+ghost use Rattle.ov_model.specs.Records.{rows_at as rows_of};
+ghost use Rattle.ov_model.specs.World.{Dataset, World, set_named};
+ghost use Rattle.ov_core.specs.AtWorld.{IsAtWorld};
 ghost use Rattle.ov_versions.specs.Found.{HasRows, IsScanned};
 ghost use Rattle.ov_versions.specs.Sizes.{bytes_for};
-ghost use Rattle.ov_store.specs.Scanning.{IsUnscanned, scan_off, set_in};
+ghost use Rattle.ov_store.specs.Scanning.{IsUndamaged, IsUnscanned, scan_off, set_in};
 
 use crate::errors::StoreErr;
 use crate::listing::listed;
@@ -37,6 +40,10 @@ impl Store {
             → IfOk result (λ scan. AllZip (HasRows s) vids.now scan.picks) }
         ensures scanned { (s : SetNumbers ExtentValue ExtentValue) → (H.state host.old).tells ≡ true → set_in self.now.held.numbers name.now ≡ Some s
             → IfOk result (λ scan. AllZip (IsScanned (page_bytes (H.state host.old)) s scan.records) vids.now scan.picks) }
+
+        // At a World nothing is damaged, and the rows are those of the versions.
+        ensures world { (w : World) (d : Dataset) → IsAtWorld w self.now.held (H.state host.old) → set_named w name.now ≡ Some d
+            → MatchResult result (λ scan. map (rows_at scan.records) scan.picks ≡ map (rows_of d.cvd.versions) vids.now) IsUndamaged }
     {
         let Some(d) = self.core.catalog().cvd(name) else {
             return Err(StoreErr::NoCvd);
