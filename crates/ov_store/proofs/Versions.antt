@@ -18,7 +18,7 @@ use Rattle.ov_model.specs.World.{is_one}
 use Rattle.ov_store.specs.declared.errors.StoreErr.{StoreErr}
 use Rattle.ov_store.specs.declared.errors.StoreErr.TheVariants as why
 use Rattle.ov_store.specs.Refusals.{IsVidOff, vids_off}
-use Rattle.ov_store.specs.Scanning.{IsUnscanned, scan_off, set_in, versions_off}
+use Rattle.ov_store.specs.Scanning.{IsUndamaged, IsUnscanned, scan_off, set_in, versions_off}
 
 abbrev one_if : Bool → ℕ
 one_if b = if b then 1 else 0
@@ -111,3 +111,21 @@ served_map vid (part ∷ parts) = ap (λ b. has part.versions vid || b) (served_
 
 pub served_there : (d : Cvd) (vid : ℕ) → IsSet d → 1 ≤ vid → vid ≤ length d.versions.items → list_any (λ part. has part.versions vid) (map part_in d.layout.parts) ≡ true
 served_there d vid sound some there = served_map vid d.layout.parts ∙ sound.placed vid some there
+
+pub vids_undamaged : (count : ℕ) (vids : List ℕ) (off : StoreErr) → IsVidOff count vids off → IsUndamaged off
+vids_undamaged count vids (why.Damaged area place) is = absurd (vids_only count [] vids (why.Damaged area place) is)
+vids_undamaged count vids why.Host is = tt
+vids_undamaged count vids why.Memory is = tt
+vids_undamaged count vids (why.Full pages) is = tt
+vids_undamaged count vids why.JournalFull is = tt
+vids_undamaged count vids why.NoCvd is = tt
+vids_undamaged count vids why.CvdExists is = tt
+vids_undamaged count vids (why.NoVersion vid) is = tt
+vids_undamaged count vids (why.RepeatedVersion vid) is = tt
+vids_undamaged count vids (why.DuplicateKey row) is = tt
+vids_undamaged count vids why.TooManyVersions is = tt
+vids_undamaged count vids why.TooManyRecords is = tt
+vids_undamaged count vids why.TooManyRows is = tt
+vids_undamaged count vids why.TooManyCvds is = tt
+vids_undamaged count vids why.NoNumbers is = tt
+vids_undamaged count vids (why.FormatOne row) is = tt
