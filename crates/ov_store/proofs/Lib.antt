@@ -7,3 +7,4 @@ pub mod Unreadying
 pub mod Dropping
 pub mod Versions
 pub mod Seeing
+pub mod Numbers
