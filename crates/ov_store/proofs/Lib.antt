@@ -8,3 +8,4 @@ pub mod Dropping
 pub mod Versions
 pub mod Seeing
 pub mod Numbers
+pub mod Looking

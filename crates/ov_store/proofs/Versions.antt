@@ -1,5 +1,5 @@
 -- Versions that were listed without a refusal.
-use Rattle.std.proofs.Common.{◌≡◌, ◌==◌, ◌||◌, ◌+◌, ◌≤◌, ◌<◌, ℕ, Bool, true, false, nat_lt, List, [], ◌∷◌, length, map, refl, sym, ◌∙◌, ap, subst, inl, inr, arith}
+use Rattle.std.proofs.Common.{◌≡◌, ◌≢◌, ◌==◌, ◌||◌, ◌+◌, ◌≤◌, ◌<◌, ℕ, Bool, true, false, nat_lt, List, [], ◌∷◌, length, map, refl, sym, ◌∙◌, ap, subst, inl, inr, arith}
 use Rattle.std.specs.Prelude.{Option, Some, None, if◌then◌else◌}
 use Rattle.std.specs.List.{All, list_any}
 use Rattle.std.proofs.lemmas.Bool.{cases_Bool, ltb-false, eqb-false, eqb-true}
@@ -11,9 +11,10 @@ use Rattle.ov_layout.specs.declared.part.Part.{Part}
 use Rattle.ov_member.specs.Rids.{has}
 use Rattle.ov_catalog.specs.declared.cvd.Cvd.{Cvd}
 use Rattle.ov_catalog.specs.Numbers.{SetNumbers, Numbers}
+use Rattle.ov_catalog.specs.Reached.{AreParents}
 use Rattle.ov_catalog.specs.Ready.{IsSet}
 use Rattle.ov_catalog.specs.Sets.{part_in}
-use Rattle.ov_model.specs.Placed.{times}
+use Rattle.ov_model.specs.Placed.{AreThere, times}
 use Rattle.ov_model.specs.World.{is_one}
 use Rattle.ov_store.specs.declared.errors.StoreErr.{StoreErr}
 use Rattle.ov_store.specs.declared.errors.StoreErr.TheVariants as why
@@ -129,3 +130,12 @@ vids_undamaged count vids why.TooManyRows is = tt
 vids_undamaged count vids why.TooManyCvds is = tt
 vids_undamaged count vids why.NoNumbers is = tt
 vids_undamaged count vids (why.FormatOne row) is = tt
+
+-- ---- as parents
+
+are_there : (count : ℕ) (before vids : List ℕ) → vids_off count before vids ≡ None → AreThere count vids
+are_there count before [] e = tt
+are_there count before (vid ∷ vids) e = (is_there count before vid vids e, are_there count (vid ∷ before) vids (parts count before vid vids e).2)
+
+pub are_parents : (count : ℕ) (vids : List ℕ) → vids ≢ [] → vids_off count [] vids ≡ None → AreParents count vids
+are_parents count vids some e = record { some = some; there = are_there count [] vids e; once = listed_once count vids e }
