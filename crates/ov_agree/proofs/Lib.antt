@@ -3,5 +3,6 @@ pub mod Rids
 pub mod Weights
 pub mod Agreed
 pub mod Same
+pub mod Listed
 pub mod Seen
 pub mod Kept
