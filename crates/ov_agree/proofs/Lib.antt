@@ -4,5 +4,6 @@ pub mod Weights
 pub mod Agreed
 pub mod Same
 pub mod Listed
+pub mod Room
 pub mod Seen
 pub mod Kept
