@@ -6,14 +6,14 @@ use Rattle.std.proofs.lemmas.List.{length-map, length-append}
 use Rattle.std.proofs.lemmas.List.Sums.{sum_by-cons}
 use Rattle.std.proofs.Math.ListN.{get_or-map}
 use Rattle.ov_model.specs.Book.{Row, Version}
-use Rattle.ov_model.specs.Records.{Rec, recs, records_of, record_of, of_version, order, order_of, fresh_in, rows_at}
+use Rattle.ov_model.specs.Records.{Rec, recs, records_of, order, order_of, fresh_in}
 use Rattle.ov_model.specs.World.{Dataset, World}
 use Rattle.ov_model.proofs.Growing.{order_more}
-use Rattle.ov_catalog.specs.Numbers.{VersionNumbers, each_version, each_set}
-use Rattle.ov_catalog.specs.Shown.{Rids, shown_version, shown_versions, shown_set}
-use Rattle.ov_fitting.proofs.Seeing.{versions_long, rows_shown}
+use Rattle.ov_catalog.specs.Numbers.{VersionNumbers, each_version}
+use Rattle.ov_catalog.specs.Shown.{Rids, shown_version, shown_versions}
+use Rattle.ov_fitting.proofs.Seeing.{versions_long}
 use Rattle.ov_image.specs.Pages.{readings_of}
-use Rattle.ov_versions.specs.Agreement.{Numbers, rows_of, records_after}
+use Rattle.ov_versions.specs.Agreement.{Numbers}
 use Rattle.ov_versions.specs.OfWorld.{IsSetOf}
 use Rattle.ov_sights.specs.Sights.{HasNumbers}
 use Rattle.ov_sights.proofs.Founds.{Shows}

@@ -18,7 +18,7 @@ use Rattle.ov_catalog.proofs.Good.{NoneNumbered, Distinct, good}
 use Rattle.ov_catalog.proofs.Members.{heads, tails}
 use Rattle.ov_image.specs.Pages.{readings_of}
 use Rattle.ov_versions.specs.Agreement.{Numbers}
-use Rattle.ov_versions.specs.OfWorld.{IsSetOf, seen_set, asked_set}
+use Rattle.ov_versions.specs.OfWorld.{seen_set, asked_set}
 use Rattle.ov_sights.specs.Sights.{IsFound}
 
 some_is : {A : Type 0} (a b : A) → Some a ≡ Some b → a ≡ b

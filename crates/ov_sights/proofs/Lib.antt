@@ -6,3 +6,6 @@ pub mod Rowed
 pub mod Stored
 pub mod Together
 pub mod Parted
+pub mod Served
+pub mod Ascending
+pub mod Scanned

@@ -1,7 +1,6 @@
 -- The list of a version has the rids of its records.
 use Rattle.std.proofs.Common.{◌≡◌, ◌≤◌, ◌<◌, ℕ, zero, suc, ◌+◌, ◌-◌, List, [], ◌∷◌, ◌++◌, length, map, get_or, refl, sym, ◌∙◌, ap, subst, inl, inr, arith, append_assoc}
-use Rattle.std.specs.Prelude.{◌⊎◌, slice_index_or, Option, Some, unwrap_or}
-use Rattle.std.specs.List.{All}
+use Rattle.std.specs.Prelude.{Option, Some, unwrap_or}
 use Rattle.std.proofs.lemmas.List.{length-map, map-append, append-nil}
 use Rattle.std.proofs.Math.ListN.{get_or-map}
 use Rattle.ov_host.specs.declared.area.Extent.{Extent}
@@ -10,7 +9,6 @@ use Rattle.ov_fitting.proofs.Seeing.{rows_shown}
 use Rattle.ov_image.specs.Pages.{readings_of}
 use Rattle.ov_image.proofs.Extents.{list_is}
 use Rattle.ov_model.specs.Book.{Version}
-use Rattle.ov_model.specs.Lists.{IsIn}
 use Rattle.ov_model.specs.Records.{Rec, recs, records_of, of_version, order_of, rid_in, rows_at}
 use Rattle.ov_model.specs.World.{Dataset, World}
 use Rattle.ov_model.proofs.Growing.{length_recs}
@@ -18,7 +16,7 @@ use Rattle.ov_catalog.specs.Numbers.{VersionNumbers, each_version}
 use Rattle.ov_catalog.specs.Shown as shown
 use Rattle.ov_catalog.specs.Shown.{Rids, shown_versions}
 use Rattle.ov_catalog.proofs.Members.{of_map, of_sorted}
-use Rattle.ov_versions.specs.Agreement.{Numbers, nowhere, list_of, rows_of, records_after, IsThere, IsBorneOut, Agrees}
+use Rattle.ov_versions.specs.Agreement.{Numbers, nowhere, list_of, records_after, IsThere, Agrees}
 use Rattle.ov_versions.specs.Damages.{IsBadList}
 use Rattle.ov_versions.specs.OfWorld.{IsSetOf, rids_in}
 use Rattle.ov_sights.proofs.Counted.{numbers, shown_rows}

@@ -1,12 +1,12 @@
 -- Rids of records in their order, and lists of them.
-use Rattle.std.proofs.Common.{◌≡◌, ◌≤◌, ◌<◌, ℕ, zero, suc, ◌+◌, ◌-◌, Bool, true, false, List, [], ◌∷◌, ◌++◌, length, map, take, drop, get_or, refl, sym, ◌∙◌, ap, subst, inl, inr, arith, append_assoc}
+use Rattle.std.proofs.Common.{◌≡◌, ◌≤◌, ◌<◌, ℕ, zero, suc, ◌+◌, ◌-◌, Bool, true, false, List, [], ◌∷◌, ◌++◌, length, take, drop, get_or, refl, sym, ◌∙◌, ap, subst, inl, inr, arith, append_assoc}
 use Rattle.std.specs.Prelude.{nat_le, if◌then◌else◌}
 use Rattle.std.specs.List.{All}
 use Rattle.std.proofs.lemmas.List.{take-append-drop, append-nil, length-take}
 use Rattle.std.proofs.lemmas.List.Elements.{All-nil, All-cons}
 use Rattle.ov_fitting.proofs.Counts.{are_at}
 use Rattle.ov_model.specs.Book.{Version}
-use Rattle.ov_model.specs.Lists.{IsIn, AreIn}
+use Rattle.ov_model.specs.Lists.{IsIn}
 use Rattle.ov_model.specs.Records.{Rec, is_same_rec, recs, records_of, of_version, order, order_of, fresh_in, rid_in}
 use Rattle.ov_model.proofs.Growing.{same_rec-refl, length_recs, rid_more}
 use Rattle.ov_model.proofs.Holds.{same_recs, at_known}

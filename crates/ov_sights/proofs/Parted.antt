@@ -1,12 +1,10 @@
 -- The partitions of a dataset, and what is read of them.
-use Rattle.std.proofs.Common.{◌≡◌, ◌≤◌, ◌<◌, ◌+◌, ◌^◌, ◌==◌, ℕ, Bool, true, false, if◌then◌else◌, List, [], ◌∷◌, ◌++◌, length, map, refl, sym, ◌∙◌, ap, subst, inl, inr, arith}
-use Rattle.std.specs.Prelude.{◌⊎◌, ◌||◌, cond, Option, Some, None}
-use Rattle.std.specs.List.{find, list_any}
-use Rattle.std.proofs.lemmas.Bool.{cases_Bool, eqb-true, eq-eqb}
+use Rattle.std.proofs.Common.{◌≡◌, ◌≤◌, ◌+◌, ◌==◌, ℕ, Bool, true, false, if◌then◌else◌, List, [], ◌∷◌, length, map, refl, sym, ◌∙◌, ap, subst, inl, inr, arith}
+use Rattle.std.specs.Prelude.{◌||◌, Some}
+use Rattle.std.specs.List.{list_any}
+use Rattle.std.proofs.lemmas.Bool.{cases_Bool, eq-eqb}
 use Rattle.std.proofs.lemmas.List.{length-map}
 use Rattle.ov_host.specs.declared.area.Extent.{Extent}
-use Rattle.ov_value.specs.Shapes.{Shape}
-use Rattle.ov_value.specs.Spelling.{IsRow}
 use Rattle.ov_segment.specs.declared.numbered.Record.{Record}
 use Rattle.ov_member.specs.Rids.{has}
 use Rattle.ov_fetch.specs.Extents.{rids_of}
@@ -15,7 +13,6 @@ use Rattle.ov_fitting.proofs.Counts.{joined_at}
 use Rattle.ov_fitting.proofs.Reaching.{reached_sound}
 use Rattle.ov_image.specs.Pages.{readings_of}
 use Rattle.ov_laws.specs.Pieces.{NoTwice, IsPieces, PartsArePieces, HasPieces, ArePieces}
-use Rattle.ov_laws.specs.Sound.{IsSound}
 use Rattle.ov_model.specs.Holding.{VersionsAreIn, PartsHold, IsHeld, AreHeld}
 use Rattle.ov_model.specs.Lists.{IsIn, AllAreIn, joined}
 use Rattle.ov_model.specs.Moves.{numbered}
@@ -24,15 +21,15 @@ use Rattle.ov_model.specs.Plans.{pieces_of}
 use Rattle.ov_model.specs.Records.{Rec, recs, order_of, rid_in}
 use Rattle.ov_model.specs.World.{Part, Dataset, World, held}
 use Rattle.ov_model.proofs.Counting.{one_if, not_listed}
-use Rattle.ov_catalog.specs.Numbers.{PartNumbers, each_part, each_set}
-use Rattle.ov_catalog.specs.Shown.{list_of, held_by, shown_part, shown_set}
+use Rattle.ov_catalog.specs.Numbers.{PartNumbers, each_part}
+use Rattle.ov_catalog.specs.Shown.{list_of, held_by, shown_part}
 use Rattle.ov_catalog.proofs.Good.{IsKnown, AreKnown, IsRowed, AreRowed, IsGood, good}
 use Rattle.ov_catalog.proofs.Members.{heads, tails, of_map, of_sorted}
 use Rattle.ov_catalog.proofs.Showing.{PiecesAreIn}
-use Rattle.ov_versions.specs.Agreement.{Numbers, IsThere, IsBorneOut, PartAgrees, AreTogether, serves, is_served}
+use Rattle.ov_versions.specs.Agreement.{Numbers, IsThere, PartAgrees, AreTogether, serves, is_served}
 use Rattle.ov_versions.specs.Partitions.{IsPartRead}
 use Rattle.ov_versions.specs.OfWorld.{IsSetOf}
-use Rattle.ov_sights.specs.Sights.{record_in, records_in, contents_of, part_rids}
+use Rattle.ov_sights.specs.Sights.{records_in, contents_of, part_rids}
 use Rattle.ov_sights.proofs.Counted.{numbers}
 use Rattle.ov_sights.proofs.Founds.{first_in}
 use Rattle.ov_sights.proofs.Orders.{all_of, sorted_long, rid_low}

@@ -1,9 +1,8 @@
 -- What is read of segments.
-use Rattle.std.proofs.Common.{◌≡◌, ◌≤◌, ◌<◌, ◌+◌, ◌^◌, ◌==◌, ℕ, zero, suc, Bool, true, false, nat_le, if◌then◌else◌, List, [], ◌∷◌, ◌++◌, length, map, refl, sym, ◌∙◌, ap, subst, inl, inr, arith}
+use Rattle.std.proofs.Common.{◌≡◌, ◌≤◌, ◌^◌, ℕ, Bool, true, false, nat_le, if◌then◌else◌, List, [], ◌∷◌, length, map, refl, sym, ◌∙◌, ap, subst, inl, inr}
 use Rattle.std.specs.Prelude.{Option, Some, None, unwrap_or}
 use Rattle.std.proofs.lemmas.Bool.{cases_eq, eq-eqb}
 use Rattle.ov_host.specs.declared.area.Extent.{Extent}
-use Rattle.ov_value.specs.declared.spelled.RowBytes.{RowBytes}
 use Rattle.ov_value.specs.Shapes.{Shape}
 use Rattle.ov_value.specs.Spelling.{IsRow}
 use Rattle.ov_value.proofs.MarkLemmas.{rows_same}
@@ -12,7 +11,7 @@ use Rattle.ov_segment.specs.Segments.{AreRecords, segment_spelling}
 use Rattle.ov_fetch.specs.Extents.{IsSegment}
 use Rattle.ov_fetch.specs.Rows.{AreSegments}
 use Rattle.ov_image.specs.Pages.{readings_of, extent_bytes, IsWhole}
-use Rattle.ov_image.specs.Segments.{AreKept, as_kept, segment_bytes, segment_in}
+use Rattle.ov_image.specs.Segments.{AreKept, as_kept, segment_in}
 use Rattle.ov_image.proofs.Extents.{short_is}
 use Rattle.ov_image.proofs.Readers.{rows_read, segment_read}
 use Rattle.ov_model.specs.Lists.{IsIn, joined}
@@ -109,9 +108,10 @@ pub segments_are : (schema : Shape) (area : List ℕ) (all : List Rec) (es : Lis
 segments_are schema area all [] [] rows same = tt
 segments_are schema area all [] (piece ∷ pieces) rows same = cc
 segments_are schema area all (e ∷ es) [] rows same = cc
-segments_are schema area all (e ∷ es) (piece ∷ pieces) rows same =
-    (is_segment schema area e (records_in all piece) here (heads _ _ _ _ same ∙ ap Some (segment_kept all piece)),
-    segments_are schema area all es pieces (λ r is. rows r (right_in piece (joined pieces) r is)) (tails _ _ _ _ same))
+segments_are schema area all (e ∷ es) (piece ∷ pieces) rows same = (
+  is_segment schema area e (records_in all piece) here (heads _ _ _ _ same ∙ ap Some (segment_kept all piece)),
+  segments_are schema area all es pieces (λ r is. rows r (right_in piece (joined pieces) r is)) (tails _ _ _ _ same),
+)
   where
     here : AllRows schema (records_in all piece)
     here x is =

@@ -1,7 +1,6 @@
 -- The rids of a partition's pieces: none stands in two of them.
-use Rattle.std.proofs.Common.{◌≡◌, ◌≤◌, ◌<◌, ◌+◌, ◌^◌, ◌==◌, ℕ, suc, Bool, true, false, cond, nat_le, if◌then◌else◌, List, [], ◌∷◌, ◌++◌, length, map, refl, sym, ◌∙◌, ap, subst, inl, inr, arith}
-use Rattle.std.specs.Prelude.{◌⊎◌, ◌||◌}
-use Rattle.std.specs.List.{count_by}
+use Rattle.std.proofs.Common.{◌≡◌, ◌≤◌, ◌+◌, ◌^◌, ◌==◌, ℕ, suc, Bool, true, false, cond, nat_le, if◌then◌else◌, List, [], ◌∷◌, ◌++◌, map, refl, sym, ◌∙◌, ap, subst, inl, inr, arith}
+use Rattle.std.specs.Prelude.{◌||◌}
 use Rattle.std.proofs.lemmas.Bool.{eqb-true}
 use Rattle.std.proofs.lemmas.Bool.Decides.{nat_tests}
 use Rattle.std.proofs.lemmas.List.{map-append}
@@ -12,7 +11,7 @@ use Rattle.ov_segment.specs.declared.numbered.Record.{Record}
 use Rattle.ov_fetch.specs.Extents.{rids_of}
 use Rattle.ov_model.specs.Lists.{IsIn, joined}
 use Rattle.ov_model.specs.Records.{Rec, rid_in}
-use Rattle.ov_laws.specs.Pieces.{rec_times, NoTwice}
+use Rattle.ov_laws.specs.Pieces.{NoTwice}
 use Rattle.ov_laws.proofs.PieceTimes.{in_times, one_self, times-append}
 use Rattle.ov_catalog.specs.Shown.{put_by, sorted_by, list_of}
 use Rattle.ov_catalog.proofs.Members.{left_in, right_in, of_map, in_sorted, of_sorted}

@@ -3,7 +3,7 @@
 --     contents_of d id      the records of a partition's segments, piece after piece
 --     part_rids d id      the rids of the records that it holds
 --     HasNumbers s d      how many versions, rows and records there are
-use Rattle.std.specs.Prelude.{◌≡◌, ℕ, List, [], length, map, take, Option, Some, None}
+use Rattle.std.specs.Prelude.{◌≡◌, ℕ, List, length, map, take, Option, Some}
 use Rattle.ov_model.specs.Plans.{pieces_of}
 use Rattle.ov_model.specs.Records.{Rec, order_of, rid_in, rows_at}
 use Rattle.ov_model.specs.World.{Dataset, World}

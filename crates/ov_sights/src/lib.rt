@@ -5,10 +5,14 @@
 //! `ov_catalog`, `ov_image` and `ov_versions`.
 #![tactic(auto)]
 
+mod damaging;
 mod listing;
 mod parting;
+mod scanning;
 mod seeing;
 
+pub use damaging::nothing_is_damaged;
 pub use listing::lists_are_seen;
 pub use parting::partitions_are_seen;
+pub use scanning::scans_are_seen;
 pub use seeing::{datasets_are_found, numbers_are_seen};
