@@ -1,0 +1,5 @@
+pub mod Placing
+pub mod Holding
+pub mod Making
+pub mod Answering
+pub mod Worlds
