@@ -68,7 +68,7 @@ of_assigned (row ∷ rows) parents next n is = by (rid_by parents row) refl is (
           | inr new ↦ inr (omega (arith, new.0), omega (arith, new.1, ap (λ o. next_after o (fresh_rows rows parents)) e))
         ]
 
-below_at : (schema : Shape) (row : Row) (rows : List Row) (x : Row) → IsBelow (key_cmp schema) row rows → IsIn rows x → key_cmp schema row x ≡ Less
+pub below_at : (schema : Shape) (row : Row) (rows : List Row) (x : Row) → IsBelow (key_cmp schema) row rows → IsIn rows x → key_cmp schema row x ≡ Less
 below_at schema row [] x below is = absurd is
 below_at schema row (y ∷ rows) x below (inl same) = ap (key_cmp schema row) same ∙ below.0
 below_at schema row (y ∷ rows) x below (inr later) = below_at schema row rows x below.1 later

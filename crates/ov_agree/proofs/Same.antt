@@ -18,7 +18,7 @@ use Rattle.ov_agree.specs.Differing.{NoneDiffer}
 
 -- ---- a rid is one record's
 
-rid_some : (xs : List Rec) (r : Rec) → 1 ≤ rid_in xs r
+pub rid_some : (xs : List Rec) (r : Rec) → 1 ≤ rid_in xs r
 rid_some [] r = omega arith
 rid_some (x ∷ xs) r = some_if (is_same_rec r x) (rid_in xs r)
   where
@@ -26,7 +26,7 @@ rid_some (x ∷ xs) r = some_if (is_same_rec r x) (rid_in xs r)
     some_if true n = omega arith
     some_if false n = omega arith
 
-in_tail : (x r : Rec) (xs : List Rec) → is_same_rec r x ≡ false → IsIn (x ∷ xs) r → IsIn xs r
+pub in_tail : (x r : Rec) (xs : List Rec) → is_same_rec r x ≡ false → IsIn (x ∷ xs) r → IsIn xs r
 in_tail x r xs other (inl same) = absurd (clash (sym (ap (is_same_rec r) (sym same) ∙ same_rec-refl r) ∙ other))
   where
     clash : true ≡ false → ⊥
@@ -46,12 +46,12 @@ at_place (x ∷ xs) r d is = elim (cases_Bool (is_same_rec r x)) [
       ∙ at_place xs r d (in_tail x r xs other is)
 ]
 
-one_record : (xs : List Rec) (r q : Rec) → IsIn xs r → IsIn xs q → rid_in xs r ≡ rid_in xs q → r ≡ q
+pub one_record : (xs : List Rec) (r q : Rec) → IsIn xs r → IsIn xs q → rid_in xs r ≡ rid_in xs q → r ≡ q
 one_record xs r q is there same = sym (at_place xs r r is) ∙ ap (λ n. get_or xs (n - 1) r) same ∙ at_place xs q r there
 
 -- ---- stored records
 
-are_at : (rs all : List Rec) (r : Rec) → AreIn rs all → IsIn rs r → IsIn all r
+pub are_at : (rs all : List Rec) (r : Rec) → AreIn rs all → IsIn rs r → IsIn all r
 are_at [] all r are is = absurd is
 are_at (x ∷ rs) all r are (inl same) = subst (IsIn all) (sym same) are.0
 are_at (x ∷ rs) all r are (inr later) = are_at rs all r are.1 later

@@ -16,8 +16,8 @@ ghost use Rattle.ov_agree.specs.Agreeing.{AreRids, ParentsAgree};
 ghost use Rattle.ov_agree.specs.Committing.{MayCommit, JoinedAgrees, rids_for, edges_for, place_for, added_for};
 
 /// Where what was read of a commit's parents agrees with the dataset's numbers, and what was read of the partition that it
-/// joins too, no part of the commit's event is off; so the event applies. Nothing is asked of the numbers: they may be those
-/// of any events that applied.
+/// joins too, no part of the commit's event is off; so the event applies. Nothing else is asked of the dataset's numbers: they
+/// may be those of any image.
 pub fn a_commit_that_agrees_applies()
     ensures dataset { (d : SetNumbers Extent Extent) (schema : Shape) (vids message : List ℕ) (rows : List Row) (parents : List (List Record)) (held : List ℕ)
         (place : Placed) (list segment : Extent) → MayCommit d schema vids message rows parents → ParentsAgree d vids parents → place_in place ≡ place_for d vids rows parents

@@ -10,11 +10,13 @@
 mod applying;
 mod disagreeing;
 mod edges;
+mod rids_left;
 mod worlds;
 
 pub use applying::{a_commit_gives_different_rids, a_commit_that_agrees_applies};
 pub use disagreeing::first_disagreeing;
 pub use edges::the_tree_parent_is_a_parent;
+pub use rids_left::rids_are_left;
 pub use worlds::records_of_versions_agree;
 
 #[cfg(test)]
