@@ -3,3 +3,4 @@ pub mod Holding
 pub mod Making
 pub mod Answering
 pub mod Worlds
+pub mod Counting

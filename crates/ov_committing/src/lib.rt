@@ -9,8 +9,10 @@ mod committing;
 mod errors;
 mod joining;
 mod numbering;
+mod serving;
 mod wanted;
 
 pub use committing::commit_of;
 pub use errors::CommitErr;
+pub use serving::a_joined_partition_serves_a_parent;
 pub use wanted::{Commit, Wanted};
