@@ -9,3 +9,4 @@ pub mod Versions
 pub mod Seeing
 pub mod Numbers
 pub mod Looking
+pub mod Asking
