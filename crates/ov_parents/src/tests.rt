@@ -187,7 +187,11 @@ fn the_later_parent_that_disagrees_is_named(rt: HostRuntime) -> Result<(), Fail>
         let found = two_parents(alloc, area(alloc, changes)?, d, 1, 2).err();
         assert_eq!(rt; found, Some(FetchErr::Damaged { page: *page }), "case {i}");
         let found = two_parents(alloc, area(alloc, changes)?, d, 2, 1).err();
-        assert_eq!(rt; found, Some(FetchErr::Damaged { page: *turned }), "case {i}, turned");
+        assert_eq!(rt;
+            found,
+            Some(FetchErr::Damaged { page: *turned }),
+            "case {i}, turned"
+        );
     }
     Ok(())
 }

@@ -30,8 +30,8 @@ rids_apart : (schema : Shape) (all : List Rec) (ps : List ℕ) (done : List (Lis
 rids_apart schema all ps done row [] is are below = tt
 rids_apart schema all ps done row (next ∷ rows) is are below = (
   ne_eqb (rid_in all (record_of ps done row)) (rid_in all (record_of ps done next)) (λ same.
-  let one : row ≡ next = ap (λ r. r.row) (rid_own all (record_of ps done row) (record_of ps done next) is are.0 same)
-  in clash (ap (is_same_row next) one ∙ same_row-refl next) (not_same schema row next below.0)),
+      let one : row ≡ next = ap (λ r. r.row) (rid_own all (record_of ps done row) (record_of ps done next) is are.0 same)
+      in clash (ap (is_same_row next) one ∙ same_row-refl next) (not_same schema row next below.0)),
   rids_apart schema all ps done row rows is are.1 below.1,
 )
   where

@@ -19,14 +19,19 @@ use std::cmp::Ordering;
 use std::test::Fail;
 
 const ANN: &[u8] = b"\0\0\0\0\0\0\0\x01\0\0\0\x03ann\0\0\0\0\0\0\0\x0a";
+
 const BOB: &[u8] = b"\0\0\0\0\0\0\0\x02\0\0\0\x03bob\0\0\0\0\0\0\0\x14";
+
 const RAISED: &[u8] = b"\0\0\0\0\0\0\0\x02\0\0\0\x03bob\0\0\0\0\0\0\0\x19";
+
 const CY: &[u8] = b"\0\0\0\0\0\0\0\x03\0\0\0\x02cy\0\0\0\0\0\0\0\x1e";
 
-const FIRST_SEGMENT: &[u8] = b"\0\0\0\x01\0\0\0\x17\0\0\0\0\0\0\0\x01\0\0\0\x03ann\0\0\0\0\0\0\0\x0a\
+const FIRST_SEGMENT: &[u8] =
+    b"\0\0\0\x01\0\0\0\x17\0\0\0\0\0\0\0\x01\0\0\0\x03ann\0\0\0\0\0\0\0\x0a\
     \0\0\0\x02\0\0\0\x17\0\0\0\0\0\0\0\x02\0\0\0\x03bob\0\0\0\0\0\0\0\x14";
 
-const RAISED_AND_CY: &[u8] = b"\0\0\0\x03\0\0\0\x17\0\0\0\0\0\0\0\x02\0\0\0\x03bob\0\0\0\0\0\0\0\x19\
+const RAISED_AND_CY: &[u8] =
+    b"\0\0\0\x03\0\0\0\x17\0\0\0\0\0\0\0\x02\0\0\0\x03bob\0\0\0\0\0\0\0\x19\
     \0\0\0\x04\0\0\0\x16\0\0\0\0\0\0\0\x03\0\0\0\x02cy\0\0\0\0\0\0\0\x1e";
 
 fn schema_of_people(alloc: Global) -> Result<Schema, SchemaErr> {
@@ -157,11 +162,30 @@ fn a_second_version_brings_what_its_partition_lacks(rt: HostRuntime) -> Result<(
     let list: &[u8] = &[0, 0, 0, 1, 0, 0, 0, 1, 0, 0, 0, 3, 0, 0, 0, 2];
     assert_eq!(rt; joined.list.as_slice(), list);
     assert_eq!(rt; joined.segment.as_slice(), RAISED_AND_CY);
-    assert!(rt; matches!(&joined.event, Event::Commit { added: 2, place: Placed::Join(1), .. }));
+    assert!(rt;
+        matches!(
+            &joined.event,
+            Event::Commit {
+                added: 2,
+                place: Placed::Join(1),
+                ..
+            }
+        )
+    );
     let own = second_if_fit(alloc, &schema, Place::Own, &[])?;
     assert_eq!(rt; own.list.as_slice(), list);
     assert_eq!(rt; own.segment.len(), 31 + RAISED_AND_CY.len());
-    assert!(rt; matches!(&own.event, Event::Commit { added: 3, fresh: 2, place: Placed::Own, .. }));
+    assert!(rt;
+        matches!(
+            &own.event,
+            Event::Commit {
+                added: 3,
+                fresh: 2,
+                place: Placed::Own,
+                ..
+            }
+        )
+    );
     Ok(())
 }
 

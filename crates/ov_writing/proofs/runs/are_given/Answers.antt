@@ -28,6 +28,6 @@ returns c =
     in (
       (λ same. absurd cc),
       (λ given.
-      let is = c.as_slice.ensures.value ∙ c.in_ok-sort_rids.ensures.sorted (subst (IsDistinct nat_eq) (sym c.in_ok-ordered.ensures.items) given.once) ∙ ap (sorted_by (λ rid. rid)) c.in_ok-ordered.ensures.items
-      in absurd (none (subst AreRids (sym is) (sorted_set rids given.once given.some given.low)))),
+          let is = c.as_slice.ensures.value ∙ c.in_ok-sort_rids.ensures.sorted (subst (IsDistinct nat_eq) (sym c.in_ok-ordered.ensures.items) given.once) ∙ ap (sorted_by (λ rid. rid)) c.in_ok-ordered.ensures.items
+          in absurd (none (subst AreRids (sym is) (sorted_set rids given.once given.some given.low)))),
     )
