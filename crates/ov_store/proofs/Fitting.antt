@@ -50,7 +50,7 @@ module _ (w : World) (held : Held) (s : State) (at : IsAtWorld w held s) (name :
 
   few : nat_le 1024 (length w.sets) ≡ false
   few = (none_before (nat_le 1024 (length w.sets)) why.TooManyCvds (off_if (w.next == 4294967295) why.NoNumbers)
-    (none_before (is_some (first_set (named name) w.sets)) why.CvdExists (option_or (off_if (nat_le 1024 (length w.sets)) why.TooManyCvds) (off_if (w.next == 4294967295) why.NoNumbers)) counts).1).0
+      (none_before (is_some (first_set (named name) w.sets)) why.CvdExists (option_or (off_if (nat_le 1024 (length w.sets)) why.TooManyCvds) (off_if (w.next == 4294967295) why.NoNumbers)) counts).1).0
 
   pub init_fits : (schema : Shape) (rows : List Row) → held.numbers.next < 4294967295 → IsTrue (is_name name) → IsSound schema → AreRows schema rows → InitFits w name schema rows
   init_fits schema rows below named_well sound sorted = record {

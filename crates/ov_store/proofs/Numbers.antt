@@ -103,9 +103,10 @@ module _ (test : Set → Bool) where
 one_numbered : (e : Event Extent Extent) (n : Numbers Extent Extent) → AreNumbered n → AreNumbered (applied e n)
 one_numbered (Init name schema rows list segments) n are =
     (below_more n.next (new_set n.next name schema rows list segments) n.sets refl are.0, distinct_more n.next (new_set n.next name schema rows list segments) n.sets refl are.0 are.1)
-one_numbered (Commit cvd vid message parents rows fresh place added list segments) n are =
-    (below_changed cvd (with_version (version_of parents message rows fresh list) place added segments) (λ d. refl) n.next n.sets are.0,
-    distinct_changed cvd (with_version (version_of parents message rows fresh list) place added segments) (λ d. refl) n.sets are.1)
+one_numbered (Commit cvd vid message parents rows fresh place added list segments) n are = (
+  below_changed cvd (with_version (version_of parents message rows fresh list) place added segments) (λ d. refl) n.next n.sets are.0,
+  distinct_changed cvd (with_version (version_of parents message rows fresh list) place added segments) (λ d. refl) n.sets are.1,
+)
 one_numbered (Drop cvd) n are = (below_kept (λ d. not (numbered cvd d)) n.next n.sets are.0, distinct_kept (λ d. not (numbered cvd d)) n.sets are.1)
 one_numbered Other n are = are
 

@@ -36,8 +36,8 @@ pub first_unready : (off : Option StoreErr) (name : List ℕ) (schema : Shape) (
 first_unready off name schema rows made write.Memory is same few none cause = tt
 first_unready off name schema rows made (write.TooLong list_pages segment_pages) is same few none cause =
     let long : IsLong list_pages segment_pages (first_of name schema rows).list (first_of name schema rows).segment
-        = subst (λ (n : ℕ). IsLong list_pages segment_pages (list_written (counted 1 n)) (segment_written [] (counted 1 n) (in_key_order schema rows))) same
-          (subst (λ (all : List Row). IsLong list_pages segment_pages (list_written (counted 1 (length made))) (segment_written [] (counted 1 (length made)) all)) is cause)
+    = subst (λ (n : ℕ). IsLong list_pages segment_pages (list_written (counted 1 n)) (segment_written [] (counted 1 n) (in_key_order schema rows))) same
+    (subst (λ (all : List Row). IsLong list_pages segment_pages (list_written (counted 1 (length made))) (segment_written [] (counted 1 (length made)) all)) is cause)
     in (none, long, list_short (counted 1 (length made)) list_pages (omega (arith, few, counted_long 1 (length made))) cause.0)
 
 pub no_room : (es : List Extent) (list segment : List ℕ) (off : ChangeErr) → IsWhyNoRuns es list segment off → IsNoRoom es list segment (of_change off)

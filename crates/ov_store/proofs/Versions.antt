@@ -51,7 +51,7 @@ all_there count before (vid ∷ vids) e =
     All-cons (λ vid. (1 ≤ vid) × (vid ≤ count)) vid vids (is_there count before vid vids e) (all_there count (vid ∷ before) vids (parts count before vid vids e).2)
 
 once_after : (count : ℕ) (before vids : List ℕ) → vids_off count before vids ≡ None → (n : ℕ) → times vids n + one_if (is_one before n) ≤ 1
-once_after count before [] e n = elim (cases_Bool (is_one before n)) [ | inl is ↦ rw is (omega arith) | inr is ↦ rw is (omega arith) ]
+once_after count before [] e n = elim (cases_Bool (is_one before n)) [ inl is ↦ rw is (omega arith) | inr is ↦ rw is (omega arith) ]
 once_after count before (vid ∷ vids) e n = by (vid == n) refl (once_after count (vid ∷ before) vids (parts count before vid vids e).2 n)
   where
     by : (b : Bool) → (vid == n) ≡ b → times vids n + one_if (b || is_one before n) ≤ 1 → one_if b + times vids n + one_if (is_one before n) ≤ 1
@@ -87,6 +87,7 @@ vids_unscanned n name s vids old off found is = by off is
   where
     at : (e : StoreErr) → vids_off (length s.versions) [] vids ≡ Some e → scan_off n name vids ≡ Some e
     at e refused = ap (λ set. versions_off set vids) found ∙ refused
+
     by : (e : StoreErr) → IsVidOff (length s.versions) vids e → IsUnscanned (scan_off n name vids) (set_in n name) vids old old e
     by why.Memory w = tt
     by (why.NoVersion vid) w = (at (why.NoVersion vid) w, refl)

@@ -3,16 +3,18 @@
 --     asked_of s vids message rows parents      the version that is asked for, where these are its parents' records
 --     IsCommitBy, IsCommitted      what a commit brings, from what was read; that it was made
 --     IsUncommitted      why it wasn't
-use Rattle.std.specs.Prelude.{◌≡◌, ◌<◌, ◌+◌, ◌^◌, ◌⊎◌, ℕ, true, false, nat_le, List, [], length, Option, Some, None}
+use Rattle.std.specs.Prelude.{◌≡◌, ◌<◌, ◌≤◌, ◌+◌, ◌^◌, ◌⊎◌, ℕ, true, false, nat_le, List, [], length, Option, Some, None}
 use Rattle.std.specs.List.{AllZip}
 use Rattle.std.specs.Option.{option_map, option_or}
 use Rattle.ov_host.specs.declared.area.Area.TheVariants.{Pages}
 use Rattle.ov_host.specs.declared.area.Extent.{Extent}
 use Rattle.ov_host.specs.Host.{Rose, State}
 use Rattle.ov_segment.specs.declared.numbered.Record.{Record}
+use Rattle.ov_model.specs.Act.{fresh_of as fresh_of_model}
 use Rattle.ov_model.specs.Book.{Row}
 use Rattle.ov_model.specs.Merge.{in_key_order}
 use Rattle.ov_model.specs.Moves.{Move, Commit}
+use Rattle.ov_model.specs.Records.{order_of}
 use Rattle.ov_model.specs.World.{Dataset}
 use Rattle.ov_catalog.specs.Extents.{live}
 use Rattle.ov_catalog.specs.Numbers.{SetNumbers, Numbers}
@@ -24,11 +26,13 @@ use Rattle.ov_rows.specs.Refusing.{rows_off}
 use Rattle.ov_agree.specs.Agreeing.{ParentsAgree}
 use Rattle.ov_parents.specs.Parents.{IsParent, RefusesParents}
 use Rattle.ov_committing.specs.Asked.{Asked, fresh_of}
-use Rattle.ov_committing.specs.Commits.{IsCommitOf}
+use Rattle.ov_committing.specs.Commits.{IsCommitOf, IsTooLong}
 use Rattle.ov_committing.specs.Joined.{RefusesJoined, joined_of}
 use Rattle.ov_store.specs.declared.errors.StoreErr.{StoreErr}
 use Rattle.ov_store.specs.declared.errors.StoreErr.TheVariants as why
 use Rattle.ov_store.specs.declared.store.Committed.{Committed}
+use Rattle.ov_store.specs.declared.unready.Unready.{Unready}
+use Rattle.ov_store.specs.declared.unready.Unready.TheVariants as unready
 use Rattle.ov_store.specs.Changes.{Bringing, IsDone}
 use Rattle.ov_store.specs.Errors.{of_rows}
 use Rattle.ov_store.specs.Refusals.{off_if, vids_off}
@@ -120,3 +124,33 @@ IsUncommitted held name wish old new (why.Full pages) =
 IsUncommitted held name wish old new why.JournalFull =
     (commit_off held name wish.vids wish.rows ≡ None) × IfSet (λ s. FindsNoRecord s wish old held) (set_in held.numbers name)
 IsUncommitted held name wish old new other = (commit_off held name wish.vids wish.rows ≡ Some other) × (new ≡ old)
+
+-- ---- before anything is stored
+
+-- the segment that the version would have is too long; both have so many pages
+pub record IsTooLongFor (s : Set) (wish : Wish) (t : State) (list_pages segment_pages : ℕ) : Type 0 where
+  pub parents : List (List Record)
+  pub are : AreRead s wish t parents
+  pub long : IsTooLong (asked_of s wish parents) t.tells (page_bytes t) list_pages segment_pages
+
+abbrev pub IsUnready : Held → List ℕ → Wish → State → State → Unready → Type 0
+IsUnready held name wish old new (unready.Off refusal) = IsUncommitted held name wish old new refusal
+IsUnready held name wish old new (unready.TooLong list_pages segment_pages) =
+    (commit_off held name wish.vids wish.rows ≡ None) × IfSet (λ s. IsTooLongFor s wish old list_pages segment_pages) (set_in held.numbers name)
+    × (list_pages < 2 ^ 20) × (2 ^ 20 ≤ segment_pages)
+
+-- ---- at a World
+
+-- as many new records as the model has
+abbrev pub fresh_in_world : Dataset → Wish → ℕ
+fresh_in_world d wish = fresh_of_model d wish.vids wish.message (in_key_order d.cvd.schema wish.rows)
+
+-- nothing is damaged, and there would be too many records exactly where the model says so
+abbrev pub IsSparedOff : Dataset → Wish → StoreErr → Type 0
+IsSparedOff d wish (why.Damaged area at) = ⊥
+IsSparedOff d wish why.TooManyRecords = 2 ^ 31 < length (order_of d.cvd.versions) + fresh_in_world d wish
+IsSparedOff d wish _ = Unit {0}
+
+abbrev pub IsSparedBy : Dataset → Wish → Unready → Type 0
+IsSparedBy d wish (unready.Off refusal) = IsSparedOff d wish refusal
+IsSparedBy d wish (unready.TooLong list_pages segment_pages) = Unit {0}

@@ -1,6 +1,6 @@
 // Commits.
 
-ghost use Rattle.std.specs.Prelude.{◌≡◌, ◌≢◌, ◌≤◌, ◌<◌, ℕ, true, false, None, Some, [], IfOk, IfErr, OnOk, IsErrOf, MatchResult, length, map, option_map};
+ghost use Rattle.std.specs.Prelude.{◌≡◌, ◌≢◌, ◌≤◌, ◌<◌, ◌+◌, ℕ, true, false, None, Some, [], IfOk, IfErr, OnOk, IsErrOf, MatchResult, length, map, option_map};
 ghost use Rattle.std.specs.List.{All};
 ghost use Rattle.ov_host.specs.Stops.{Only};
 ghost use Rattle.ov_value.specs.Spelling.{IsRow};
@@ -15,7 +15,7 @@ ghost use Rattle.ov_core.specs.Brought.{Brings};
 ghost use Rattle.ov_fetch.specs.Extents.{Looked};
 ghost use Rattle.ov_store.specs.Beginning.{IsShort};
 ghost use Rattle.ov_store.specs.Changes.{IsReady, bringing_of};
-ghost use Rattle.ov_store.specs.Committing.{Set, IsCommitBy, IsCommitted, IsUncommitted, Wish, commit_move, commit_off};
+ghost use Rattle.ov_store.specs.Committing.{Set, IsCommitBy, IsCommitted, IsSparedBy, IsUncommitted, IsUnready, commit_move, commit_off, fresh_in_world};
 ghost use Rattle.ov_store.specs.Kept.{MayCall, Stays};
 ghost use Rattle.ov_store.specs.Scanning.{set_in};
 ghost use Rattle.ov_store.specs.Unready.{IsRefused};
@@ -25,8 +25,12 @@ use crate::listing::listed;
 use crate::store::{Committed, Store};
 use crate::unready::Unready;
 use ov_catalog::Cvd;
+use ov_committing::{Commit, Wanted, commit_of};
+use ov_core::Brought;
+use ov_host::Host;
+use ov_parents::parents_of;
 use ov_rows::version_rows;
-use ov_value::Row;
+use ov_value::{Row, Txt};
 
 /// How many versions a dataset may have.
 const MOST_VERSIONS: usize = 65_535;
@@ -36,6 +40,14 @@ struct Ask<'a> {
     d: &'a Cvd,
     vids: Vec<u32>,
     rows: Vec<Row>,
+}
+
+/// A version that is ready to be stored: what it brings, its number, and how many of its records are new.
+#[derive(Drop)]
+struct NextVersion {
+    brought: Brought,
+    vid: u32,
+    fresh: u32,
 }
 
 impl Store {
@@ -65,5 +77,52 @@ impl Store {
         let format = self.core.journal().format();
         let rows = version_rows(self.alloc, &d.schema, format, false, rows)?;
         Ok(Ask { d, vids, rows })
+    }
+
+    // A dataset's next version, ready to be stored.
+    fn next<H: Host>(
+        &self,
+        host: &mut H,
+        name: &str,
+        parents: &[u64],
+        rows: Vec<Row>,
+        message: &Txt,
+    ) -> Result<NextVersion, Unready>
+        requires fit { (s : Set) → set_in self.now.held.numbers name.now ≡ Some s → All (IsRow s.schema) rows.items }
+        requires short { All IsShort rows.items }
+        requires some { parents.now ≢ [] }
+        requires message { length message.now ≤ 1024 }
+        ensures looked { Looked (H.state host.old) (H.state host.new) }
+        ensures ready { IfOk result (λ next. IsReady next.brought self.now.held) }
+        ensures allowed { OnOk result (commit_off self.now.held name.now parents.now rows.items ≡ None) }
+        ensures by { (s : Set) → set_in self.now.held.numbers name.now ≡ Some s → IfOk result (λ next. IsCommitBy s
+            (record { vids = parents.now; message = message.now; rows = rows.items }) (H.state host.old) (bringing_of next.brought) next.fresh) }
+        ensures vid { (s : Set) → set_in self.now.held.numbers name.now ≡ Some s → IfOk result (λ next. next.vid ≡ length s.versions + 1) }
+        ensures count { OnOk result (length rows.items ≤ 1000000) }
+        ensures why { IfErr result (IsUnready self.now.held name.now (record { vids = parents.now; message = message.now; rows = rows.items })
+            (H.state host.old) (H.state host.new)) }
+        ensures brings { (w : World) (d : Dataset) → IsAtWorld w self.now.held (H.state host.old) → set_named w name.now ≡ Some d
+            → IfOk result (λ next. Brings (commit_move d parents.now message.now rows.items) w next.brought) }
+        ensures fresh { (w : World) (d : Dataset) → IsAtWorld w self.now.held (H.state host.old) → set_named w name.now ≡ Some d
+            → IfOk result (λ next. next.fresh ≡ fresh_in_world d (record { vids = parents.now; message = message.now; rows = rows.items })) }
+        ensures spared { (w : World) (d : Dataset) → IsAtWorld w self.now.held (H.state host.old) → set_named w name.now ≡ Some d
+            → IfErr result (IsSparedBy d (record { vids = parents.now; message = message.now; rows = rows.items })) }
+    {
+        let Ask { d, vids, rows } = self.ask(name, parents, rows)?;
+        let _ = self.core.is_replayed();
+        let read = parents_of(self.alloc, host, d, &vids)?;
+        let vid = d.versions.len() as u32 + 1;
+        let wanted = Wanted {
+            vids: &vids,
+            parents: &read,
+            message,
+            rows,
+        };
+        let Commit { brought, fresh } = commit_of(self.alloc, host, d, wanted)?;
+        Ok(NextVersion {
+            brought,
+            vid,
+            fresh,
+        })
     }
 }

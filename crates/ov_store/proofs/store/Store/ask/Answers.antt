@@ -20,12 +20,12 @@ use Rattle.ov_store.proofs.store.Store.ask.Goals as goal
 pub returns-in_err-vids-clause-why : goal.returns-in_err-vids-clause-why
 returns-in_err-vids-clause-why c =
     let found : set_in c.args.self.now.held.numbers c.args.name.now ≡ Some (sets.set_in c.in-Some.d.now)
-        = subst (λ (n : Numbers Extent Extent). set_in n c.args.name.now ≡ Some (sets.set_in c.in-Some.d.now)) (c.catalog.ensures ∙ ap (λ kept. kept.held.numbers) c.self.view_is) (sym c.in-Some.ensures.found)
+    = subst (λ (n : Numbers Extent Extent). set_in n c.args.name.now ≡ Some (sets.set_in c.in-Some.d.now)) (c.catalog.ensures ∙ ap (λ kept. kept.held.numbers) c.self.view_is) (sym c.in-Some.ensures.found)
     in let count : c.len.result ≡ length (map sets.version_in c.in-Some.d.now.versions.items) = search (rules, length-map c.in-Some.d.now.versions.items sets.version_in)
     in let fact : IsRefused (commit_off c.args.self.now.held c.args.name.now c.args.parents.now c.args.rows.items) c.in_err-vids.field-0.0
-        = vids_refuse (commit_off c.args.self.now.held c.args.name.now c.args.parents.now c.args.rows.items) (length (map sets.version_in c.in-Some.d.now.versions.items)) c.args.parents.now c.in_err-vids.field-0.0
-          (subst (λ (n : ℕ). IsVidOff n c.args.parents.now c.in_err-vids.field-0.0) count c.in_err-vids.ensures)
-          (vids_first c.args.self.now.held c.args.name.now (sets.set_in c.in-Some.d.now) c.args.parents.now c.args.rows.items found)
+    = vids_refuse (commit_off c.args.self.now.held c.args.name.now c.args.parents.now c.args.rows.items) (length (map sets.version_in c.in-Some.d.now.versions.items)) c.args.parents.now c.in_err-vids.field-0.0
+    (subst (λ (n : ℕ). IsVidOff n c.args.parents.now c.in_err-vids.field-0.0) count c.in_err-vids.ensures)
+    (vids_first c.args.self.now.held c.args.name.now (sets.set_in c.in-Some.d.now) c.args.parents.now c.args.rows.items found)
     in search (rules, fact)
 
 pub returns-clause-parents : goal.returns-clause-parents
@@ -38,6 +38,6 @@ returns-clause-parents c =
 pub returns-clause-fit : goal.returns-clause-fit
 returns-clause-fit c =
     let found : set_in c.args.self.now.held.numbers c.args.name.now ≡ Some (sets.set_in c.in-Some.d.now)
-        = subst (λ (n : Numbers Extent Extent). set_in n c.args.name.now ≡ Some (sets.set_in c.in-Some.d.now)) (c.catalog.ensures ∙ ap (λ kept. kept.held.numbers) c.self.view_is) (sym c.in-Some.ensures.found)
+    = subst (λ (n : Numbers Extent Extent). set_in n c.args.name.now ≡ Some (sets.set_in c.in-Some.d.now)) (c.catalog.ensures ∙ ap (λ kept. kept.held.numbers) c.self.view_is) (sym c.in-Some.ensures.found)
     in rows_sorted c.in-Some.d.now.schema c.args.rows.items c.in_ok-rows.rows.items c.in_ok-rows.ensures.kept c.in_ok-rows.ensures.rise c.in_ok-rows.ensures.few
     (c.requires.fit (sets.set_in c.in-Some.d.now) found) c.requires.short

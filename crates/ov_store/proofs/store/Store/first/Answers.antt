@@ -23,16 +23,16 @@ first_version-requires-clause-rows c =
 pub returns-in_err-first_version-clause-why : goal.returns-in_err-first_version-clause-why
 returns-in_err-first_version-clause-why c =
     let format : c.format-format.result ≡ c.args.self.now.held.journal.format
-        = c.format-format.ensures ∙ ap (λ j. j.format) c.journal.ensures ∙ ap (λ kept. kept.held.journal.format) c.self.view_is
+    = c.format-format.ensures ∙ ap (λ j. j.format) c.journal.ensures ∙ ap (λ kept. kept.held.journal.format) c.self.view_is
     in let none : rows_off c.args.self.now.held.journal.format c.args.schema.now false c.args.rows.items ≡ None
-        = subst (λ (n : ℕ). rows_off n c.args.schema.now false c.args.rows.items ≡ None) format c.in_ok-rows.ensures.answer
+    = subst (λ (n : ℕ). rows_off n c.args.schema.now false c.args.rows.items ≡ None) format c.in_ok-rows.ensures.answer
     in
     let off : init_off c.args.self.now.held c.args.name.now c.args.schema.now c.args.rows.items ≡ None
-        = λ i. option_or (c.in_ok-may_begin.ensures.answer i) (option_map of_rows (none i))
+    = λ i. option_or (c.in_ok-may_begin.ensures.answer i) (option_map of_rows (none i))
     in let fact : IsUnready (init_off c.args.self.now.held c.args.name.now c.args.schema.now c.args.rows.items) (first_of c.args.name.now c.args.schema.now c.args.rows.items)
-        (unready_of c.in_err-first_version.field-0.0)
-        = first_unready (init_off c.args.self.now.held c.args.name.now c.args.schema.now c.args.rows.items) c.args.name.now c.args.schema.now c.args.rows.items c.in_ok-rows.rows.items
-        c.in_err-first_version.field-0.0 c.in_ok-rows.ensures.rows c.in_ok-rows.ensures.count c.in_ok-rows.ensures.few off c.in_err-first_version.ensures.cause
+    (unready_of c.in_err-first_version.field-0.0)
+    = first_unready (init_off c.args.self.now.held c.args.name.now c.args.schema.now c.args.rows.items) c.args.name.now c.args.schema.now c.args.rows.items c.in_ok-rows.rows.items
+    c.in_err-first_version.field-0.0 c.in_ok-rows.ensures.rows c.in_ok-rows.ensures.count c.in_ok-rows.ensures.few off c.in_err-first_version.ensures.cause
     in search (rules, fact)
 
 pub returns-clause-brings : goal.returns-clause-brings

@@ -18,10 +18,10 @@ returns-in-Err-clause-stops g c = λ w at. still w (moved (first_move c.args.nam
 pub returns-in_err-change-clause-why : goal.returns-in_err-change-clause-why
 returns-in_err-change-clause-why g c =
     let fact : IsWhy (init_off c.args.self.now.held c.args.name.now c.args.schema c.args.rows.items) (first_of c.args.name.now c.args.schema c.args.rows.items)
-        c.args.self.now.held (g.H.Host.state c.args.host.now) (g.H.Host.state c.change.new.host) c.in_err-change.field-0.0
-        = why_unstored (init_off c.args.self.now.held c.args.name.now c.args.schema c.args.rows.items) (first_of c.args.name.now c.args.schema c.args.rows.items)
-        c.args.self.now.held (g.H.Host.state c.args.host.now) (g.H.Host.state c.change.new.host) c.in_err-change.field-0.0 c.in-Ok.ensures.allowed
-        (subst (λ b. IsUnstored c.args.self.now.held b (g.H.Host.state c.args.host.now) (g.H.Host.state c.change.new.host) c.in_err-change.field-0.0) c.in-Ok.ensures.is c.in_err-change.ensures.why)
+    c.args.self.now.held (g.H.Host.state c.args.host.now) (g.H.Host.state c.change.new.host) c.in_err-change.field-0.0
+    = why_unstored (init_off c.args.self.now.held c.args.name.now c.args.schema c.args.rows.items) (first_of c.args.name.now c.args.schema c.args.rows.items)
+    c.args.self.now.held (g.H.Host.state c.args.host.now) (g.H.Host.state c.change.new.host) c.in_err-change.field-0.0 c.in-Ok.ensures.allowed
+    (subst (λ b. IsUnstored c.args.self.now.held b (g.H.Host.state c.args.host.now) (g.H.Host.state c.change.new.host) c.in_err-change.field-0.0) c.in-Ok.ensures.is c.in_err-change.ensures.why)
     in search (rules, fact)
 
 pub returns-in_err-change-clause-stops : goal.returns-in_err-change-clause-stops

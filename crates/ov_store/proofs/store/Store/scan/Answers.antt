@@ -24,12 +24,12 @@ use Rattle.ov_store.proofs.store.Store.scan.Goals as goal
 pub returns-in_err-vids-clause-why : goal.returns-in_err-vids-clause-why
 returns-in_err-vids-clause-why g c =
     let found : set_in c.args.self.now.held.numbers c.args.name.now ≡ Some (sets.set_in c.in-Some.d.now)
-        = subst (λ (n : Numbers Extent Extent). set_in n c.args.name.now ≡ Some (sets.set_in c.in-Some.d.now)) (c.catalog.ensures ∙ ap (λ kept. kept.held.numbers) c.self.view_is) (sym c.in-Some.ensures.found)
+    = subst (λ (n : Numbers Extent Extent). set_in n c.args.name.now ≡ Some (sets.set_in c.in-Some.d.now)) (c.catalog.ensures ∙ ap (λ kept. kept.held.numbers) c.self.view_is) (sym c.in-Some.ensures.found)
     in let count : c.len.result ≡ length (map sets.version_in c.in-Some.d.now.versions.items) = search (rules, length-map c.in-Some.d.now.versions.items sets.version_in)
     in let fact : IsUnscanned (scan_off c.args.self.now.held.numbers c.args.name.now c.args.vids.now) (set_in c.args.self.now.held.numbers c.args.name.now) c.args.vids.now
-        (g.H.Host.state c.args.host.now) (g.H.Host.state c.args.host.now) c.in_err-vids.field-0.0
-        = vids_unscanned c.args.self.now.held.numbers c.args.name.now (sets.set_in c.in-Some.d.now) c.args.vids.now (g.H.Host.state c.args.host.now) c.in_err-vids.field-0.0 found
-          (subst (λ (n : ℕ). IsVidOff n c.args.vids.now c.in_err-vids.field-0.0) count c.in_err-vids.ensures)
+    (g.H.Host.state c.args.host.now) (g.H.Host.state c.args.host.now) c.in_err-vids.field-0.0
+    = vids_unscanned c.args.self.now.held.numbers c.args.name.now (sets.set_in c.in-Some.d.now) c.args.vids.now (g.H.Host.state c.args.host.now) c.in_err-vids.field-0.0 found
+    (subst (λ (n : ℕ). IsVidOff n c.args.vids.now c.in_err-vids.field-0.0) count c.in_err-vids.ensures)
     in search (rules, fact)
 
 pub scan_versions-requires-clause-there : goal.scan_versions-requires-clause-there
@@ -49,8 +49,8 @@ scan_versions-requires-clause-placed g c = λ k d below.
     let listed : IsListed c.len.result c.args.vids.now c.in_ok-vids.vids.items = c.in_ok-vids.ensures
     in let count : c.len.result ≡ length c.in-Some.d.now.versions.items = search rules
     in let there : All (λ vid. (1 ≤ vid) × (vid ≤ length c.in-Some.d.now.versions.items)) c.in_ok-vids.vids.items
-        = subst (λ (xs : List ℕ). All (λ vid. (1 ≤ vid) × (vid ≤ length c.in-Some.d.now.versions.items)) xs) (sym listed.listed_are)
-          (subst (λ (n : ℕ). All (λ vid. (1 ≤ vid) × (vid ≤ n)) c.args.vids.now) count (all_there c.len.result [] c.args.vids.now listed.passed))
+    = subst (λ (xs : List ℕ). All (λ vid. (1 ≤ vid) × (vid ≤ length c.in-Some.d.now.versions.items)) xs) (sym listed.listed_are)
+    (subst (λ (n : ℕ). All (λ vid. (1 ≤ vid) × (vid ≤ n)) c.args.vids.now) count (all_there c.len.result [] c.args.vids.now listed.passed))
     in served_there c.in-Some.d.now (slice_index_or c.in_ok-vids.vids.items k d) c.in-Some.ensures.sound (there k d below).0 (there k d below).1
 
 pub returns-in_err-vids-clause-world : goal.returns-in_err-vids-clause-world
@@ -61,28 +61,28 @@ returns-in_err-vids-clause-world g c = λ w d at named.
 pub returns-in_err-scan_versions-clause-world : goal.returns-in_err-scan_versions-clause-world
 returns-in_err-scan_versions-clause-world g c = λ w d at named.
     let found : set_in c.args.self.now.held.numbers c.args.name.now ≡ Some (sets.set_in c.in-Some.d.now)
-        = subst (λ (n : Numbers Extent Extent). set_in n c.args.name.now ≡ Some (sets.set_in c.in-Some.d.now)) (c.catalog.ensures ∙ ap (λ kept. kept.held.numbers) c.self.view_is) (sym c.in-Some.ensures.found)
+    = subst (λ (n : Numbers Extent Extent). set_in n c.args.name.now ≡ Some (sets.set_in c.in-Some.d.now)) (c.catalog.ensures ∙ ap (λ kept. kept.held.numbers) c.self.view_is) (sym c.in-Some.ensures.found)
     in let listed : IsListed c.len.result c.args.vids.now c.in_ok-vids.vids.items = c.in_ok-vids.ensures
     in let count : c.len.result ≡ length (map sets.version_in c.in-Some.d.now.versions.items) = search (rules, length-map c.in-Some.d.now.versions.items sets.version_in)
     in let there : All (IsThere (sets.set_in c.in-Some.d.now)) c.args.vids.now
-        = subst (λ (n : ℕ). All (λ vid. (1 ≤ vid) × (vid ≤ n)) c.args.vids.now) count (all_there c.len.result [] c.args.vids.now listed.passed)
+    = subst (λ (n : ℕ). All (λ vid. (1 ≤ vid) × (vid ≤ n)) c.args.vids.now) count (all_there c.len.result [] c.args.vids.now listed.passed)
     in let is : IsSetOf w d (page_bytes (g.H.Host.state c.args.host.now)) (sets.set_in c.in-Some.d.now)
-        = found_set w c.args.self.now.held (g.H.Host.state c.args.host.now) at c.args.name.now (sets.set_in c.in-Some.d.now) d found named
+    = found_set w c.args.self.now.held (g.H.Host.state c.args.host.now) at c.args.name.now (sets.set_in c.in-Some.d.now) d found named
     in let fact : IsUndamaged (of_fetch c.in_err-scan_versions.field-0.0)
-        = spared c.in_err-scan_versions.field-0.0 (scan_spared w (page_bytes (g.H.Host.state c.args.host.now)) (sets.set_in c.in-Some.d.now) d c.args.vids.now c.in_err-scan_versions.field-0.0 is there
-          (subst (λ (xs : List ℕ). RefusesScan c.in_err-scan_versions.field-0.0 (page_bytes (g.H.Host.state c.args.host.now)) (sets.set_in c.in-Some.d.now) xs) listed.listed_are (c.in_err-scan_versions.ensures.answer at.at.told)))
+    = spared c.in_err-scan_versions.field-0.0 (scan_spared w (page_bytes (g.H.Host.state c.args.host.now)) (sets.set_in c.in-Some.d.now) d c.args.vids.now c.in_err-scan_versions.field-0.0 is there
+    (subst (λ (xs : List ℕ). RefusesScan c.in_err-scan_versions.field-0.0 (page_bytes (g.H.Host.state c.args.host.now)) (sets.set_in c.in-Some.d.now) xs) listed.listed_are (c.in_err-scan_versions.ensures.answer at.at.told)))
     in search (rules, fact)
 
 pub returns-clause-world : goal.returns-clause-world
 returns-clause-world g c = λ w d at named.
     let found : set_in c.args.self.now.held.numbers c.args.name.now ≡ Some (sets.set_in c.in-Some.d.now)
-        = subst (λ (n : Numbers Extent Extent). set_in n c.args.name.now ≡ Some (sets.set_in c.in-Some.d.now)) (c.catalog.ensures ∙ ap (λ kept. kept.held.numbers) c.self.view_is) (sym c.in-Some.ensures.found)
+    = subst (λ (n : Numbers Extent Extent). set_in n c.args.name.now ≡ Some (sets.set_in c.in-Some.d.now)) (c.catalog.ensures ∙ ap (λ kept. kept.held.numbers) c.self.view_is) (sym c.in-Some.ensures.found)
     in let listed : IsListed c.len.result c.args.vids.now c.in_ok-vids.vids.items = c.in_ok-vids.ensures
     in let count : c.len.result ≡ length (map sets.version_in c.in-Some.d.now.versions.items) = search (rules, length-map c.in-Some.d.now.versions.items sets.version_in)
     in let there : All (IsThere (sets.set_in c.in-Some.d.now)) c.args.vids.now
-        = subst (λ (n : ℕ). All (λ vid. (1 ≤ vid) × (vid ≤ n)) c.args.vids.now) count (all_there c.len.result [] c.args.vids.now listed.passed)
+    = subst (λ (n : ℕ). All (λ vid. (1 ≤ vid) × (vid ≤ n)) c.args.vids.now) count (all_there c.len.result [] c.args.vids.now listed.passed)
     in let is : IsSetOf w d (page_bytes (g.H.Host.state c.args.host.now)) (sets.set_in c.in-Some.d.now)
-        = found_set w c.args.self.now.held (g.H.Host.state c.args.host.now) at c.args.name.now (sets.set_in c.in-Some.d.now) d found named
+    = found_set w c.args.self.now.held (g.H.Host.state c.args.host.now) at c.args.name.now (sets.set_in c.in-Some.d.now) d found named
     in have_rows w (page_bytes (g.H.Host.state c.args.host.now)) (sets.set_in c.in-Some.d.now) d c.in_ok-scan_versions.field-0.records c.args.vids.now c.in_ok-scan_versions.field-0.picks is there
     (subst (λ (xs : List ℕ). AllZip (IsScanned (page_bytes (g.H.Host.state c.args.host.now)) (sets.set_in c.in-Some.d.now) c.in_ok-scan_versions.field-0.records) xs c.in_ok-scan_versions.field-0.picks)
     listed.listed_are (c.in_ok-scan_versions.ensures.answer at.at.told))
