@@ -7,6 +7,3 @@ pub mod Unreadying
 pub mod Dropping
 pub mod Versions
 pub mod Seeing
-pub mod Numbers
-pub mod Looking
-pub mod Asking

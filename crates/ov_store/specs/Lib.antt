@@ -7,4 +7,3 @@ pub mod Unready
 pub mod Beginning
 pub mod Dropping
 pub mod Scanning
-pub mod Committing

@@ -4,7 +4,6 @@
 //! leaves stands for the World before the call or the one after it. A refusal changes nothing.
 #![tactic(auto)]
 
-mod committing;
 mod errors;
 mod laws;
 mod listing;
