@@ -26,9 +26,12 @@ returns-in-Ok-clause-why c = λ list segment few many.
     let some : 0 < length list = omega (arith, few, c.if-list_pages-eq0.false)
     in let l : Extent = record { page = c.in-Ok.page; bytes = length list }
     in subst (λ (held : Held). IsFull (live held.numbers) list segment c.args.segment_pages) c.self.view_is
-    (inr (l, a_run (live c.self.inside.catalog.numbers) c.self.inside.pages c.self.invariant.0 list c.args.list_pages c.in-Ok.page some (sym few) c.in-Ok.ensures.lowest
-    (λ refused. let no = c.in-Ok.ensures.full.1 refused in absurd cc),
-    too_long (l ∷ live c.self.inside.catalog.numbers) segment c.args.segment_pages many c.requires.segment))
+    (inr (
+      l,
+      a_run (live c.self.inside.catalog.numbers) c.self.inside.pages c.self.invariant.0 list c.args.list_pages c.in-Ok.page some (sym few) c.in-Ok.ensures.lowest
+          (λ refused. let no = c.in-Ok.ensures.full.1 refused in absurd cc),
+      too_long (l ∷ live c.self.inside.catalog.numbers) segment c.args.segment_pages many c.requires.segment,
+    ))
 
 pub returns-in-Err-Full-clause-why : goal.returns-in-Err-Full-clause-why
 returns-in-Err-Full-clause-why c = λ list segment few many.
