@@ -15,3 +15,6 @@ mod writing;
 pub use brought::Brought;
 pub use errors::ChangeErr;
 pub use parts::Core;
+
+#[cfg(test)]
+mod tests;
