@@ -32,7 +32,7 @@ rise_none least (rid ∷ rids) n rise low = by (rid == n) (eqb-true rid n) (rise
     by true same rest = absurd (omega (arith, same refl, rise.0, low))
     by false same rest = omega (arith, rest)
 
-rise_once : (least : ℕ) (rids : List ℕ) (n : ℕ) → RiseFrom least rids → times rids n ≤ 1
+pub rise_once : (least : ℕ) (rids : List ℕ) (n : ℕ) → RiseFrom least rids → times rids n ≤ 1
 rise_once least [] n rise = omega arith
 rise_once least (rid ∷ rids) n rise = by (rid == n) (eqb-true rid n) (rise_once (suc rid) rids n rise.2)
   where

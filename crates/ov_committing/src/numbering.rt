@@ -63,11 +63,7 @@ pub(crate) fn place_of(
 }
 
 // The parents with the weights of their edges.
-fn edges_of(
-    alloc: Global,
-    vids: &[u32],
-    weights: &[u32],
-) -> Result<Vec<(u32, u32)>, AllocError>
+fn edges_of(alloc: Global, vids: &[u32], weights: &[u32]) -> Result<Vec<(u32, u32)>, AllocError>
     ensures { IfOk result (λ edges. edges.items ≡ zip vids.now weights.now) }
 {
     let count = vids.len().min(weights.len());

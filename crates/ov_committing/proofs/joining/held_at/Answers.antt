@@ -29,8 +29,8 @@ unreachable-requires g c =
 pub returns-in-Some-clause-fetched : goal.returns-in-Some-clause-fetched
 returns-in-Some-clause-fetched g c =
     let is : part_at (set_in c.args.d.now) c.args.place ≡ Some (part_in c.in-Some.part.now) =
-        part_seen c.args.d.now c.args.place c.in-Join.id c.parts-parts.result.now (option_copied c.part_with.result) c.in-Join.is c.parts-parts.ensures.parts c.part_with.ensures
-        ∙ ap (λ o. seen (option_copied o)) c.in-Some.is
+    part_seen c.args.d.now c.args.place c.in-Join.id c.parts-parts.result.now (option_copied c.part_with.result) c.in-Join.is c.parts-parts.ensures.parts c.part_with.ensures
+    ∙ ap (λ o. seen (option_copied o)) c.in-Some.is
     in omega (arith, c.rids_in_part.ensures.fetched, ap part_bytes is)
 
 pub returns-in-Some-clause-agrees : goal.returns-in-Some-clause-agrees
@@ -38,8 +38,8 @@ returns-in-Some-clause-agrees g c =
     let s = set_in c.args.d.now
     in let part = part_in c.in-Some.part.now
     in let is : part_at s c.args.place ≡ Some part =
-        part_seen c.args.d.now c.args.place c.in-Join.id c.parts-parts.result.now (option_copied c.part_with.result) c.in-Join.is c.parts-parts.ensures.parts c.part_with.ensures
-        ∙ ap (λ o. seen (option_copied o)) c.in-Some.is
+    part_seen c.args.d.now c.args.place c.in-Join.id c.parts-parts.result.now (option_copied c.part_with.result) c.in-Join.is c.parts-parts.ensures.parts c.part_with.ensures
+    ∙ ap (λ o. seen (option_copied o)) c.in-Some.is
     in let number : number_in s.parts c.in-Join.id ≡ Some part = subst (λ place. part_at s place ≡ Some part) c.in-Join.is is
     in subst (λ place. IfOk c.rids_in_part.result (JoinedAgrees s place)) (sym c.in-Join.is)
     (both_ok c.rids_in_part.result AreRids (IsBorneOut part.records s.records) (HeldAgrees s c.in-Join.id) c.rids_in_part.ensures.set c.rids_in_part.ensures.agree
@@ -51,8 +51,8 @@ returns-in-Some-clause-answer g c = λ tells.
     in let area = page_bytes (g.H.Host.state c.args.host.now)
     in let part = part_in c.in-Some.part.now
     in let is : part_at s c.args.place ≡ Some part =
-        part_seen c.args.d.now c.args.place c.in-Join.id c.parts-parts.result.now (option_copied c.part_with.result) c.in-Join.is c.parts-parts.ensures.parts c.part_with.ensures
-        ∙ ap (λ o. seen (option_copied o)) c.in-Some.is
+    part_seen c.args.d.now c.args.place c.in-Join.id c.parts-parts.result.now (option_copied c.part_with.result) c.in-Join.is c.parts-parts.ensures.parts c.part_with.ensures
+    ∙ ap (λ o. seen (option_copied o)) c.in-Some.is
     in subst (λ o. MatchResult c.rids_in_part.result (IsReadOf s area o) (λ e. RefusesJoined e s area o)) (sym is)
     (refused c.rids_in_part.result s area part (c.rids_in_part.ensures.answer tells))
   where
