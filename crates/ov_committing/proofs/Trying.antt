@@ -1,5 +1,5 @@
 -- What the tests know of records that were read.
-use Rattle.std.proofs.Common.{◌≡◌, ◌≢◌, ◌≤◌, ◌<◌, ◌+◌, ◌^◌, ◌==◌, ℕ, suc, Bool, true, false, List, [], ◌∷◌, length, map, refl, sym, ◌∙◌, ap, subst, inl, inr, arith}
+use Rattle.std.proofs.Common.{◌≡◌, ◌≤◌, ◌+◌, ◌==◌, ℕ, suc, Bool, true, false, List, [], ◌∷◌, length, map, sym, ◌∙◌, subst, arith}
 use Rattle.std.specs.Bool.{OnTrue}
 use Rattle.std.specs.Prelude.{if◌then◌else◌}
 use Rattle.std.specs.List.{All, AllByRecursion}
@@ -13,7 +13,6 @@ use Rattle.ov_value.specs.Shapes.{Shape}
 use Rattle.ov_value.specs.Spelling.{IsRow, row_spelling}
 use Rattle.ov_model.specs.Book.{Row}
 use Rattle.ov_model.specs.Lists.{Rises}
-use Rattle.ov_model.specs.Placed.{times}
 use Rattle.ov_catalog.specs.Applying.{rows_at}
 use Rattle.ov_catalog.specs.Reached.{AreParents, AreRows}
 use Rattle.ov_agree.specs.Agreeing.{EachAgrees}

@@ -1,4 +1,4 @@
-use Rattle.std.proofs.Common.{rules, ◌≡◌, ◌≤◌, [], ◌∷◌, length, map, sym, ◌∙◌}
+use Rattle.std.proofs.Common.{rules, ◌≡◌, ◌≤◌, [], ◌∷◌, length, map}
 use Rattle.std.specs.List.{All}
 use Rattle.ov_agree.specs.Agreeing.{EachAgrees}
 use Rattle.ov_catalog.specs.Applying.{rows_at}

@@ -1,4 +1,4 @@
-use Rattle.std.proofs.Common.{rules, ◌≡◌, ◌≤◌, length, map, sym, ◌∙◌, ap, subst}
+use Rattle.std.proofs.Common.{rules, ◌≡◌, ◌≤◌, length, map}
 use Rattle.ov_value.specs.Rows.{key_cmp}
 use Rattle.ov_model.specs.Lists.{Rises}
 use Rattle.ov_committing.proofs.Trying.{rows_fit}
