@@ -1,6 +1,6 @@
 -- Why a version isn't committed.
-use Rattle.std.proofs.Common.{◌≡◌, ◌<◌, ◌+◌, ◌^◌, ℕ, Bool, true, false, List, [], refl, sym, subst}
-use Rattle.std.specs.Prelude.{Option, Some, None, Result, Ok, Err, MatchResult, IsErr, IsErrAnd}
+use Rattle.std.proofs.Common.{◌≡◌, ℕ, Bool, true, List, [], sym, subst}
+use Rattle.std.specs.Prelude.{Option, Result, Ok, Err, MatchResult, IsErr, IsErrAnd}
 use Rattle.std.proofs.lemmas.Bool.{true≢false}
 use Rattle.ov_fetch.specs.declared.errors.FetchErr.{FetchErr}
 use Rattle.ov_fetch.specs.declared.errors.FetchErr.TheVariants as fetch

@@ -1,5 +1,5 @@
 -- The partition that is joined serves a parent, so its bytes are among those of the parents' partitions.
-use Rattle.std.proofs.Common.{◌≡◌, ◌≢◌, ◌≤◌, ◌+◌, ◌*◌, ℕ, Bool, true, false, ◌||◌, cond, List, [], ◌∷◌, length, map, refl, sym, ◌∙◌, ap, subst, inl, inr, arith}
+use Rattle.std.proofs.Common.{◌≡◌, ◌≢◌, ◌≤◌, ◌*◌, ℕ, Bool, true, false, ◌||◌, cond, List, [], ◌∷◌, length, map, refl, sym, ◌∙◌, ap, inl, inr, arith}
 use Rattle.std.specs.Prelude.{Option, Some, None}
 use Rattle.std.specs.List.{find, list_any, sum_by, zip}
 use Rattle.std.proofs.lemmas.List.{length-map}
@@ -14,7 +14,7 @@ use Rattle.ov_records.specs.Records.{lists_of, pairs_of, shared}
 use Rattle.ov_catalog.specs.Applying.{part_serving}
 use Rattle.ov_catalog.specs.Numbers.{PartNumbers}
 use Rattle.ov_agree.proofs.Same.{tree_parent}
-use Rattle.ov_versions.specs.Agreement.{Numbers, serves}
+use Rattle.ov_versions.specs.Agreement.{serves}
 use Rattle.ov_versions.specs.Sizes.{pages_in, serves_one, segment_bytes_for}
 use Rattle.ov_committing.specs.Asked.{Asked, edges_of, place_of, rids_of}
 use Rattle.ov_committing.specs.Joined.{if_joined, joined_of, part_bytes}

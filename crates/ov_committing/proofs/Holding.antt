@@ -1,7 +1,7 @@
 -- What is read of a partition agrees with its numbers.
-use Rattle.std.proofs.Common.{◌≡◌, ◌≤◌, ◌<◌, ◌+◌, ◌^◌, ℕ, suc, Bool, true, false, ◌==◌, List, [], ◌∷◌, length, refl, sym, ◌∙◌, ap, subst, inl, inr, arith}
-use Rattle.std.specs.Prelude.{if◌then◌else◌, Option, Some, None, Result, IfOk, MatchResult, Ok, Err}
-use Rattle.std.specs.List.{All, AllByRecursion}
+use Rattle.std.proofs.Common.{◌≡◌, ◌≤◌, ◌<◌, ◌+◌, ℕ, suc, Bool, true, false, ◌==◌, List, [], ◌∷◌, refl, sym, subst, inl, inr, arith}
+use Rattle.std.specs.Prelude.{if◌then◌else◌, Some, Result, IfOk, Ok, Err}
+use Rattle.std.specs.List.{AllByRecursion}
 use Rattle.std.proofs.lemmas.Bool.{eqb-true}
 use Rattle.std.proofs.lemmas.List.Elements.{recursion_from_All}
 use Rattle.ov_host.specs.declared.area.Extent.{Extent}
@@ -32,7 +32,7 @@ rise_none least (rid ∷ rids) n rise low = by (rid == n) (eqb-true rid n) (rise
     by true same rest = absurd (omega (arith, same refl, rise.0, low))
     by false same rest = omega (arith, rest)
 
-rise_once : (least : ℕ) (rids : List ℕ) (n : ℕ) → RiseFrom least rids → times rids n ≤ 1
+pub rise_once : (least : ℕ) (rids : List ℕ) (n : ℕ) → RiseFrom least rids → times rids n ≤ 1
 rise_once least [] n rise = omega arith
 rise_once least (rid ∷ rids) n rise = by (rid == n) (eqb-true rid n) (rise_once (suc rid) rids n rise.2)
   where

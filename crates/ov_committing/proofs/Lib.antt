@@ -4,3 +4,4 @@ pub mod Making
 pub mod Answering
 pub mod Worlds
 pub mod Counting
+pub mod Trying

@@ -1,15 +1,15 @@
 -- What a commit makes of what was read, as an event.
-use Rattle.std.proofs.Common.{◌≡◌, ◌≤◌, ◌<◌, ◌+◌, ◌^◌, ℕ, suc, Bool, true, false, not, ◌==◌, List, [], ◌∷◌, length, map, refl, sym, ◌∙◌, ap, subst, inl, inr, arith}
-use Rattle.std.specs.Prelude.{◌≢◌, if◌then◌else◌, nat_eq, Option, Some, None, IsTrue, filter}
-use Rattle.std.specs.List.{All, AllByRecursion, IsDistinct, zip}
-use Rattle.std.proofs.lemmas.Bool.{eqb-true, eq-eqb, ne_eqb}
+use Rattle.std.proofs.Common.{◌≡◌, ◌≤◌, ◌<◌, ◌+◌, ◌^◌, ℕ, Bool, true, false, ◌==◌, List, [], ◌∷◌, length, map, refl, sym, ◌∙◌, ap, subst, inl, inr, arith}
+use Rattle.std.specs.Prelude.{if◌then◌else◌, nat_eq, Some, None, IsTrue}
+use Rattle.std.specs.List.{AllByRecursion, IsDistinct, zip}
+use Rattle.std.proofs.lemmas.Bool.{eq-eqb, ne_eqb}
 use Rattle.std.proofs.lemmas.List.{length-map}
 use Rattle.ov_event.specs.declared.event.Event as raw
 use Rattle.ov_event.specs.declared.event.Event.TheVariants as says
 use Rattle.ov_host.specs.declared.area.Extent.{Extent}
 use Rattle.ov_place.specs.declared.place_facts.Place.{Place}
 use Rattle.ov_place.specs.declared.place_facts.Place.TheVariants.{Own, Join}
-use Rattle.ov_member.specs.Rids.{has, left_out}
+use Rattle.ov_member.specs.Rids.{left_out}
 use Rattle.ov_model.specs.Assigned.{fresh_rows}
 use Rattle.ov_model.specs.Book.{Row}
 use Rattle.ov_model.specs.Lists.{IsIn}
@@ -20,9 +20,8 @@ use Rattle.ov_records.specs.Records.{lists_of, shared}
 use Rattle.ov_records.specs.declared.outcome.Assigned.{Assigned}
 use Rattle.ov_catalog.specs.declared.cvd.Cvd.{Cvd}
 use Rattle.ov_catalog.specs.Sets.{plan_in, set_in, version_in}
-use Rattle.ov_catalog.specs.Applying.{facts_of, first_off, is_list, is_segment, set_numbered}
+use Rattle.ov_catalog.specs.Applying.{facts_of, first_off, is_segment, set_numbered}
 use Rattle.ov_catalog.specs.Numbers.{Numbers}
-use Rattle.ov_catalog.specs.Raw.{place_in}
 use Rattle.ov_catalog.specs.Reached.{AreParents, AreRows}
 use Rattle.ov_core.specs.Brought.{extent_at}
 use Rattle.ov_fitting.specs.Fitting.{IsSoundEvent}

@@ -1,11 +1,10 @@
 -- A commit to a dataset of a World.
-use Rattle.std.proofs.Common.{◌≡◌, ◌≢◌, ◌≤◌, ◌<◌, ◌+◌, ◌^◌, ℕ, suc, Bool, true, false, ◌==◌, cond, List, [], ◌∷◌, ◌++◌, length, map, refl, sym, ◌∙◌, ap, subst, inl, inr, arith}
+use Rattle.std.proofs.Common.{◌≡◌, ◌≢◌, ◌<◌, ◌+◌, ◌^◌, ℕ, Bool, true, false, ◌==◌, cond, List, [], ◌∷◌, length, map, refl, sym, ◌∙◌, ap, subst, inl, inr, arith}
 use Rattle.std.specs.Prelude.{◌⊎◌, Option, Some, None}
 use Rattle.std.specs.List.{list_any, sum_by, zip}
 use Rattle.std.proofs.lemmas.Bool.{cases_Bool, eqb-true}
 use Rattle.std.proofs.lemmas.List.{length-append}
 use Rattle.std.proofs.lemmas.List.Sums.{sum_by-cons}
-use Rattle.ov_event.specs.declared.event.Event as raw
 use Rattle.ov_fetch.specs.declared.errors.FetchErr.{FetchErr}
 use Rattle.ov_fetch.specs.declared.errors.FetchErr.TheVariants as fetch
 use Rattle.ov_graph.specs.Versions.{heaviest}
@@ -22,17 +21,14 @@ use Rattle.ov_model.specs.World.{Dataset, World, Plan}
 use Rattle.ov_model.proofs.Growing.{length_recs, order_of_more}
 use Rattle.ov_model.proofs.Sharing.{fresh_is as fresh_records}
 use Rattle.ov_records.specs.Committed.{AreRecords}
-use Rattle.ov_records.specs.Records.{lists_of}
 use Rattle.ov_records.specs.declared.outcome.Assigned.{Assigned}
 use Rattle.ov_catalog.specs.Applying.{copied_in, facts_of, id_in, is_place, is_unmoved, part_numbered, part_serving}
 use Rattle.ov_catalog.specs.Numbers.{PartNumbers, PlanNumbers, SetNumbers, each_part, each_plan, each_set}
-use Rattle.ov_catalog.specs.Shown.{Records, held_by, shown_plan, shown_set}
+use Rattle.ov_catalog.specs.Shown.{held_by, shown_plan, shown_set}
 use Rattle.ov_image.specs.Pages.{readings_of}
 use Rattle.ov_fitting.proofs.Seeing.{place_shown}
 use Rattle.ov_writing.specs.Next.{IsNext, held_at}
 use Rattle.ov_writing.proofs.Edges.{weights_zip}
-use Rattle.ov_versions.specs.Agreement.{Numbers}
-use Rattle.ov_versions.specs.OfWorld.{IsSetOf}
 use Rattle.ov_sights.specs.Sights.{HasNumbers}
 use Rattle.ov_sights.proofs.Counted.{numbers}
 use Rattle.ov_sights.proofs.Parted.{rids}
@@ -40,7 +36,7 @@ use Rattle.ov_sights.proofs.Served.{part_spared}
 use Rattle.ov_sights.proofs.Together.{has_listed}
 use Rattle.ov_committing.specs.declared.errors.CommitErr.{CommitErr}
 use Rattle.ov_committing.specs.declared.errors.CommitErr.TheVariants.{Memory, TooManyRecords}
-use Rattle.ov_committing.specs.Asked.{Asked, edges_of, fresh_of, place_of}
+use Rattle.ov_committing.specs.Asked.{Asked, edges_of, fresh_of}
 use Rattle.ov_committing.specs.Errors.{of_fetch}
 use Rattle.ov_committing.specs.Joined.{part_at, IsPlaceThere, IsReadOf, RefusesJoined}
 use Rattle.ov_committing.specs.OfWorld.{IsAsked, IsSpared, version_in, records_with}

@@ -2,7 +2,7 @@
 --     Asked      the dataset's numbers, and what the version is to have
 --     rids_of a, fresh_of a      the rids of its rows, and how many of its records are new
 --     edges_of a, place_of a      its parents with the weights of their edges, and where it goes
-use Rattle.std.specs.Prelude.{◌+◌, ℕ, List, length}
+use Rattle.std.specs.Prelude.{ℕ, List}
 use Rattle.ov_place.specs.declared.place_facts.Place.{Place}
 use Rattle.ov_segment.specs.declared.numbered.Record.{Record}
 use Rattle.ov_model.specs.Assigned.{fresh_rows}

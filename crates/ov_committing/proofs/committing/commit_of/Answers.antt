@@ -1,14 +1,13 @@
-use Rattle.std.proofs.Common.{rules, ◌≡◌, ◌≤◌, ◌<◌, ◌+◌, ◌^◌, ℕ, suc, List, [], true, length, map, refl, sym, ◌∙◌, ap, subst, inl, inr, arith}
+use Rattle.std.proofs.Common.{rules, ◌≡◌, ◌≤◌, ◌<◌, ◌+◌, ◌^◌, ℕ, List, [], true, length, sym, ◌∙◌, ap, subst, arith}
 use Rattle.ov_host.specs.Host.{State}
 use Rattle.ov_model.specs.Assigned.{fresh_rows}
 use Rattle.ov_records.specs.Records.{lists_of}
 use Rattle.ov_fetch.specs.Extents.{page_bytes}
 use Rattle.ov_place.specs.declared.place_facts.Place.TheVariants.{Own}
 use Rattle.ov_catalog.specs.Sets.{set_in}
-use Rattle.ov_agree.specs.Committing.{JoinedAgrees}
 use Rattle.ov_versions.proofs.Matching.{err_on}
 use Rattle.ov_writing.specs.Written.{AreGiven}
-use Rattle.ov_committing.specs.Asked.{Asked, asked_in, fresh_of, place_of}
+use Rattle.ov_committing.specs.Asked.{Asked, asked_in, fresh_of}
 use Rattle.ov_committing.specs.Commits.{event_for, Refuses}
 use Rattle.ov_committing.specs.Errors.{of_fetch, of_write}
 use Rattle.ov_committing.specs.OfWorld.{IsAnswered, IsSpared, version_in}
@@ -16,9 +15,9 @@ use Rattle.ov_committing.specs.declared.errors.CommitErr.TheVariants.{Memory, To
 use Rattle.ov_records.specs.Committed.{AreRecords}
 use Rattle.ov_sights.proofs.Counted.{numbers}
 use Rattle.std.specs.Prelude.{◌⊎◌}
-use Rattle.ov_committing.specs.Joined.{part_at, part_bytes, joined_of, IsPlaceThere, IsReadOf, RefusesJoined}
+use Rattle.ov_committing.specs.Joined.{part_at, part_bytes, joined_of, IsPlaceThere, IsReadOf}
 use Rattle.ov_committing.proofs.Answering.{err_match, not_held, not_written}
-use Rattle.ov_committing.proofs.Making.{MayBe, IsMade, idle_set, made_is, may_be, vid_is, few_named, rids_given, event_told, commit_is, too_long, applies}
+use Rattle.ov_committing.proofs.Making.{MayBe, IsMade, idle_set, made_is, may_be, vid_is, few_named, rids_given, event_told, commit_is, applies}
 use Rattle.ov_committing.proofs.Worlds.{all_records, is_next, made_spared, spared}
 use Rattle.ov_committing.proofs.Placing.{place_there, joined_is}
 use Rattle.ov_committing.proofs.committing.commit_of.Goals as goal

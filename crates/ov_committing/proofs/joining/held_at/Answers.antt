@@ -1,9 +1,7 @@
-use Rattle.std.proofs.Common.{◌≡◌, ℕ, List, map, refl, sym, ◌∙◌, ap, subst, arith}
-use Rattle.std.specs.Prelude.{Option, Some, None, Result, Ok, Err, IfOk, MatchResult, option_copied}
+use Rattle.std.proofs.Common.{◌≡◌, ℕ, List, sym, ◌∙◌, ap, subst, arith}
+use Rattle.std.specs.Prelude.{Some, Result, Ok, Err, IfOk, MatchResult, option_copied}
 use Rattle.ov_host.specs.declared.area.Extent.{Extent}
-use Rattle.ov_layout.specs.declared.part.Part.{Part}
 use Rattle.ov_layout.specs.Parts.{part_numbered}
-use Rattle.ov_place.specs.declared.place_facts.Place.TheVariants.{Join}
 use Rattle.ov_catalog.specs.Applying.{part_numbered as number_in}
 use Rattle.ov_catalog.specs.Numbers.{PartNumbers}
 use Rattle.ov_catalog.specs.Sets.{set_in, part_in}

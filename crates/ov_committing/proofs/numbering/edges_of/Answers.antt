@@ -1,4 +1,4 @@
-use Rattle.std.proofs.Common.{◌∙◌, arith}
+use Rattle.std.proofs.Common.{arith}
 use Rattle.std.specs.List.{zip}
 use Rattle.ov_writing.proofs.Edges.{pairs_done}
 use Rattle.ov_committing.proofs.numbering.edges_of.Goals as goal
