@@ -49,9 +49,9 @@ one_passed most last passed x h up low = record {
   within = λ rid is. elim (of_append passed (x ∷ []) rid is) [
     | inl before ↦ h.within rid before
     | inr now ↦ elim now [
-        | inl same ↦ (omega (arith, same, up), omega (arith, same, low))
-        | inr none ↦ absurd none
-      ]
+      | inl same ↦ (omega (arith, same, up), omega (arith, same, low))
+      | inr none ↦ absurd none
+    ]
   ];
   at_first = λ none. absurd (omega (arith, none, longer passed x));
   at_last = λ k e. last_of passed x k e;
@@ -97,6 +97,7 @@ stops most last rids k low up h down are = by k refl
   where
     size : length (take k rids) ≡ k
     size = take_long rids k (omega (arith, low))
+
     by : (n : ℕ) → k ≡ n → ⊥
     by zero e = omega (arith, are.from_one (get_or rids k 0) (in_at rids k low), down, h.at_first (omega (arith, size, e)))
     by (suc n) e =

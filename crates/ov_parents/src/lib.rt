@@ -11,6 +11,5 @@ mod taking;
 pub use counting::records_are_counted;
 pub use reading::parents_of;
 
-
 #[cfg(test)]
 mod tests;

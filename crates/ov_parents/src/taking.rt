@@ -42,11 +42,7 @@ pub(crate) fn take_parents(
 }
 
 // Copies of the records at these positions.
-fn records_at(
-    alloc: Global,
-    records: &[Record],
-    pick: &[usize],
-) -> Result<Vec<Record>, AllocError>
+fn records_at(alloc: Global, records: &[Record], pick: &[usize]) -> Result<Vec<Record>, AllocError>
     requires { AllStand records.now pick.now }
     ensures { IfOk result (λ found. StandAt records.now pick.now found.items) }
 {

@@ -10,14 +10,15 @@ loop-rid-init c = none_passed c.args.most
 pub returns-then-rid-last : goal.returns-then-rid-last
 returns-then-rid-last c =
     let rids = c.args.rids.now in
-    let k = c.loop-rid.rid-index in
-    (λ never. absurd cc,
-    λ are.
-    elim c.then-rid-last.branch [
-      | then-rid-last-via-then-rid-last w ↦
-          absurd (stops c.args.most c.loop-rid.last rids k c.loop-rid-test.true c.requires c.loop-rid.invariant (omega (arith, w.if-rid-last.true)) are)
-      | then-rid-last-via-else-rid-last+then-rid-most w ↦ absurd (passes_most c.args.most rids k c.loop-rid-test.true (omega (arith, w.if-rid-most.true)) are)
-    ])
+    let k = c.loop-rid.rid-index in (
+      λ never. absurd cc,
+      λ are.
+          elim c.then-rid-last.branch [
+            | then-rid-last-via-then-rid-last w ↦
+                absurd (stops c.args.most c.loop-rid.last rids k c.loop-rid-test.true c.requires c.loop-rid.invariant (omega (arith, w.if-rid-last.true)) are)
+            | then-rid-last-via-else-rid-last+then-rid-most w ↦ absurd (passes_most c.args.most rids k c.loop-rid-test.true (omega (arith, w.if-rid-most.true)) are)
+          ],
+    )
 
 pub loop-rid-preserved : goal.loop-rid-preserved
 loop-rid-preserved c =

@@ -20,6 +20,7 @@ returns c =
     let moved : IsPermutation (rids_of c.args.records.now) c.deref.result.now =
     subst (λ (l : List ℕ). IsPermutation l c.deref.result.now) c.in_ok-rids.ensures
     (subst (IsPermutation c.in_ok-rids.rids.items) (sym c.deref.ensures.value) c.sort_unstable.ensures.permutation) in
-    let count : length (rids_of c.args.records.now) ≡ length c.args.records.now = length-map records (λ r. r.rid) in
-    (λ yes. subst (λ (n : ℕ). AreRids n most (rids_of records)) count (rids_moved most sorted (rids_of records) (IsPermutation-sym (rids_of records) sorted moved) (c.ascend.ensures.0 yes)),
-    λ are. c.ascend.ensures.1 (rids_moved most (rids_of records) sorted moved (subst (λ (n : ℕ). AreRids n most (rids_of records)) (sym count) are)))
+    let count : length (rids_of c.args.records.now) ≡ length c.args.records.now = length-map records (λ r. r.rid) in (
+      λ yes. subst (λ (n : ℕ). AreRids n most (rids_of records)) count (rids_moved most sorted (rids_of records) (IsPermutation-sym (rids_of records) sorted moved) (c.ascend.ensures.0 yes)),
+      λ are. c.ascend.ensures.1 (rids_moved most (rids_of records) sorted moved (subst (λ (n : ℕ). AreRids n most (rids_of records)) (sym count) are)),
+    )
