@@ -5,13 +5,14 @@ ghost use Rattle.ov_catalog.specs.Sets.{set_in};
 ghost use Rattle.ov_parents.specs.Parents.{IsCounted};
 
 use crate::parents_of;
-use ov_catalog::{Catalog, Cvd};
-use ov_event::{Event, Items, Placed, RawSchema};
+use ov_catalog::{Cvd, Version};
+use ov_event::Items;
 use ov_fetch::FetchErr;
 use ov_host::Extent;
+use ov_layout::Layout;
 use ov_memhost::MemHost;
 use ov_segment::Records;
-use ov_value::{Column, Kind, Txt};
+use ov_value::{Column, Kind, Schema, Txt};
 use ov_versions::has_version;
 use std::alloc::{AllocError, Global};
 use std::test::Fail;
@@ -54,7 +55,7 @@ fn host_of(alloc: Global, pages: Vec<u8>) -> MemHost {
     MemHost::new(alloc, pages, Vec::new(alloc), Vec::new(alloc))
 }
 
-fn schema(alloc: Global) -> Result<RawSchema, AllocError> {
+fn schema(alloc: Global) -> Result<Schema, Fail> {
     let mut columns = Vec::new(alloc);
     for (name, kind) in [
         ("id", Kind::Int),
@@ -64,54 +65,50 @@ fn schema(alloc: Global) -> Result<RawSchema, AllocError> {
         let name = Txt::new(alloc, name)?;
         columns.push(Column { name, kind })?;
     }
-    let key = Vec::from_slice(alloc, &[0u8])?;
-    Ok(RawSchema {
-        columns: Items::new(columns),
-        key: Items::new(key),
-    })
+    let mut key = Vec::new(alloc);
+    key.push(Txt::new(alloc, "id")?)?;
+    Ok(Schema::new(alloc, columns, key)?)
 }
 
-fn init(alloc: Global) -> Result<Event, AllocError> {
-    let name = Txt::new(alloc, "people")?;
-    let schema = schema(alloc)?;
-    Ok(Event::Init {
-        name,
-        schema,
-        rows: 2,
-        list: Extent { page: 0, bytes: 8 },
-        segment: Extent { page: 1, bytes: 62 },
-    })
+// A partition for each version.
+fn partitions(alloc: Global) -> Result<Layout, AllocError> {
+    let mut layout = Layout::new(alloc);
+    layout.reserve(1, None)?;
+    layout.own(1, 2, Extent { page: 1, bytes: 62 });
+    layout.reserve(2, None)?;
+    layout.own(2, 3, Extent { page: 3, bytes: 92 });
+    Ok(layout)
 }
 
-fn commit(alloc: Global) -> Result<Event, AllocError> {
-    let message = Txt::new(alloc, "more")?;
-    let parents = Vec::from_slice(alloc, &[(1u32, 1u32)])?;
-    Ok(Event::Commit {
-        cvd: 1,
-        vid: 2,
-        message,
-        parents: Items::new(parents),
-        rows: 3,
+fn version(
+    alloc: Global,
+    parents: &[(u32, u32)],
+    rows: u32,
+    list: Extent,
+) -> Result<Version, AllocError> {
+    Ok(Version {
+        parents: Items::new(Vec::from_slice(alloc, parents)?),
+        message: Txt::new(alloc, "")?,
+        rows,
         fresh: 2,
-        place: Placed::Own,
-        added: 3,
-        list: Extent { page: 2, bytes: 16 },
-        segment: Extent { page: 3, bytes: 92 },
+        list,
     })
 }
 
-fn catalog(alloc: Global) -> Result<Catalog, Fail> {
-    let mut catalog = Catalog::new(alloc);
-    let begun = catalog.apply(init(alloc)?).is_ok();
-    if begun && catalog.apply(commit(alloc)?).is_ok() {
-        Ok(catalog)
-    } else {
-        Err("the events apply".into())
-    }
-}
-
-fn people(catalog: &Catalog) -> Result<&Cvd, Fail> {
-    Ok(catalog.cvd("people").ok_or("they are there")?)
+fn people(alloc: Global) -> Result<Cvd, Fail> {
+    let mut versions = Vec::new(alloc);
+    versions.push(version(alloc, &[], 2, Extent { page: 0, bytes: 8 })?)?;
+    versions.push(version(alloc, &[(1, 1)], 3, Extent { page: 2, bytes: 16 })?)?;
+    Ok(Cvd {
+        number: 1,
+        name: Txt::new(alloc, "people")?,
+        schema: schema(alloc)?,
+        versions,
+        layout: partitions(alloc)?,
+        threshold: None,
+        plan: None,
+        records: 4,
+    })
 }
 
 // Whether the dataset has as many records as its versions brought, or more.
@@ -157,18 +154,17 @@ fn rids(alloc: Global, parents: &[Records], place: usize) -> Result<Vec<u32>, Fa
 #[test]
 fn records_of_two_parents_out_of_two_partitions(rt: HostRuntime) -> Result<(), Fail> {
     let alloc = rt.alloc();
-    let catalog = catalog(alloc)?;
-    let d = people(&catalog)?;
-    let parents = two_parents(alloc, area(alloc, &[])?, d, 2, 1)?;
+    let d = people(alloc)?;
+    let parents = two_parents(alloc, area(alloc, &[])?, &d, 2, 1)?;
     assert_eq!(rt; parents.len(), 2);
     assert_eq!(rt; rids(alloc, &parents, 0)?.as_slice(), [1, 4, 3].as_slice());
     assert_eq!(rt; rids(alloc, &parents, 1)?.as_slice(), [1, 2].as_slice());
     Ok(())
 }
 
-// Bytes of the area, what they become, and the page that is named for the versions 1 and 2, and for 2 and 1: ann's score
-// or name of one partition; two records of a key that the other has not; a list that is short of a rid; a segment; a member
-// without a record; and a damage before a disagreement.
+// Bytes of the area, what they become, and the page that is named for the versions 1 and 2, and for 2 and 1: ann has
+// another score in the first partition, or in the second, or another name; a list is short of a rid; a segment is off; and
+// where ann's score differs, a member has no record.
 const DAMAGES: [(&[(usize, u8)], u32, u32); 6] = [
     (&[(4126, 11)], 2, 0),
     (&[(12_318, 11)], 2, 0),
@@ -181,12 +177,11 @@ const DAMAGES: [(&[(usize, u8)], u32, u32); 6] = [
 #[test]
 fn the_later_parent_that_disagrees_is_named(rt: HostRuntime) -> Result<(), Fail> {
     let alloc = rt.alloc();
-    let catalog = catalog(alloc)?;
-    let d = people(&catalog)?;
+    let d = people(alloc)?;
     for (i, (changes, page, turned)) in DAMAGES.iter().enumerate() {
-        let found = two_parents(alloc, area(alloc, changes)?, d, 1, 2).err();
+        let found = two_parents(alloc, area(alloc, changes)?, &d, 1, 2).err();
         assert_eq!(rt; found, Some(FetchErr::Damaged { page: *page }), "case {i}");
-        let found = two_parents(alloc, area(alloc, changes)?, d, 2, 1).err();
+        let found = two_parents(alloc, area(alloc, changes)?, &d, 2, 1).err();
         assert_eq!(rt;
             found,
             Some(FetchErr::Damaged { page: *turned }),
@@ -200,9 +195,8 @@ fn the_later_parent_that_disagrees_is_named(rt: HostRuntime) -> Result<(), Fail>
 #[test]
 fn other_rows_may_differ(rt: HostRuntime) -> Result<(), Fail> {
     let alloc = rt.alloc();
-    let catalog = catalog(alloc)?;
-    let d = people(&catalog)?;
-    let parents = two_parents(alloc, area(alloc, &[(4157, 21)])?, d, 1, 2)?;
+    let d = people(alloc)?;
+    let parents = two_parents(alloc, area(alloc, &[(4157, 21)])?, &d, 1, 2)?;
     assert_eq!(rt; rids(alloc, &parents, 0)?.as_slice(), [1, 2].as_slice());
     Ok(())
 }
@@ -210,11 +204,10 @@ fn other_rows_may_differ(rt: HostRuntime) -> Result<(), Fail> {
 #[test]
 fn no_version_has_no_parent(rt: HostRuntime) -> Result<(), Fail> {
     let alloc = rt.alloc();
-    let catalog = catalog(alloc)?;
-    let d = people(&catalog)?;
+    let d = people(alloc)?;
     let mut host = host_of(alloc, Vec::new(alloc));
-    if is_counted(d) {
-        assert_eq!(rt; parents_of(alloc, &mut host, d, &[])?.len(), 0);
+    if is_counted(&d) {
+        assert_eq!(rt; parents_of(alloc, &mut host, &d, &[])?.len(), 0);
         assert_eq!(rt; host.calls(), 0);
     }
     Ok(())
