@@ -10,3 +10,6 @@ pub mod Seeing
 pub mod Numbers
 pub mod Looking
 pub mod Asking
+pub mod Commits
+pub mod Readying
+pub mod Finishing

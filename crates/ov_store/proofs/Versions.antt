@@ -160,3 +160,6 @@ vids_refuse off count vids why.TooManyRows is first = first why.TooManyRows is
 vids_refuse off count vids why.TooManyCvds is first = first why.TooManyCvds is
 vids_refuse off count vids why.NoNumbers is first = first why.NoNumbers is
 vids_refuse off count vids (why.FormatOne row) is first = first (why.FormatOne row) is
+
+pub vids_many : (count : ℕ) (before vids : List ℕ) → vids_off count before vids ≡ Some why.TooManyRecords → ⊥
+vids_many count before vids e = vids_only count before vids why.TooManyRecords e

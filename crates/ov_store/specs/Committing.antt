@@ -3,6 +3,8 @@
 --     asked_of s vids message rows parents      the version that is asked for, where these are its parents' records
 --     IsCommitBy, IsCommitted      what a commit brings, from what was read; that it was made
 --     IsUncommitted      why it wasn't
+--     reads_for s vids      how many bytes of pages it may read
+--     committed name wish w      the World with the version; as it is where no dataset has the name
 use Rattle.std.specs.Prelude.{◌≡◌, ◌<◌, ◌≤◌, ◌+◌, ◌^◌, ◌⊎◌, ℕ, true, false, nat_le, List, [], length, Option, Some, None}
 use Rattle.std.specs.List.{AllZip}
 use Rattle.std.specs.Option.{option_map, option_or}
@@ -13,9 +15,9 @@ use Rattle.ov_segment.specs.declared.numbered.Record.{Record}
 use Rattle.ov_model.specs.Act.{fresh_of as fresh_of_model}
 use Rattle.ov_model.specs.Book.{Row}
 use Rattle.ov_model.specs.Merge.{in_key_order}
-use Rattle.ov_model.specs.Moves.{Move, Commit}
+use Rattle.ov_model.specs.Moves.{Move, Commit, moved}
 use Rattle.ov_model.specs.Records.{order_of}
-use Rattle.ov_model.specs.World.{Dataset}
+use Rattle.ov_model.specs.World.{Dataset, World, set_named}
 use Rattle.ov_catalog.specs.Extents.{live}
 use Rattle.ov_catalog.specs.Numbers.{SetNumbers, Numbers}
 use Rattle.ov_core.specs.Held.{Held}
@@ -28,6 +30,7 @@ use Rattle.ov_parents.specs.Parents.{IsParent, RefusesParents}
 use Rattle.ov_committing.specs.Asked.{Asked, fresh_of}
 use Rattle.ov_committing.specs.Commits.{IsCommitOf, IsTooLong}
 use Rattle.ov_committing.specs.Joined.{RefusesJoined, joined_of}
+use Rattle.ov_versions.specs.Sizes.{bytes_for, segment_bytes_for}
 use Rattle.ov_store.specs.declared.errors.StoreErr.{StoreErr}
 use Rattle.ov_store.specs.declared.errors.StoreErr.TheVariants as why
 use Rattle.ov_store.specs.declared.store.Committed.{Committed}
@@ -68,6 +71,10 @@ asked_of s wish parents = record { set = s; vids = wish.vids; parents = parents;
 pub record AreRead (s : Set) (wish : Wish) (t : State) (parents : List (List Record)) : Type 0 where
   pub agree : ParentsAgree s wish.vids parents
   pub read : t.tells ≡ true → AllZip (IsParent (page_bytes t) s) wish.vids parents
+
+-- the lists of the parents and the segments of their partitions, and the partition that is joined once more
+abbrev pub reads_for : Set → List ℕ → ℕ
+reads_for s vids = bytes_for s vids + segment_bytes_for s vids
 
 pub record IsCommitBy (s : Set) (wish : Wish) (t : State) (b : Bringing) (fresh : ℕ) : Type 0 where
   pub parents : List (List Record)
@@ -144,6 +151,13 @@ IsUnready held name wish old new (unready.TooLong list_pages segment_pages) =
 -- as many new records as the model has
 abbrev pub fresh_in_world : Dataset → Wish → ℕ
 fresh_in_world d wish = fresh_of_model d wish.vids wish.message (in_key_order d.cvd.schema wish.rows)
+
+abbrev pub with_commit : Option Dataset → Wish → World → World
+with_commit None wish w = w
+with_commit (Some d) wish w = moved (commit_move d wish.vids wish.message wish.rows) w
+
+abbrev pub committed : List ℕ → Wish → World → World
+committed name wish w = with_commit (set_named w name) wish w
 
 -- nothing is damaged, and there would be too many records exactly where the model says so
 abbrev pub IsSparedOff : Dataset → Wish → StoreErr → Type 0
