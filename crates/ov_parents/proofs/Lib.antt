@@ -1,4 +1,4 @@
-mod Adding
+pub mod Adding
 mod Repeats
 mod Places
 mod Taken

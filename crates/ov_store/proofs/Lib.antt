@@ -7,3 +7,9 @@ pub mod Unreadying
 pub mod Dropping
 pub mod Versions
 pub mod Seeing
+pub mod Numbers
+pub mod Looking
+pub mod Asking
+pub mod Commits
+pub mod Readying
+pub mod Finishing

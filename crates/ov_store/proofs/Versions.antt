@@ -1,5 +1,5 @@
 -- Versions that were listed without a refusal.
-use Rattle.std.proofs.Common.{◌≡◌, ◌==◌, ◌||◌, ◌+◌, ◌≤◌, ◌<◌, ℕ, Bool, true, false, nat_lt, List, [], ◌∷◌, length, map, refl, sym, ◌∙◌, ap, subst, inl, inr, arith}
+use Rattle.std.proofs.Common.{◌≡◌, ◌≢◌, ◌==◌, ◌||◌, ◌+◌, ◌≤◌, ◌<◌, ℕ, Bool, true, false, nat_lt, List, [], ◌∷◌, length, map, refl, sym, ◌∙◌, ap, subst, inl, inr, arith}
 use Rattle.std.specs.Prelude.{Option, Some, None, if◌then◌else◌}
 use Rattle.std.specs.List.{All, list_any}
 use Rattle.std.proofs.lemmas.Bool.{cases_Bool, ltb-false, eqb-false, eqb-true}
@@ -11,13 +11,15 @@ use Rattle.ov_layout.specs.declared.part.Part.{Part}
 use Rattle.ov_member.specs.Rids.{has}
 use Rattle.ov_catalog.specs.declared.cvd.Cvd.{Cvd}
 use Rattle.ov_catalog.specs.Numbers.{SetNumbers, Numbers}
+use Rattle.ov_catalog.specs.Reached.{AreParents}
 use Rattle.ov_catalog.specs.Ready.{IsSet}
 use Rattle.ov_catalog.specs.Sets.{part_in}
-use Rattle.ov_model.specs.Placed.{times}
+use Rattle.ov_model.specs.Placed.{AreThere, times}
 use Rattle.ov_model.specs.World.{is_one}
 use Rattle.ov_store.specs.declared.errors.StoreErr.{StoreErr}
 use Rattle.ov_store.specs.declared.errors.StoreErr.TheVariants as why
 use Rattle.ov_store.specs.Refusals.{IsVidOff, vids_off}
+use Rattle.ov_store.specs.Unready.{IsRefused}
 use Rattle.ov_store.specs.Scanning.{IsUndamaged, IsUnscanned, scan_off, set_in, versions_off}
 
 abbrev one_if : Bool → ℕ
@@ -130,3 +132,34 @@ vids_undamaged count vids why.TooManyRows is = tt
 vids_undamaged count vids why.TooManyCvds is = tt
 vids_undamaged count vids why.NoNumbers is = tt
 vids_undamaged count vids (why.FormatOne row) is = tt
+
+-- ---- as parents
+
+are_there : (count : ℕ) (before vids : List ℕ) → vids_off count before vids ≡ None → AreThere count vids
+are_there count before [] e = tt
+are_there count before (vid ∷ vids) e = (is_there count before vid vids e, are_there count (vid ∷ before) vids (parts count before vid vids e).2)
+
+pub are_parents : (count : ℕ) (vids : List ℕ) → vids ≢ [] → vids_off count [] vids ≡ None → AreParents count vids
+are_parents count vids some e = record { some = some; there = are_there count [] vids e; once = listed_once count vids e }
+
+-- a refusal for versions is one of the call, where the call's comes first for them
+pub vids_refuse : (off : Option StoreErr) (count : ℕ) (vids : List ℕ) (e : StoreErr) → IsVidOff count vids e → ((x : StoreErr) → vids_off count [] vids ≡ Some x → off ≡ Some x) → IsRefused off e
+vids_refuse off count vids why.Memory is first = tt
+vids_refuse off count vids why.Host is first = absurd (vids_only count [] vids why.Host is)
+vids_refuse off count vids (why.Damaged area place) is first = absurd (vids_only count [] vids (why.Damaged area place) is)
+vids_refuse off count vids (why.Full pages) is first = absurd (vids_only count [] vids (why.Full pages) is)
+vids_refuse off count vids why.JournalFull is first = absurd (vids_only count [] vids why.JournalFull is)
+vids_refuse off count vids why.NoCvd is first = first why.NoCvd is
+vids_refuse off count vids why.CvdExists is first = first why.CvdExists is
+vids_refuse off count vids (why.NoVersion vid) is first = first (why.NoVersion vid) is
+vids_refuse off count vids (why.RepeatedVersion vid) is first = first (why.RepeatedVersion vid) is
+vids_refuse off count vids (why.DuplicateKey row) is first = first (why.DuplicateKey row) is
+vids_refuse off count vids why.TooManyVersions is first = first why.TooManyVersions is
+vids_refuse off count vids why.TooManyRecords is first = first why.TooManyRecords is
+vids_refuse off count vids why.TooManyRows is first = first why.TooManyRows is
+vids_refuse off count vids why.TooManyCvds is first = first why.TooManyCvds is
+vids_refuse off count vids why.NoNumbers is first = first why.NoNumbers is
+vids_refuse off count vids (why.FormatOne row) is first = first (why.FormatOne row) is
+
+pub vids_many : (count : ℕ) (before vids : List ℕ) → vids_off count before vids ≡ Some why.TooManyRecords → ⊥
+vids_many count before vids e = vids_only count before vids why.TooManyRecords e

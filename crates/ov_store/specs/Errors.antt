@@ -1,5 +1,7 @@
 -- Why a part of a call isn't done, as the store's call answers it.
 use Rattle.std.specs.Prelude.{Bool, true, false}
+use Rattle.ov_committing.specs.declared.errors.CommitErr.{CommitErr}
+use Rattle.ov_committing.specs.declared.errors.CommitErr.TheVariants as commit
 use Rattle.ov_core.specs.declared.errors.ChangeErr.{ChangeErr}
 use Rattle.ov_core.specs.declared.errors.ChangeErr.TheVariants as change
 use Rattle.ov_fetch.specs.declared.errors.FetchErr.{FetchErr}
@@ -38,3 +40,10 @@ abbrev pub of_fetch : FetchErr → StoreErr
 of_fetch fetch.Host = why.Host
 of_fetch fetch.Memory = why.Memory
 of_fetch (fetch.Damaged page) = why.Damaged Pages page
+
+abbrev pub of_commit : CommitErr → Unready
+of_commit commit.Host = unready.Off why.Host
+of_commit commit.Memory = unready.Off why.Memory
+of_commit (commit.Damaged page) = unready.Off (why.Damaged Pages page)
+of_commit commit.TooManyRecords = unready.Off why.TooManyRecords
+of_commit (commit.TooLong list_pages segment_pages) = unready.TooLong list_pages segment_pages

@@ -7,3 +7,4 @@ pub mod Unready
 pub mod Beginning
 pub mod Dropping
 pub mod Scanning
+pub mod Committing

@@ -4,6 +4,7 @@
 //! leaves stands for the World before the call or the one after it. A refusal changes nothing.
 #![tactic(auto)]
 
+mod committing;
 mod errors;
 mod laws;
 mod listing;

@@ -145,7 +145,7 @@ impl Store {
     }
 
     // Stores what was brought.
-    fn change<H: Host>(&mut self, host: &mut H, brought: Brought) -> Result<(), StoreErr>
+    pub(crate) fn change<H: Host>(&mut self, host: &mut H, brought: Brought) -> Result<(), StoreErr>
         requires call { MayCall self.old (H.state host.old) }
         requires ready { IsReady brought self.old.held }
         ensures passes { Passes (H.state host.old) (H.state host.new) }
@@ -166,7 +166,7 @@ impl Store {
     }
 
     // Why a call isn't done whose version isn't ready.
-    fn unready(&mut self, why: Unready) -> StoreErr
+    pub(crate) fn unready(&mut self, why: Unready) -> StoreErr
         requires long { IsFewPages why }
         ensures off { (refusal : StoreErrValue) → why ≡ unready.Off refusal → result ≡ refusal }
         ensures long { (list_pages segment_pages : ℕ) (list segment : List ℕ) → why ≡ unready.TooLong list_pages segment_pages
