@@ -131,8 +131,8 @@ module _ (w : World) (area : List ℕ) (s : Numbers) (d : Dataset) (of_world : I
   parents_stored (v ∷ vids) [] there are = absurd are
   parents_stored (v ∷ vids) (p ∷ parents) there are =
       let one : pairs_of p ≡ stored (of_version (recs d.cvd.versions []) v) (order_of d.cvd.versions)
-          = is_stored w area s d are.0.records v are.0.pick p of_world (All-head (IsThere s) v vids there) are.0.scanned
-            (are.0.scanned.picked.at ∙ ap (map Some) (sym are.0.found_is))
+      = is_stored w area s d are.0.records v are.0.pick p of_world (All-head (IsThere s) v vids there) are.0.scanned
+      (are.0.scanned.picked.at ∙ ap (map Some) (sym are.0.found_is))
       in λ i. one i ∷ parents_stored vids parents (All-tail (IsThere s) v vids there) are.1 i
 
   pub parents_spared : (vids : List ℕ) (e : FetchErr) → All (IsThere s) vids → RefusesParents e area s vids → IsUndamaged (of_fetch e)
@@ -141,8 +141,8 @@ module _ (w : World) (area : List ℕ) (s : Numbers) (d : Dataset) (of_world : I
   parents_spared vids (fetch.Damaged page) there (inl damage) = no_damage w area s d vids page of_world there damage
   parents_spared vids (fetch.Damaged page) there (inr differ) =
       let none : Some differ.place ≡ None
-          = none_disagrees (lists_of differ.parents) (Some differ.place)
-            (versions_agree d.cvd.versions vids differ.parents (parents_stored vids differ.parents there differ.read)) differ.first
+      = none_disagrees (lists_of differ.parents) (Some differ.place)
+      (versions_agree d.cvd.versions vids differ.parents (parents_stored vids differ.parents there differ.read)) differ.first
       in cc
 
 -- ---- what a look at the host tells
@@ -167,19 +167,27 @@ module _ (s t : State) (looked : Looked s t) where
       → (e ≡ commit.Host → Rose s.faults u.faults) → Refuses e (asked_of set wish parents) t.tells (page_bytes t) → IsUnready held name wish s u (of_commit e)
   refuses_unready held name set wish u parents commit.Host found off are few rose is = rose refl
   refuses_unready held name set wish u parents commit.Memory found off are few rose is = tt
-  refuses_unready held name set wish u parents (commit.Damaged page) found off are few rose is =
-      (refl, off, subst (IfSet (λ x. IsDamagedAt x wish s page)) (sym found)
-      (λ told. inr (parents, are, subst (λ area. RefusesJoined (fetch.Damaged page) set area (joined_of (asked_of set wish parents))) (area_same told) (is (looked.told ∙ told)))))
+  refuses_unready held name set wish u parents (commit.Damaged page) found off are few rose is = (
+    refl,
+    off,
+    subst (IfSet (λ x. IsDamagedAt x wish s page)) (sym found)
+        (λ told. inr (parents, are, subst (λ area. RefusesJoined (fetch.Damaged page) set area (joined_of (asked_of set wish parents))) (area_same told) (is (looked.told ∙ told)))),
+  )
   refuses_unready held name set wish u parents commit.TooManyRecords found off are few rose is =
       (off, subst (IfSet (λ x. HasTooMany x wish s)) (sym found) (record { parents = parents; are = are; many = is }))
   refuses_unready held name set wish u parents (commit.TooLong list_pages segment_pages) found off are few rose is =
       let a : Asked = asked_of set wish parents
       in let rids : length (rids_of a) ≡ length a.rows = length-assigned a.rows (lists_of parents) (set.records + 1)
-      in (off, subst (IfSet (λ x. IsTooLongFor x wish s list_pages segment_pages)) (sym found) (record {
-        parents = parents;
-        are = are;
-        long = record { event = is.event; list = is.list; segment = is.segment; commit = commit_moved a is.event is.list is.segment is.commit; long = is.long };
-      }), list_short (rids_of a) list_pages (omega (arith, few, rids)) (is.long.0 ∙ ap pages_for is.commit.list_is), is.long.2)
+      in (
+        off,
+        subst (IfSet (λ x. IsTooLongFor x wish s list_pages segment_pages)) (sym found) (record {
+          parents = parents;
+          are = are;
+          long = record { event = is.event; list = is.list; segment = is.segment; commit = commit_moved a is.event is.list is.segment is.commit; long = is.long };
+        }),
+        list_short (rids_of a) list_pages (omega (arith, few, rids)) (is.long.0 ∙ ap pages_for is.commit.list_is),
+        is.long.2,
+      )
 
 -- ---- at a World
 
@@ -233,8 +241,7 @@ module _ (w : World) (area : List ℕ) (s : Numbers) (d : Dataset) (of_world : I
   spared_by (commit.Damaged page) is = absurd is
   spared_by commit.TooManyRecords is =
       let more : records_with asked d ≡ length (order_of d.cvd.versions) + fresh_in_world d wish
-          = ap (λ (rows : List Row). length (order_of (d.cvd.versions ++ version_of wish.vids wish.message rows ∷ []))) made_is
-            ∙ records_more d (version_of wish.vids wish.message (in_key_order d.cvd.schema wish.rows))
+      = ap (λ (rows : List Row). length (order_of (d.cvd.versions ++ version_of wish.vids wish.message rows ∷ []))) made_is
+      ∙ records_more d (version_of wish.vids wish.message (in_key_order d.cvd.schema wish.rows))
       in omega (arith, is, more)
   spared_by (commit.TooLong list_pages segment_pages) is = tt
-

@@ -42,9 +42,9 @@ module _ (w : World) (held : Held) (s : State) (at : IsAtWorld w held s) (name :
   not_gone none =
       let there = set_there held name wish.vids wish.rows off
       in let number : Some there.0.number ≡ None
-          = sym (ap (option_map (λ (d : Set). d.number)) there.1)
-            ∙ number_seen (readings_of s.tape.disk.pages.bytes) held.numbers w name (sees w held s at)
-            ∙ ap (option_map (λ (d : Dataset). d.cvd.number)) none
+      = sym (ap (option_map (λ (d : Set). d.number)) there.1)
+      ∙ number_seen (readings_of s.tape.disk.pages.bytes) held.numbers w name (sees w held s at)
+      ∙ ap (option_map (λ (d : Dataset). d.cvd.number)) none
       in cc
 
   pub commits : (P : World → Type 0) → ((d : Dataset) → set_named w name ≡ Some d → P (moved (commit_move d wish.vids wish.message wish.rows) w)) → P (committed name wish w)
@@ -125,21 +125,21 @@ module _ (held : Held) (name : List ℕ) (wish : Wish) (s t : State) (e : StoreE
   unready_uncommitted (TooLong list_pages segment_pages) is by_off by_long =
       let long = long_in list_pages segment_pages (set_in held.numbers name) is.1
       in no_room_for held name wish s t e (live held.numbers) long.1.long.list long.1.long.segment
-        (by_long list_pages segment_pages long.1.long.list long.1.long.segment refl long.1.long.long) is.0
-        (λ pages full. if_set (λ x. IsTooLongFor x wish s list_pages segment_pages) (λ x. FindsNoRun x wish s held pages)
-        (λ x it. record {
-          brought = record { event = it.long.event; list = it.long.list; segment = it.long.segment };
-          fresh = fresh_of (asked_of x wish it.parents);
-          by = record { parents = it.parents; are = it.are; commit = it.long.commit; fresh_is = refl };
-          full = subst (IsNoRoom (live held.numbers) it.long.list it.long.segment) full (by_long list_pages segment_pages it.long.list it.long.segment refl it.long.long);
-        }) (set_in held.numbers name) is.1)
+      (by_long list_pages segment_pages long.1.long.list long.1.long.segment refl long.1.long.long) is.0
+      (λ pages full. if_set (λ x. IsTooLongFor x wish s list_pages segment_pages) (λ x. FindsNoRun x wish s held pages)
+      (λ x it. record {
+        brought = record { event = it.long.event; list = it.long.list; segment = it.long.segment };
+        fresh = fresh_of (asked_of x wish it.parents);
+        by = record { parents = it.parents; are = it.are; commit = it.long.commit; fresh_is = refl };
+        full = subst (IsNoRoom (live held.numbers) it.long.list it.long.segment) full (by_long list_pages segment_pages it.long.list it.long.segment refl it.long.long);
+      }) (set_in held.numbers name) is.1)
 
   pub unready_spared : (d : Dataset) (u : Unready) → IsUnready held name wish s t u → ByOff u → ByLong u → IsSparedBy d wish u → IsSparedOff d wish e
   unready_spared d (Off refusal) is by_off by_long spared = subst (IsSparedOff d wish) (sym (by_off refusal refl)) spared
   unready_spared d (TooLong list_pages segment_pages) is by_off by_long spared =
       let long = long_in list_pages segment_pages (set_in held.numbers name) is.1
       in no_room_spared (live held.numbers) long.1.long.list long.1.long.segment d wish e
-        (by_long list_pages segment_pages long.1.long.list long.1.long.segment refl long.1.long.long)
+      (by_long list_pages segment_pages long.1.long.list long.1.long.segment refl long.1.long.long)
 
 -- ---- not stored
 

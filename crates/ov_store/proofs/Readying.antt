@@ -84,7 +84,7 @@ module _ (set : Set) (wish : Wish) (vids : List ℕ) (parents : List (List Recor
         parents = parents;
         are = are_read;
         commit = commit_moved s t looked (asked_of set wish parents) b.event b.list b.segment
-          (subst (λ (a : Asked). IsCommitOf a t.tells (page_bytes t) b.event b.list b.segment) asked_is is);
+            (subst (λ (a : Asked). IsCommitOf a t.tells (page_bytes t) b.event b.list b.segment) asked_is is);
         fresh_is = count ∙ ap (λ (a : Asked). fresh_of a) asked_is;
       }
 

@@ -42,12 +42,12 @@ returns-in_err-change-clause-stops g c = λ w at.
 
 pub returns-clause-done : goal.returns-clause-done
 returns-clause-done g c = λ s named. record {
-      brought = bringing_of c.in-Ok.next.brought;
-      by = c.in-Ok.ensures.by s named;
-      done = c.in_ok-change.ensures.done;
-      vid_is = c.in-Ok.ensures.vid s named;
-      rows_is = search rules;
-    }
+  brought = bringing_of c.in-Ok.next.brought;
+  by = c.in-Ok.ensures.by s named;
+  done = c.in_ok-change.ensures.done;
+  vid_is = c.in-Ok.ensures.vid s named;
+  rows_is = search rules;
+}
 
 pub returns-clause-stops : goal.returns-clause-stops
 returns-clause-stops g c = λ w at.

@@ -152,10 +152,10 @@ returns-clause-brings g c = λ w d at named.
     in let text : IsUtf8 c.args.message.now = subst (λ (xs : List ℕ). IsUtf8 xs) c.as_str.ensures.text c.as_str.ensures.utf8
     in record {
       fits = fits_there (sets.set_in c.in_ok-d.field-0.d.now) (record { vids = c.args.parents.now; message = c.args.message.now; rows = c.args.rows.items }) c.deref-2.result.now c.deref-3.result.now c.in_ok-d.field-0.rows.items vids_are sorted (g.H.Host.state c.args.host.now) read (g.H.Host.state c.parents_of.new.host) c.parents_of.ensures.looked w c.args.self.now.held at c.args.name.now d c.in_ok-d.ensures.found named there c.in_ok-brought.field-0.brought.event c.in_ok-brought.field-0.fresh
-        c.in_ok-brought.field-0.brought.list.items c.in_ok-brought.field-0.brought.segment.items answered are text c.requires.message
-        (subst (λ (n : ℕ). n < 65535) count c.in_ok-d.ensures.few) c.in_ok-d.ensures.fit;
+          c.in_ok-brought.field-0.brought.list.items c.in_ok-brought.field-0.brought.segment.items answered are text c.requires.message
+          (subst (λ (n : ℕ). n < 65535) count c.in_ok-d.ensures.few) c.in_ok-d.ensures.fit;
       says = says_there (sets.set_in c.in_ok-d.field-0.d.now) (record { vids = c.args.parents.now; message = c.args.message.now; rows = c.args.rows.items }) c.deref-2.result.now c.deref-3.result.now c.in_ok-d.field-0.rows.items vids_are sorted (g.H.Host.state c.args.host.now) read (g.H.Host.state c.parents_of.new.host) c.parents_of.ensures.looked w c.args.self.now.held at c.args.name.now d c.in_ok-d.ensures.found named there c.in_ok-brought.field-0.brought.event c.in_ok-brought.field-0.fresh
-        c.in_ok-brought.field-0.brought.list.items c.in_ok-brought.field-0.brought.segment.items answered;
+          c.in_ok-brought.field-0.brought.list.items c.in_ok-brought.field-0.brought.segment.items answered;
     }
 
 pub returns-clause-fresh : goal.returns-clause-fresh
