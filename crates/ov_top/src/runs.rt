@@ -13,8 +13,8 @@ use crate::reader::Reader;
 use crate::serve::serve;
 use crate::status::Status;
 use crate::words::are_words;
-use ov_host::{Area, Host, Source, Stage};
 use ov_first::{OpenErr, Store};
+use ov_host::{Area, Host, Source, Stage};
 use ov_value::Txt;
 use std::alloc::Global;
 

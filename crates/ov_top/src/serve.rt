@@ -15,8 +15,8 @@ use crate::named::{Named, read_named};
 use crate::read_file::read_file;
 use crate::read_line::{Making, is_comment, read_line};
 use crate::reply::Reply;
-use ov_host::{Area, Host, Stage};
 use ov_first::{Store, StoreErr};
+use ov_host::{Area, Host, Stage};
 use ov_value::Row;
 use std::alloc::Global;
 

@@ -1,0 +1,4 @@
+pub mod Differing
+pub mod Seeing
+pub mod Agreeing
+pub mod Committing

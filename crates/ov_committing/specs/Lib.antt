@@ -1,0 +1,5 @@
+pub mod Errors
+pub mod Asked
+pub mod Joined
+pub mod Commits
+pub mod OfWorld

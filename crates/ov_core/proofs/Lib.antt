@@ -1,0 +1,10 @@
+pub mod Weighing
+pub mod Serving
+pub mod Reserving
+pub mod Placing
+pub mod Extents
+pub mod Ranges
+pub mod Storing
+pub mod Changing
+pub mod Keeping
+pub mod Dropping

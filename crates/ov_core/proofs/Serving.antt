@@ -1,0 +1,257 @@
+-- Each version of numbers that events lead to is in a partition, and so is the place of a commit that applies.
+use Rattle.std.proofs.Common.{◌≡◌, ◌⊎◌, inl, inr, ℕ, ◌+◌, ◌≤◌, ◌^◌, Bool, true, false, ◌&&◌, ◌||◌, ◌==◌, List, [], ◌∷◌, ◌++◌, length, map, refl, sym, subst, arith, length-append}
+use Rattle.std.specs.Prelude.{Option, Some, None, not, nat_le, if◌then◌else◌, filter, find, cond}
+use Rattle.std.specs.List.{list_any, list_all}
+use Rattle.std.specs.Option.{option_or}
+use Rattle.std.proofs.lemmas.Bool.{eqb-true, leb-true, cases_lt}
+use Rattle.std.proofs.lemmas.Bool.Decides.{Decides-eqb}
+use Rattle.ov_host.specs.declared.area.Extent.{Extent}
+use Rattle.ov_event.specs.declared.event.Event as raw
+use Rattle.ov_event.specs.declared.event.Event.TheVariants as says
+use Rattle.ov_graph.specs.Versions.{heaviest}
+use Rattle.ov_place.specs.Placement.{placed, is_budgeted}
+use Rattle.ov_place.specs.declared.place_facts.Place.{Place}
+use Rattle.ov_place.specs.declared.place_facts.Place.TheVariants.{Own, Join}
+use Rattle.ov_layout.specs.Changes.{extents_of}
+use Rattle.ov_catalog.specs.declared.field.Field.{Field}
+use Rattle.ov_catalog.specs.declared.field.Field.TheVariants as off
+use Rattle.ov_catalog.specs.Numbers.{VersionNumbers, PartNumbers, SetNumbers, Numbers, nothing_yet}
+use Rattle.ov_catalog.specs.Events.{own_part, with_joined, join_at, parts_with, version_of, with_version, numbered, change, applied, replayed}
+use Rattle.ov_catalog.specs.Applying.{AllApply, first_off, off_unless, commit_off, of_live, are_distinct, are_parents, is_count, is_list, is_parent, is_segment, facts_of, is_place, part_serving, rows_at, id_in, set_numbered}
+use Rattle.ov_catalog.specs.Raw.{event_in, place_in, numbers_in}
+use Rattle.ov_catalog.proofs.CommitLemmas.{heaviest-passes}
+
+pub and_both : (a b : Bool) → (a && b) ≡ true → (a ≡ true) × (b ≡ true)
+and_both true b h = (refl, h)
+and_both false b h = absurd cc
+
+pub off_none : (b : Bool) (f : Field) (rest : Option Field) → option_or (off_unless b f) rest ≡ None → (b ≡ true) × (rest ≡ None)
+off_none true f rest h = (refl, h)
+off_none false f rest h = absurd cc
+
+-- ---- versions in partitions
+
+abbrev pub Set : Type 0
+Set = SetNumbers Extent Extent
+
+abbrev has : List ℕ → ℕ → Bool
+has vids vid = list_any (λ v. v == vid) vids
+
+-- a version is in one of these partitions
+abbrev pub IsServed : List (PartNumbers Extent) → ℕ → Type 0
+IsServed [] vid = ⊥
+IsServed (part ∷ parts) vid = (has part.versions vid ≡ true) ⊎ IsServed parts vid
+
+-- a partition has this number
+abbrev pub IsNumbered : List (PartNumbers Extent) → ℕ → Type 0
+IsNumbered [] id = ⊥
+IsNumbered (part ∷ parts) id = ((part.id == id) ≡ true) ⊎ IsNumbered parts id
+
+-- so does each version of a dataset
+abbrev pub AreServed : Set → Type 0
+AreServed d = (vid : ℕ) → 1 ≤ vid → vid ≤ length d.versions → IsServed d.parts vid
+
+abbrev pub AllServed : List Set → Type 0
+AllServed [] = Unit {0}
+AllServed (d ∷ sets) = AreServed d × AllServed sets
+
+-- the partition that is joined is there
+abbrev pub IsThere : Place → List (PartNumbers Extent) → Type 0
+IsThere Own parts = Unit {0}
+IsThere (Join id) parts = IsNumbered parts id
+
+same_is : (n : ℕ) → (n == n) ≡ true
+same_is n = (Decides-eqb n n).1 refl
+
+has_more : (vids more : List ℕ) (vid : ℕ) → has vids vid ≡ true → has (vids ++ more) vid ≡ true
+has_more [] more vid h = absurd cc
+has_more (v ∷ vids) more vid h = by (v == vid) (has_more vids more vid) h
+  where
+    by : (b : Bool) → (has vids vid ≡ true → has (vids ++ more) vid ≡ true) → (b || has vids vid) ≡ true → (b || has (vids ++ more) vid) ≡ true
+    by true rest is = refl
+    by false rest is = rest is
+
+has_last : (vids : List ℕ) (vid : ℕ) → has (vids ++ vid ∷ []) vid ≡ true
+has_last [] vid = by (vid == vid) (same_is vid)
+  where
+    by : (b : Bool) → b ≡ true → (b || false) ≡ true
+    by true is = refl
+    by false is = is
+has_last (v ∷ vids) vid = by (v == vid) (has_last vids vid)
+  where
+    by : (b : Bool) → has (vids ++ vid ∷ []) vid ≡ true → (b || has (vids ++ vid ∷ []) vid) ≡ true
+    by true rest = refl
+    by false rest = rest
+
+served_more : (parts more : List (PartNumbers Extent)) (vid : ℕ) → IsServed parts vid → IsServed (parts ++ more) vid
+served_more [] more vid is = absurd is
+served_more (part ∷ parts) more vid (inl here) = inl here
+served_more (part ∷ parts) more vid (inr later) = inr (served_more parts more vid later)
+
+served_last : (parts : List (PartNumbers Extent)) (part : PartNumbers Extent) (vid : ℕ) → has part.versions vid ≡ true → IsServed (parts ++ part ∷ []) vid
+served_last [] part vid is = inl is
+served_last (x ∷ parts) part vid is = inr (served_last parts part vid is)
+
+-- the partition that serves a version has a number
+serving_there : (parts : List (PartNumbers Extent)) (vid : ℕ) → IsServed parts vid → IsNumbered parts (id_in (part_serving parts vid))
+serving_there [] vid is = absurd is
+serving_there (part ∷ parts) vid is = by (has part.versions vid) (serving_there parts vid) is
+  where
+    by : (b : Bool) → (IsServed parts vid → IsNumbered parts (id_in (part_serving parts vid))) → (b ≡ true) ⊎ IsServed parts vid → IsNumbered (part ∷ parts) (id_in (cond b (Some part) (part_serving parts vid)))
+    by true rest h = inl (same_is part.id)
+    by false rest (inl h) = absurd cc
+    by false rest (inr later) = inr (rest later)
+
+module _ (id vid added : ℕ) (segments : List Extent) where
+  join_keeps : (parts : List (PartNumbers Extent)) (v : ℕ) → IsServed parts v → IsServed (join_at id vid added segments parts) v
+  join_keeps [] v is = absurd is
+  join_keeps (part ∷ parts) v is = by (part.id == id) (join_keeps parts v) is
+    where
+      by : (b : Bool) → (IsServed parts v → IsServed (join_at id vid added segments parts) v) → (has part.versions v ≡ true) ⊎ IsServed parts v
+          → IsServed (if b then with_joined vid added segments part ∷ parts else part ∷ join_at id vid added segments parts) v
+      by true rest (inl here) = inl (has_more part.versions (vid ∷ []) v here)
+      by true rest (inr later) = inr later
+      by false rest (inl here) = inl here
+      by false rest (inr later) = inr (rest later)
+
+  join_serves : (parts : List (PartNumbers Extent)) → IsNumbered parts id → IsServed (join_at id vid added segments parts) vid
+  join_serves [] is = absurd is
+  join_serves (part ∷ parts) is = by (part.id == id) (join_serves parts) is
+    where
+      by : (b : Bool) → (IsNumbered parts id → IsServed (join_at id vid added segments parts) vid) → (b ≡ true) ⊎ IsNumbered parts id → IsServed (if b then with_joined vid added segments part ∷ parts else part ∷ join_at id vid added segments parts) vid
+      by true rest h = inl (has_last part.versions vid)
+      by false rest (inl h) = absurd cc
+      by false rest (inr later) = inr (rest later)
+
+parts_keep : (place : Place) (next vid added : ℕ) (segments : List Extent) (parts : List (PartNumbers Extent)) (v : ℕ) → IsServed parts v → IsServed (parts_with place next vid added segments parts) v
+parts_keep Own next vid added segments parts v is = served_more parts (own_part next vid added segments ∷ []) v is
+parts_keep (Join id) next vid added segments parts v is = join_keeps id vid added segments parts v is
+
+parts_serve : (place : Place) (next vid added : ℕ) (segments : List Extent) (parts : List (PartNumbers Extent)) → IsThere place parts → IsServed (parts_with place next vid added segments parts) vid
+parts_serve Own next vid added segments parts there = served_last parts (own_part next vid added segments) vid (has_last [] vid)
+parts_serve (Join id) next vid added segments parts there = join_serves id vid added segments parts there
+
+-- ---- a commit that applies
+
+there_by : (parts : List (PartNumbers Extent)) (place : Place) (b : Bool) (parent : ℕ) → is_place place (if b then Own else Join parent) ≡ true → IsNumbered parts parent → IsThere place parts
+there_by parts Own b parent h n = tt
+there_by parts (Join id) true parent h n = absurd cc
+there_by parts (Join id) false parent h n = subst (λ (i : ℕ). IsNumbered parts i) (sym (eqb-true id parent h)) n
+
+pub place_there : (vid : ℕ) (message : List ℕ) (parents : List (ℕ × ℕ)) (rows fresh : ℕ) (place : Place) (added : ℕ) (list segment : Extent) (d : Set)
+    → commit_off vid message parents rows fresh place added list segment d ≡ None → AreServed d → IsThere place d.parts
+place_there vid message parents rows fresh place added list segment d h served =
+    let all = d.records + fresh in
+    let facts = facts_of d (heaviest parents) in
+    let six = off_unless (is_list rows list && is_segment added segment) off.Place in
+    let five = option_or (off_unless (is_count d rows fresh added place) off.Count) six in
+    let four = option_or (off_unless (is_place place (placed facts)) off.Placing) five in
+    let some_rows = nat_le rows 1000000 && (nat_le fresh rows && (nat_le rows all && nat_le all (2 ^ 31))) in
+    let three = option_or (off_unless some_rows off.Rows) four in
+    let two = option_or (off_unless (are_parents d.versions rows parents) off.Parent) three in
+    let one = option_or (off_unless (nat_le (length message) 1024) off.Message) two in
+    let after_vid = off_none (vid == length d.versions + 1 && nat_le vid 65535) off.Vid one h in
+    let after_message = off_none (nat_le (length message) 1024) off.Message two after_vid.1 in
+    let named = off_none (are_parents d.versions rows parents) off.Parent three after_message.1 in
+    let counted = off_none some_rows off.Rows four named.1 in
+    let at = off_none (is_place place (placed facts)) off.Placing five counted.1 in
+    let edges = are_distinct (map (λ edge. edge.0) parents) in
+    let some = and_both (nat_le 1 (length parents)) (list_all (is_parent d.versions rows) parents && edges) named.0 in
+    let each = and_both (list_all (is_parent d.versions rows) parents) edges some.1 in
+    let heavy = heaviest-passes (is_parent d.versions rows) parents (leb-true 1 (length parents) some.0) each.0 in
+    let edge = heaviest parents in
+    let there = and_both (nat_le 1 edge.0 && nat_le edge.0 (length d.versions)) (nat_le edge.1 rows && nat_le edge.1 (rows_at d.versions edge.0)) heavy in
+    let within = and_both (nat_le 1 edge.0) (nat_le edge.0 (length d.versions)) there.0 in
+    there_by d.parts place (facts.unmoved || is_budgeted facts.threshold facts.weight facts.records facts.stored) facts.parent at.0
+    (serving_there d.parts edge.0 (served edge.0 (leb-true 1 edge.0 within.0) (leb-true edge.0 (length d.versions) within.1)))
+
+-- ---- what events keep
+
+version_served : (v : VersionNumbers Extent) (place : Place) (added : ℕ) (segments : List Extent) (d : Set) → IsThere place d.parts → AreServed d → AreServed (with_version v place added segments d)
+version_served v place added segments d there served vid some within =
+    let size = length-append d.versions (v ∷ []) in
+    elim (cases_lt (length d.versions) vid) [
+      | inl last ↦
+          let is : length d.versions + 1 ≡ vid = omega (arith, last, within, size) in
+          subst (λ (n : ℕ). IsServed (parts_with place d.next_part (length d.versions + 1) added segments d.parts) n) is
+          (parts_serve place d.next_part (length d.versions + 1) added segments d.parts there)
+      | inr old ↦ parts_keep place d.next_part (length d.versions + 1) added segments d.parts vid (served vid some old)
+    ]
+
+pub found_served : (cvd : ℕ) (sets : List Set) (d : Set) → find (numbered cvd) sets ≡ Some d → AllServed sets → AreServed d
+found_served cvd [] d is all = absurd cc
+found_served cvd (x ∷ sets) d is all = by (numbered cvd x) (λ later. found_served cvd sets d later all.1) is
+  where
+    by : (b : Bool) → (find (numbered cvd) sets ≡ Some d → AreServed d) → cond b (Some x) (find (numbered cvd) sets) ≡ Some d → AreServed d
+    by true rest same = let e : x ≡ d = cc in subst AreServed e all.0
+    by false rest later = rest later
+
+all_append : (sets : List Set) (d : Set) → AllServed sets → AreServed d → AllServed (sets ++ d ∷ [])
+all_append [] d all is = (is, tt)
+all_append (x ∷ sets) d all is = (all.0, all_append sets d all.1 is)
+
+all_filter : (test : Set → Bool) (sets : List Set) → AllServed sets → AllServed (filter test sets)
+all_filter test [] all = tt
+all_filter test (x ∷ sets) all = by (test x) (all_filter test sets all.1)
+  where
+    by : (b : Bool) → AllServed (filter test sets) → AllServed (if b then x ∷ filter test sets else filter test sets)
+    by true rest = (all.0, rest)
+    by false rest = rest
+
+all_change : (cvd : ℕ) (f : Set → Set) (d : Set) (sets : List Set) → find (numbered cvd) sets ≡ Some d → AreServed (f d) → AllServed sets → AllServed (change cvd f sets)
+all_change cvd f d [] is new all = tt
+all_change cvd f d (x ∷ sets) is new all = by (numbered cvd x) (λ later. all_change cvd f d sets later new all.1) is
+  where
+    by : (b : Bool) → (find (numbered cvd) sets ≡ Some d → AllServed (change cvd f sets)) → cond b (Some x) (find (numbered cvd) sets) ≡ Some d → AllServed (if b then f x ∷ sets else x ∷ change cvd f sets)
+    by true rest same = let e : d ≡ x = cc in (subst (λ (y : Set). AreServed (f y)) e new, all.1)
+    by false rest later = (all.0, rest later)
+
+-- the dataset that a commit names
+pub live_found : (test : Set → Option Field) (found : Option Set) → of_live test found ≡ None → (d : Set) × (found ≡ Some d) × (test d ≡ None)
+live_found test None h = absurd cc
+live_found test (Some d) h = (d, refl, h)
+
+pub served_more_by : (e : raw.Event) (n : Numbers Extent Extent) → first_off e n ≡ None → AllServed n.sets → AllServed (applied (event_in e) n).sets
+served_more_by (says.Init name schema rows list segment) n h all =
+    all_append n.sets _ all
+    (λ vid some within.
+    let one : 1 ≡ vid = omega (arith, some, within) in
+    subst (λ (v : ℕ). IsServed (own_part 1 1 rows (extents_of segment) ∷ []) v) one (inl (has_last [] 1)))
+served_more_by (says.Commit cvd vid message parents rows fresh place added list segment) n h all =
+    let found = live_found (commit_off vid message parents rows fresh (place_in place) added list segment) (set_numbered cvd n) h in
+    let d = found.0 in
+    let served = found_served cvd n.sets d found.1 all in
+    all_change cvd (with_version (version_of parents message rows fresh list) (place_in place) added (extents_of segment)) d n.sets found.1
+    (version_served (version_of parents message rows fresh list) (place_in place) added (extents_of segment) d
+    (place_there vid message parents rows fresh (place_in place) added list segment d found.2 served) served)
+    all
+served_more_by (says.Drop cvd) n h all = all_filter (λ d. not (numbered cvd d)) n.sets all
+served_more_by (says.Plan cvd p q targets) n h all = all
+served_more_by (says.Copy cvd count segment) n h all = all
+served_more_by (says.Flip cvd) n h all = all
+served_more_by (says.Base next) n h all = all
+served_more_by (says.Whole set) n h all = all
+served_more_by (says.Wide cvd vid message columns parents rows fresh place added list segment) n h all = all
+
+all_served_by : (es : List raw.Event) (n : Numbers Extent Extent) → AllApply es n → AllServed n.sets → AllServed (replayed (map event_in es) n).sets
+all_served_by [] n apply all = all
+all_served_by (e ∷ es) n apply all = all_served_by es (applied (event_in e) n) apply.1 (served_more_by e n apply.0 all)
+
+pub all_served : (es : List raw.Event) → AllApply es nothing_yet → AllServed (numbers_in es).sets
+all_served es apply = all_served_by es nothing_yet apply tt
+
+-- ---- one event more
+
+apply_more : (es : List raw.Event) (e : raw.Event) (n : Numbers Extent Extent) → AllApply es n → first_off e (replayed (map event_in es) n) ≡ None → AllApply (es ++ e ∷ []) n
+apply_more [] e n apply is = (is, tt)
+apply_more (x ∷ es) e n apply is = (apply.0, apply_more es e (applied (event_in x) n) apply.1 is)
+
+replay_more : (es : List raw.Event) (e : raw.Event) (n : Numbers Extent Extent) → replayed (map event_in (es ++ e ∷ [])) n ≡ applied (event_in e) (replayed (map event_in es) n)
+replay_more [] e n = refl
+replay_more (x ∷ es) e n = replay_more es e (applied (event_in x) n)
+
+pub all_apply : (es : List raw.Event) (e : raw.Event) → AllApply es nothing_yet → first_off e (numbers_in es) ≡ None → AllApply (es ++ e ∷ []) nothing_yet
+all_apply es e apply is = apply_more es e nothing_yet apply is
+
+pub numbers_more : (es : List raw.Event) (e : raw.Event) → numbers_in (es ++ e ∷ []) ≡ applied (event_in e) (numbers_in es)
+numbers_more es e = replay_more es e nothing_yet

@@ -1,0 +1,5 @@
+pub mod Held
+pub mod AtWorld
+pub mod Brought
+pub mod Errors
+pub mod Rooms

@@ -1,0 +1,20 @@
+//! The core of a store: its journal, its catalog and its reserved pages, and the changes that keep them one.
+//!
+//! A change is one event: its runs are written to free pages, the journal takes its record, and the catalog applies it. What a
+//! stop in a change leaves stands for the World before it or the World after it, as `specs/AtWorld.antt` says.
+#![tactic(auto)]
+
+mod brought;
+mod change;
+mod errors;
+mod long;
+mod parts;
+mod runs;
+mod writing;
+
+pub use brought::Brought;
+pub use errors::ChangeErr;
+pub use parts::Core;
+
+#[cfg(test)]
+mod tests;

@@ -1,0 +1,6 @@
+pub mod Added
+pub mod Low
+pub mod Counting
+pub mod Worlds
+pub mod Answers
+pub mod Built

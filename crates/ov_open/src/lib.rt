@@ -1,0 +1,18 @@
+//! Opening a store: from the bytes that a host keeps to the core.
+//!
+//! The journal is opened and its payloads are replayed; then the live extents may share no page, and their pages must be
+//! there. No page is read. What is answered for which bytes is `specs/Opening.antt` and `specs/Refusing.antt`.
+#![tactic(auto)]
+
+mod building;
+mod errors;
+mod extents;
+mod missing;
+mod opening;
+
+pub use errors::OpenErr;
+pub use extents::live;
+pub use opening::open;
+
+#[cfg(test)]
+mod tests;

@@ -1,0 +1,5 @@
+pub mod Adding
+mod Repeats
+mod Places
+mod Taken
+mod Differ

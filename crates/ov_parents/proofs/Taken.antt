@@ -1,0 +1,158 @@
+-- The records of versions, taken out of a scan one after another.
+use Rattle.std.proofs.Common.{◌≡◌, ◌<◌, ◌≤◌, ◌+◌, ℕ, zero, suc, Bool, true, false, Some, None, Result, Ok, Err, List, [], ◌∷◌, ◌++◌, length, map, take, get_or, refl, sym, ◌∙◌, ap, subst, inl, inr, arith}
+use Rattle.std.specs.Prelude.{IfOk, MatchResult}
+use Rattle.std.specs.List.{All, AllZip, Contains}
+use Rattle.std.specs.List.Sorted.{IsPermutation}
+use Rattle.std.proofs.lemmas.List.{length-map, take_all, take_more}
+use Rattle.std.proofs.lemmas.List.Elements.{All-nil, All-cons, All-head, All-tail, All-push}
+use Rattle.std.proofs.lemmas.List.Sorted.{length_permutation}
+use Rattle.ov_value.specs.Shapes.{Shape}
+use Rattle.ov_segment.specs.declared.numbered.Record.{Record}
+use Rattle.ov_member.proofs.RangeLemmas.{RiseFrom-apart}
+use Rattle.ov_member.specs.Lists.{Spells}
+use Rattle.ov_member.specs.Rids.{RiseFrom}
+use Rattle.ov_fetch.specs.declared.errors.FetchErr.{FetchErr}
+use Rattle.ov_fetch.specs.declared.errors.FetchErr.TheVariants.{Host, Memory, Damaged}
+use Rattle.ov_fetch.specs.declared.scan.Scan.{Scan}
+use Rattle.ov_fetch.specs.Extents.{IsList}
+use Rattle.ov_fetch.specs.Scans.{AllFit, IsSound, InKeyOrder as RowsInOrder, rows_at}
+use Rattle.ov_fetch.proofs.Gathered.{is_among, same_default}
+use Rattle.ov_model.specs.Lists.{IsIn}
+use Rattle.ov_catalog.proofs.Members.{all_at}
+use Rattle.ov_records.specs.Records.{InKeyOrder}
+use Rattle.ov_agree.specs.Agreeing.{AreRids, EachAgrees}
+use Rattle.ov_agree.specs.Differing.{HasNoRidTwice, rids_of}
+use Rattle.ov_versions.specs.Agreement.{Agrees, Numbers, records_after}
+use Rattle.ov_versions.specs.Damages.{RefusesScan}
+use Rattle.ov_versions.specs.Found.{HasRows, IsScanned}
+use Rattle.ov_versions.proofs.Gatherings.{zip_at}
+use Rattle.ov_parents.specs.Parents.{IsCounted, IsParent}
+use Rattle.ov_parents.specs.Taking.{AreTaken, HasOtherRids, HaveRids, RefusesTaken, StandAt}
+use Rattle.ov_parents.proofs.Places.{all_fit, count_is, in_order, same_found}
+use Rattle.ov_parents.proofs.Repeats.{rids_moved, set_is}
+
+-- ---- one more
+
+pub record HasTaken (s : Numbers) (records : List Record) (picks : List (List ℕ)) (parents : List (List Record)) : Type 0 where
+  pub stand : AllZip (StandAt records) picks parents
+  pub rids : All (HaveRids s.records) parents
+
+pub none_taken : (s : Numbers) (records : List Record) (parents : List (List Record)) → parents ≡ [] → HasTaken s records [] parents
+none_taken s records parents none =
+    subst (HasTaken s records []) (sym none) (record { stand = tt; rids = All-nil (HaveRids s.records) })
+
+zip_push : {A B : Type 0} (R : A → B → Type 0) (xs : List A) (ys : List B) (x : A) (y : B) → AllZip R xs ys → R x y → AllZip R (xs ++ x ∷ []) (ys ++ y ∷ [])
+zip_push R [] [] x y all is = (is, tt)
+zip_push R [] (b ∷ ys) x y all is = absurd all
+zip_push R (a ∷ xs) [] x y all is = absurd all
+zip_push R (a ∷ xs) (b ∷ ys) x y all is = (all.0, zip_push R xs ys x y all.1 is)
+
+pub one_taken : (s : Numbers) (records : List Record) (picks : List (List ℕ)) (k : ℕ) (parents : List (List Record)) (found : List Record) → k < length picks → HasTaken s records (take k picks) parents
+    → StandAt records (get_or picks k []) found → HaveRids s.records found → HasTaken s records (take (k + 1) picks) (parents ++ found ∷ [])
+one_taken s records picks k parents found low h at rids =
+    subst (λ (ps : List (List ℕ)). HasTaken s records ps (parents ++ found ∷ [])) (sym (take_more picks k [] low)) (record {
+      stand = zip_push (StandAt records) (take k picks) parents (get_or picks k []) found h.stand at;
+      rids = All-push (HaveRids s.records) parents found h.rids rids;
+    })
+
+pub all_taken : (s : Numbers) (scan : Scan) (k : ℕ) (parents : List (List Record)) → length scan.picks ≤ k → HasTaken s scan.records (take k scan.picks) parents → AreTaken s scan parents
+all_taken s scan k parents all h = record {
+  stand = subst (λ (ps : List (List ℕ)). AllZip (StandAt scan.records) ps parents) (take_all k scan.picks all) h.stand;
+  rids = h.rids;
+}
+
+-- ---- what all of them are
+
+pub ok_of : {X E : Type 0} (r : Result X E) (P P2 : X → Type 0) (Q : E → Type 0) → ((x : X) → P x → P2 x) → MatchResult r P Q → IfOk r P2
+ok_of (Ok x) P P2 Q f h = f x h
+ok_of (Err e) P P2 Q f h = tt
+
+-- each version has as many records as its pick has positions
+each_of : (s : Numbers) (records : List Record) (vids : List ℕ) (picks : List (List ℕ)) (parents : List (List Record)) → AllZip (HasRows s) vids picks → AllZip (StandAt records) picks parents
+    → All (HaveRids s.records) parents → EachAgrees s vids parents
+each_of s records [] [] [] rows stand rids = tt
+each_of s records [] [] (found ∷ parents) rows stand rids = absurd stand
+each_of s records [] (pick ∷ picks) parents rows stand rids = absurd rows
+each_of s records (vid ∷ vids) [] parents rows stand rids = absurd rows
+each_of s records (vid ∷ vids) (pick ∷ picks) [] rows stand rids = absurd stand
+each_of s records (vid ∷ vids) (pick ∷ picks) (found ∷ parents) rows stand rids = (
+  subst (λ (n : ℕ). AreRids n s.records (rids_of found)) (count_is records pick found stand.0 ∙ rows.0) (All-head (HaveRids s.records) found parents rids),
+  each_of s records vids picks parents rows.1 stand.1 (All-tail (HaveRids s.records) found parents rids),
+)
+
+pub each_agrees : (s : Numbers) (scan : Scan) (vids : List ℕ) (parents : List (List Record)) → AllZip (HasRows s) vids scan.picks → AreTaken s scan parents → EachAgrees s vids parents
+each_agrees s scan vids parents rows h = each_of s scan.records vids scan.picks parents rows h.stand h.rids
+
+zip_all : {A B : Type 0} (P : A → Type 0) (Q : B → Type 0) (R : A → B → Type 0) → ((x : A) (y : B) → R x y → P x → Q y) → (xs : List A) (ys : List B) → AllZip R xs ys → All P xs → All Q ys
+zip_all P Q R f [] [] all ps = All-nil Q
+zip_all P Q R f [] (y ∷ ys) all ps = absurd all
+zip_all P Q R f (x ∷ xs) [] all ps = absurd all
+zip_all P Q R f (x ∷ xs) (y ∷ ys) all ps = All-cons Q y ys (f x y all.0 (All-head P x xs ps)) (zip_all P Q R f xs ys all.1 (All-tail P x xs ps))
+
+pub all_in_order : (schema : Shape) (s : Numbers) (scan : Scan) (parents : List (List Record)) → IsSound schema scan → AreTaken s scan parents → All (InKeyOrder schema) parents
+all_in_order schema s scan parents sound h =
+    zip_all (λ pick. RowsInOrder schema (rows_at scan.records pick)) (InKeyOrder schema) (StandAt scan.records) (λ pick found at sorted. in_order schema scan.records pick found at sorted)
+    scan.picks parents h.stand sound.ordered
+
+pub each_fits : (schema : Shape) (s : Numbers) (scan : Scan) (parents : List (List Record)) → IsSound schema scan → AreTaken s scan parents → All (AllFit schema) parents
+each_fits schema s scan parents sound h =
+    zip_all (λ pick. Unit {0}) (AllFit schema) (StandAt scan.records) (λ pick found at x. all_fit schema scan.records pick found sound.fit at)
+    scan.picks parents h.stand (λ k d low. tt)
+
+parents_of : (area : List ℕ) (s : Numbers) (records : List Record) (vids : List ℕ) (picks : List (List ℕ)) (parents : List (List Record)) → AllZip (IsScanned area s records) vids picks
+    → AllZip (StandAt records) picks parents → AllZip (IsParent area s) vids parents
+parents_of area s records [] [] [] scanned stand = tt
+parents_of area s records [] [] (found ∷ parents) scanned stand = absurd stand
+parents_of area s records [] (pick ∷ picks) parents scanned stand = absurd scanned
+parents_of area s records (vid ∷ vids) [] parents scanned stand = absurd scanned
+parents_of area s records (vid ∷ vids) (pick ∷ picks) [] scanned stand = absurd stand
+parents_of area s records (vid ∷ vids) (pick ∷ picks) (found ∷ parents) scanned stand = (
+  record { records = records; pick = pick; scanned = scanned.0; found_is = same_found found scanned.0.found (sym stand.0 ∙ scanned.0.picked.at) },
+  parents_of area s records vids picks parents scanned.1 stand.1,
+)
+
+pub are_parents : (area : List ℕ) (s : Numbers) (scan : Scan) (vids : List ℕ) (parents : List (List Record)) → AllZip (IsScanned area s scan.records) vids scan.picks → AreTaken s scan parents
+    → AllZip (IsParent area s) vids parents
+are_parents area s scan vids parents scanned h = parents_of area s scan.records vids scan.picks parents scanned h.stand
+
+-- ---- why they aren't given
+
+risen : (bytes rids : List ℕ) → Spells bytes rids → RiseFrom 1 rids
+risen bytes rids h = subst (RiseFrom 1) (sym h.listed) (RiseFrom-apart 0 h.ranges h.apart)
+
+-- where the list agrees, the records at the pick have its rids
+agreed_rids : (area : List ℕ) (s : Numbers) (vid : ℕ) (records : List Record) (pick : List ℕ) (found : List Record) → IsCounted s → (h : IsScanned area s records vid pick) → StandAt records pick found
+    → Agrees s vid h.rids → HaveRids s.records found
+agreed_rids area s vid records pick found counted h at agrees =
+    subst (λ (l : List Record). HaveRids s.records l) (sym (same_found found h.found (sym at ∙ h.picked.at)))
+    (subst (λ (n : ℕ). AreRids n s.records (rids_of h.found)) (length-map h.found (λ r. r.rid))
+    (rids_moved s.records h.rids (rids_of h.found) h.picked.same
+    (set_is s.records h.rids (risen _ h.rids h.list.spells) (λ rid is. omega (arith, all_at (λ rid. rid ≤ records_after s vid) h.rids rid agrees.below is, counted vid)))))
+
+pub refused : (area : List ℕ) (s : Numbers) (scan : Scan) (vids : List ℕ) (e : FetchErr) → IsCounted s → AllZip (IsScanned area s scan.records) vids scan.picks → RefusesTaken e s scan vids → RefusesScan e area s vids
+refused area s scan vids Host counted scanned why = tt
+refused area s scan vids Memory counted scanned why = tt
+refused area s scan vids (Damaged page) counted scanned why =
+    let h = zip_at (IsScanned area s scan.records) vids scan.picks why.place 0 [] scanned why.there in
+    inl (record {
+      vid = get_or vids why.place 0;
+      among = is_among vids why.place 0 why.there;
+      bad = inr (record {
+        rids = h.rids;
+        list = h.list;
+        off = λ agrees. why.off (agreed_rids area s (get_or vids why.place 0) scan.records (get_or scan.picks why.place []) why.found counted h why.stand agrees);
+      });
+      page_is = why.page_is;
+    })
+
+-- ---- the loop
+
+pub one_more : (s : Numbers) (scan : Scan) (parents : List (List Record)) (k : ℕ) (records : List Record) (picks : List (List ℕ)) (item pick : List ℕ) (found kept put : List Record) (passed : Bool)
+    → records ≡ scan.records → picks ≡ scan.picks → k < length picks → item ≡ get_or picks k item → pick ≡ item → StandAt records pick found → kept ≡ found
+    → (passed ≡ true → HaveRids s.records kept) → passed ≡ true → put ≡ found → HasTaken s scan.records (take k scan.picks) parents → HasTaken s scan.records (take (k + 1) scan.picks) (parents ++ put ∷ [])
+one_more s scan parents k records picks item pick found kept put passed records_are picks_are low item_is pick_is at kept_is rids is put_is h =
+    let place : pick ≡ get_or scan.picks k [] = pick_is ∙ (item_is ∙ (same_default picks k item [] low ∙ ap (λ (ps : List (List ℕ)). get_or ps k []) picks_are)) in
+    subst (λ (x : List Record). HasTaken s scan.records (take (k + 1) scan.picks) (parents ++ x ∷ [])) (sym put_is)
+    (one_taken s scan.records scan.picks k parents found (omega (arith, low, ap length picks_are)) h
+    (subst (λ (p : List ℕ). StandAt scan.records p found) place (subst (λ (rs : List Record). StandAt rs pick found) records_are at))
+    (subst (HaveRids s.records) kept_is (rids is)))

@@ -1,0 +1,15 @@
+//! The records of a commit's parents, out of the pages, tested against the catalog's numbers and against each other.
+//!
+//! Which records a parent has, and when there are none, stands in `specs/Parents.antt`.
+#![tactic(auto)]
+
+mod counting;
+mod reading;
+mod repeating;
+mod taking;
+
+pub use counting::records_are_counted;
+pub use reading::parents_of;
+
+#[cfg(test)]
+mod tests;

@@ -1,0 +1,12 @@
+pub mod Founds
+pub mod Worked
+pub mod Counted
+pub mod Orders
+pub mod Listed
+pub mod Rowed
+pub mod Stored
+pub mod Together
+pub mod Parted
+pub mod Served
+pub mod Ascending
+pub mod Scanned

@@ -1,0 +1,247 @@
+-- A commit, from what was read.
+use Rattle.std.proofs.Common.{◌≡◌, ◌∙◌, ◌+◌, ◌<◌, ◌≤◌, ◌^◌, ◌++◌, ℕ, Bool, true, false, nat_le, List, [], ◌∷◌, length, map, min, refl, sym, ap, subst, inl, inr, arith}
+use Rattle.std.specs.Prelude.{◌/◌, ◌-◌, IsUtf8, Option, Some, None, slice_get, if◌then◌else◌}
+use Rattle.std.specs.List.{All, AllZip}
+use Rattle.std.specs.Option.{option_map, option_or}
+use Rattle.std.proofs.lemmas.List.{length-append}
+use Rattle.std.proofs.lemmas.List.Elements.{All-cons, All-nil, All-head, All-tail}
+use Rattle.ov_event.specs.declared.event.Event as raw
+use Rattle.ov_host.specs.Host.{Rose, State}
+use Rattle.ov_segment.specs.declared.numbered.Record.{Record}
+use Rattle.ov_model.specs.Assigned.{stored, stored_parents}
+use Rattle.ov_model.specs.Book.{Row, Version}
+use Rattle.ov_model.specs.Merge.{in_key_order}
+use Rattle.ov_model.specs.Moves.{Commit, version_of}
+use Rattle.ov_model.specs.Placed.{AreThere}
+use Rattle.ov_model.specs.Records.{fresh_in, of_version, order_of, records_of, recs}
+use Rattle.ov_model.specs.World.{Dataset, World}
+use Rattle.ov_catalog.specs.Raw.{event_in}
+use Rattle.ov_catalog.specs.Reached.{AreParents, AreRows, CommitFits, Fits, IfThere}
+use Rattle.ov_catalog.specs.Stands.{asked_event}
+use Rattle.ov_model.proofs.Growing.{order_of_more, length_recs}
+use Rattle.ov_records.specs.Records.{lists_of, pairs_of}
+use Rattle.ov_fetch.specs.declared.errors.FetchErr.{FetchErr}
+use Rattle.ov_fetch.specs.declared.errors.FetchErr.TheVariants as fetch
+use Rattle.ov_fetch.specs.Extents.{Looked, page_bytes}
+use Rattle.ov_rows.specs.Refusing.{rows_off}
+use Rattle.ov_rows.specs.declared.rows_err.RowsErr.{RowsErr}
+use Rattle.ov_rows.specs.declared.rows_err.RowsErr.TheVariants as rows_err
+use Rattle.ov_agree.specs.Differing.{IsFirstDisagreeing}
+use Rattle.ov_agree.proofs.Kept.{none_disagrees}
+use Rattle.ov_agree.proofs.Rids.{length-assigned}
+use Rattle.ov_agree.proofs.Same.{versions_agree}
+use Rattle.ov_versions.specs.Agreement.{IsThere, Numbers}
+use Rattle.ov_versions.specs.OfWorld.{IsSetOf}
+use Rattle.ov_sights.specs.Sights.{HasNumbers}
+use Rattle.ov_sights.proofs.Scanned.{is_stored}
+use Rattle.ov_sights.proofs.Counted.{numbers}
+use Rattle.ov_sights.proofs.Served.{no_damage}
+use Rattle.ov_parents.specs.Parents.{AreDiffering, IsParent, RefusesParents}
+use Rattle.ov_committing.specs.declared.errors.CommitErr.{CommitErr}
+use Rattle.ov_committing.specs.declared.errors.CommitErr.TheVariants as commit
+use Rattle.ov_committing.specs.Asked.{Asked, rids_of}
+use Rattle.ov_committing.specs.Commits.{IsCommitOf, IsTooLong, Refuses}
+use Rattle.ov_committing.specs.Joined.{IsReadOf, RefusesJoined, joined_of}
+use Rattle.ov_committing.specs.OfWorld.{IsAnswered, IsSpared, records_with}
+use Rattle.ov_core.specs.Brought.{content}
+use Rattle.ov_core.specs.Held.{Held}
+use Rattle.ov_core.specs.Rooms.{pages_for}
+use Rattle.ov_store.specs.declared.errors.StoreErr.{StoreErr}
+use Rattle.ov_store.specs.declared.errors.StoreErr.TheVariants as why
+use Rattle.ov_store.specs.Committing.{AreRead, HasTooMany, IfSet, IsDamagedAt, IsSparedBy, IsSparedOff, IsTooLongFor, IsUncommitted, IsUnready, Set, Wish, asked_of, commit_move, commit_off, fresh_in_world, to_off}
+use Rattle.ov_store.specs.Errors.{of_commit, of_fetch, of_rows}
+use Rattle.ov_store.specs.Refusals.{off_if, vids_off}
+use Rattle.ov_store.specs.Scanning.{IsUndamaged, set_in}
+use Rattle.ov_store.specs.Unready.{IsRefused}
+use Rattle.ov_store.proofs.Unreadying.{list_short}
+use Rattle.ov_store.proofs.Versions.{vids_many}
+
+-- ---- refused before anything is read
+
+by_rows : (off : Option RowsErr) → option_map of_rows off ≡ Some why.TooManyRecords → ⊥
+by_rows None e = cc
+by_rows (Some rows_err.TooManyRows) e = cc
+by_rows (Some (rows_err.DuplicateKey row)) e = cc
+by_rows (Some (rows_err.FormatOne row)) e = cc
+by_rows (Some rows_err.Memory) e = cc
+
+by_parts : (o : Option StoreErr) (b : Bool) (off : Option RowsErr) → (o ≡ Some why.TooManyRecords → ⊥)
+    → option_or (option_or o (off_if b why.TooManyVersions)) (option_map of_rows off) ≡ Some why.TooManyRecords → ⊥
+by_parts (Some x) b off none e = none e
+by_parts None true off none e = cc
+by_parts None false off none e = by_rows off e
+
+never_many : (format : ℕ) (set : Option Set) (vids : List ℕ) (rows : List Row) → to_off format set vids rows ≡ Some why.TooManyRecords → ⊥
+never_many format None vids rows e = cc
+never_many format (Some s) vids rows e =
+    by_parts (vids_off (length s.versions) [] vids) (nat_le 65535 (length s.versions)) (rows_off format s.schema false rows) (vids_many (length s.versions) [] vids) e
+
+pub refused_uncommitted : (held : Held) (name : List ℕ) (wish : Wish) (s : State) (e : StoreErr) → IsRefused (commit_off held name wish.vids wish.rows) e
+    → IsUncommitted held name wish s s e
+refused_uncommitted held name wish s why.Host is = absurd is
+refused_uncommitted held name wish s why.Memory is = tt
+refused_uncommitted held name wish s (why.Damaged area at) is = absurd is
+refused_uncommitted held name wish s (why.Full pages) is = absurd is
+refused_uncommitted held name wish s why.JournalFull is = absurd is
+refused_uncommitted held name wish s why.TooManyRecords is = absurd (never_many held.journal.format (set_in held.numbers name) wish.vids wish.rows is)
+refused_uncommitted held name wish s why.NoCvd is = (is, refl)
+refused_uncommitted held name wish s why.CvdExists is = (is, refl)
+refused_uncommitted held name wish s (why.NoVersion vid) is = (is, refl)
+refused_uncommitted held name wish s (why.RepeatedVersion vid) is = (is, refl)
+refused_uncommitted held name wish s (why.DuplicateKey row) is = (is, refl)
+refused_uncommitted held name wish s why.TooManyVersions is = (is, refl)
+refused_uncommitted held name wish s why.TooManyRows is = (is, refl)
+refused_uncommitted held name wish s why.TooManyCvds is = (is, refl)
+refused_uncommitted held name wish s why.NoNumbers is = (is, refl)
+refused_uncommitted held name wish s (why.FormatOne row) is = (is, refl)
+
+refused_spared : (off : Option StoreErr) (d : Dataset) (wish : Wish) (e : StoreErr) → (off ≡ Some why.TooManyRecords → ⊥) → IsRefused off e → IsSparedOff d wish e
+refused_spared off d wish why.Host none is = tt
+refused_spared off d wish why.Memory none is = tt
+refused_spared off d wish (why.Damaged area at) none is = absurd is
+refused_spared off d wish (why.Full pages) none is = tt
+refused_spared off d wish why.JournalFull none is = tt
+refused_spared off d wish why.TooManyRecords none is = absurd (none is)
+refused_spared off d wish why.NoCvd none is = tt
+refused_spared off d wish why.CvdExists none is = tt
+refused_spared off d wish (why.NoVersion vid) none is = tt
+refused_spared off d wish (why.RepeatedVersion vid) none is = tt
+refused_spared off d wish (why.DuplicateKey row) none is = tt
+refused_spared off d wish why.TooManyVersions none is = tt
+refused_spared off d wish why.TooManyRows none is = tt
+refused_spared off d wish why.TooManyCvds none is = tt
+refused_spared off d wish why.NoNumbers none is = tt
+refused_spared off d wish (why.FormatOne row) none is = tt
+
+pub commit_spared : (held : Held) (name : List ℕ) (d : Dataset) (wish : Wish) (e : StoreErr) → IsRefused (commit_off held name wish.vids wish.rows) e → IsSparedOff d wish e
+commit_spared held name d wish e is =
+    refused_spared (commit_off held name wish.vids wish.rows) d wish e (never_many held.journal.format (set_in held.numbers name) wish.vids wish.rows) is
+
+-- ---- parents
+
+pub there_all : (count : ℕ) (vids : List ℕ) → AreThere count vids → All (λ vid. (1 ≤ vid) × (vid ≤ count)) vids
+there_all count [] are = All-nil (λ vid. (1 ≤ vid) × (vid ≤ count))
+there_all count (vid ∷ vids) are = All-cons (λ vid. (1 ≤ vid) × (vid ≤ count)) vid vids are.0 (there_all count vids are.1)
+
+module _ (w : World) (area : List ℕ) (s : Numbers) (d : Dataset) (of_world : IsSetOf w d area s) where
+  pub parents_stored : (vids : List ℕ) (parents : List (List Record)) → All (IsThere s) vids → AllZip (IsParent area s) vids parents
+      → lists_of parents ≡ stored_parents vids (recs d.cvd.versions []) (order_of d.cvd.versions)
+  parents_stored [] [] there are = refl
+  parents_stored [] (p ∷ parents) there are = absurd are
+  parents_stored (v ∷ vids) [] there are = absurd are
+  parents_stored (v ∷ vids) (p ∷ parents) there are =
+      let one : pairs_of p ≡ stored (of_version (recs d.cvd.versions []) v) (order_of d.cvd.versions)
+      = is_stored w area s d are.0.records v are.0.pick p of_world (All-head (IsThere s) v vids there) are.0.scanned
+      (are.0.scanned.picked.at ∙ ap (map Some) (sym are.0.found_is))
+      in λ i. one i ∷ parents_stored vids parents (All-tail (IsThere s) v vids there) are.1 i
+
+  pub parents_spared : (vids : List ℕ) (e : FetchErr) → All (IsThere s) vids → RefusesParents e area s vids → IsUndamaged (of_fetch e)
+  parents_spared vids fetch.Host there is = tt
+  parents_spared vids fetch.Memory there is = tt
+  parents_spared vids (fetch.Damaged page) there (inl damage) = no_damage w area s d vids page of_world there damage
+  parents_spared vids (fetch.Damaged page) there (inr differ) =
+      let none : Some differ.place ≡ None
+      = none_disagrees (lists_of differ.parents) (Some differ.place)
+      (versions_agree d.cvd.versions vids differ.parents (parents_stored vids differ.parents there differ.read)) differ.first
+      in cc
+
+-- ---- what a look at the host tells
+
+module _ (s t : State) (looked : Looked s t) where
+  area_same : s.tells ≡ true → page_bytes t ≡ page_bytes s
+  area_same told = ap (λ tape. tape.disk.pages.bytes) (looked.tape told)
+
+  pub commit_moved : (a : Asked) (e : raw.Event) (list segment : List ℕ) → IsCommitOf a t.tells (page_bytes t) e list segment → IsCommitOf a s.tells (page_bytes s) e list segment
+  commit_moved a e list segment is = record {
+    held = is.held;
+    agrees = is.agrees;
+    own = is.own;
+    read = λ told. subst (λ area. IsReadOf a.set area (joined_of a) is.held) (area_same told) (is.read (looked.told ∙ told));
+    event_is = is.event_is;
+    list_is = is.list_is;
+    segment_is = is.segment_is;
+  }
+
+  pub refuses_unready : (held : Held) (name : List ℕ) (set : Set) (wish : Wish) (u : State) (parents : List (List Record)) (e : CommitErr) → set_in held.numbers name ≡ Some set
+      → commit_off held name wish.vids wish.rows ≡ None → AreRead set wish s parents → length (asked_of set wish parents).rows ≤ 1000000
+      → (e ≡ commit.Host → Rose s.faults u.faults) → Refuses e (asked_of set wish parents) t.tells (page_bytes t) → IsUnready held name wish s u (of_commit e)
+  refuses_unready held name set wish u parents commit.Host found off are few rose is = rose refl
+  refuses_unready held name set wish u parents commit.Memory found off are few rose is = tt
+  refuses_unready held name set wish u parents (commit.Damaged page) found off are few rose is = (
+    refl,
+    off,
+    subst (IfSet (λ x. IsDamagedAt x wish s page)) (sym found)
+        (λ told. inr (parents, are, subst (λ area. RefusesJoined (fetch.Damaged page) set area (joined_of (asked_of set wish parents))) (area_same told) (is (looked.told ∙ told)))),
+  )
+  refuses_unready held name set wish u parents commit.TooManyRecords found off are few rose is =
+      (off, subst (IfSet (λ x. HasTooMany x wish s)) (sym found) (record { parents = parents; are = are; many = is }))
+  refuses_unready held name set wish u parents (commit.TooLong list_pages segment_pages) found off are few rose is =
+      let a : Asked = asked_of set wish parents
+      in let rids : length (rids_of a) ≡ length a.rows = length-assigned a.rows (lists_of parents) (set.records + 1)
+      in (
+        off,
+        subst (IfSet (λ x. IsTooLongFor x wish s list_pages segment_pages)) (sym found) (record {
+          parents = parents;
+          are = are;
+          long = record { event = is.event; list = is.list; segment = is.segment; commit = commit_moved a is.event is.list is.segment is.commit; long = is.long };
+        }),
+        list_short (rids_of a) list_pages (omega (arith, few, rids)) (is.long.0 ∙ ap pages_for is.commit.list_is),
+        is.long.2,
+      )
+
+-- ---- at a World
+
+pub records_more : (d : Dataset) (v : Version) → length (order_of (d.cvd.versions ++ v ∷ []))
+    ≡ length (order_of d.cvd.versions) + length (fresh_in (records_of v (recs d.cvd.versions [])) (length d.cvd.versions + 1))
+records_more d v =
+    let at : 1 + length (recs d.cvd.versions []) ≡ length d.cvd.versions + 1 = omega (arith, length_recs d.cvd.versions [])
+    in ap length (order_of_more d.cvd.versions v)
+    ∙ length-append (order_of d.cvd.versions) (fresh_in (records_of v (recs d.cvd.versions [])) (1 + length (recs d.cvd.versions [])))
+    ∙ ap (λ (n : ℕ). length (order_of d.cvd.versions) + length (fresh_in (records_of v (recs d.cvd.versions [])) n)) at
+
+module _ (w : World) (area : List ℕ) (s : Numbers) (d : Dataset) (of_world : IsSetOf w d area s) (wish : Wish) (made : List Row) (parents : List (List Record))
+    (sorted : made ≡ in_key_order s.schema wish.rows) where
+  abbrev asked : Asked
+  asked = record { set = s; vids = wish.vids; parents = parents; message = wish.message; rows = made }
+
+  numbered_as : HasNumbers s d
+  numbered_as = numbers w area s d of_world
+
+  made_is : made ≡ in_key_order d.cvd.schema wish.rows
+  made_is = sorted ∙ ap (λ schema. in_key_order schema wish.rows) numbered_as.schema
+
+  move_is : Commit s.number wish.vids wish.message [] made ≡ commit_move d wish.vids wish.message wish.rows
+  move_is = λ i. Commit (numbered_as.number i) wish.vids wish.message [] (made_is i)
+
+  module _ (e : raw.Event) (fresh : ℕ) (list segment : List ℕ) (answered : IsAnswered asked w d e fresh list segment) where
+    pub commit_fits : AreParents (length s.versions) wish.vids → IsUtf8 wish.message → length wish.message ≤ 1024 → length s.versions < 65535 → AreRows s.schema made
+        → Fits (commit_move d wish.vids wish.message wish.rows) w
+    commit_fits are text short few rows =
+        subst (λ m. Fits m w) move_is
+        (subst (IfThere (λ x. CommitFits x (version_of wish.vids wish.message made))) (sym of_world.among)
+        (record {
+          parents = subst (λ n. AreParents n wish.vids) numbered_as.versions are;
+          text = text;
+          short = short;
+          few = subst (λ (n : ℕ). n < 65535) numbered_as.versions few;
+          rows = subst (λ schema. AreRows schema made) numbered_as.schema rows;
+          records = answered.room;
+        }))
+
+    pub commit_says : content (event_in e) list segment ≡ asked_event (commit_move d wish.vids wish.message wish.rows) w
+    commit_says = answered.says ∙ ap (λ m. asked_event m w) move_is
+
+    pub commit_fresh : fresh ≡ fresh_in_world d wish
+    commit_fresh = answered.fresh_is
+        ∙ ap (λ (rows : List Row). length (fresh_in (records_of (version_of wish.vids wish.message rows) (recs d.cvd.versions [])) (length d.cvd.versions + 1))) made_is
+
+  pub spared_by : (e : CommitErr) → IsSpared e asked d → IsSparedBy d wish (of_commit e)
+  spared_by commit.Host is = tt
+  spared_by commit.Memory is = tt
+  spared_by (commit.Damaged page) is = absurd is
+  spared_by commit.TooManyRecords is =
+      let more : records_with asked d ≡ length (order_of d.cvd.versions) + fresh_in_world d wish
+      = ap (λ (rows : List Row). length (order_of (d.cvd.versions ++ version_of wish.vids wish.message rows ∷ []))) made_is
+      ∙ records_more d (version_of wish.vids wish.message (in_key_order d.cvd.schema wish.rows))
+      in omega (arith, is, more)
+  spared_by (commit.TooLong list_pages segment_pages) is = tt

@@ -1,0 +1,15 @@
+pub mod Refusing
+pub mod Still
+pub mod Beginning
+pub mod Fitting
+pub mod Answering
+pub mod Unreadying
+pub mod Dropping
+pub mod Versions
+pub mod Seeing
+pub mod Numbers
+pub mod Looking
+pub mod Asking
+pub mod Commits
+pub mod Readying
+pub mod Finishing

@@ -1,0 +1,16 @@
+use Rattle.std.proofs.Common.{subst, sym, ap}
+use Rattle.ov_core.specs.AtWorld.{IsAtWorld}
+use Rattle.ov_core.specs.Rooms.{IsWhy}
+use Rattle.ov_store.proofs.Answering.{unstored}
+use Rattle.ov_store.specs.Changes.{IsUnstored, bringing_of}
+use Rattle.ov_store.proofs.store.Store.change.Goals as goal
+
+pub returns-in-Ok-clause-stops : goal.returns-in-Ok-clause-stops
+returns-in-Ok-clause-stops g c = λ w m at brings.
+    c.add.ensures.stops w m (subst (λ held. IsAtWorld w held (g.H.Host.state c.args.host.now)) (sym (ap (λ kept. kept.held) c.self.view_is)) at) brings
+
+pub returns-in-Err-clause-why : goal.returns-in-Err-clause-why
+returns-in-Err-clause-why g c =
+    subst (IsUnstored c.args.self.now.held (bringing_of c.args.brought) (g.H.Host.state c.args.host.now) (g.H.Host.state c.add.new.host)) (sym c.refusal.ensures.answer)
+    (unstored c.args.self.now.held c.args.brought (g.H.Host.state c.args.host.now) (g.H.Host.state c.add.new.host) c.in-Err.off
+    (subst (λ held. IsWhy c.in-Err.off held c.args.brought (g.H.Host.state c.args.host.now) (g.H.Host.state c.add.new.host)) (ap (λ kept. kept.held) c.self.view_is) c.in-Err.ensures.why))

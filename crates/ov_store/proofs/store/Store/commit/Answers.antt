@@ -1,0 +1,64 @@
+use Rattle.std.proofs.Common.{rules, ◌≡◌, ◌∙◌, ap, subst, sym}
+use Rattle.std.specs.Prelude.{Some}
+use Rattle.ov_host.specs.Stops.{Only}
+use Rattle.ov_host.specs.Tape.{Tape}
+use Rattle.ov_model.specs.Moves.{moved}
+use Rattle.ov_core.specs.AtWorld.{IsAtNext, IsEither}
+use Rattle.ov_store.specs.Changes.{bringing_of}
+use Rattle.ov_store.specs.Committing.{IsUncommitted, Set, commit_move, committed}
+use Rattle.ov_store.specs.Scanning.{set_in}
+use Rattle.ov_store.proofs.Finishing.{commits, set_there, unready_spared, unready_uncommitted, unstored_uncommitted}
+use Rattle.ov_store.proofs.Looking.{looked_at}
+use Rattle.ov_store.proofs.Still.{still}
+use Rattle.ov_store.proofs.store.Store.commit.Goals as goal
+
+pub returns-in-Err-clause-why : goal.returns-in-Err-clause-why
+returns-in-Err-clause-why g c =
+    unready_uncommitted c.args.self.now.held c.args.name.now (record { vids = c.args.parents.now; message = c.args.message.now; rows = c.args.rows.items }) (g.H.Host.state c.args.host.now) (g.H.Host.state c.next.new.host) c.uncommitted.result c.in-Err.why c.in-Err.ensures.why c.uncommitted.ensures.off c.uncommitted.ensures.long
+
+pub returns-in-Err-clause-stops : goal.returns-in-Err-clause-stops
+returns-in-Err-clause-stops g c = λ w at.
+    subst (λ (tape : Tape). Only (g.H.Host.state c.args.host.now).tape tape (IsEither w (committed c.args.name.now (record { vids = c.args.parents.now; message = c.args.message.now; rows = c.args.rows.items }) w) (g.H.Host.state c.args.host.now).tape.disk.printed)) (sym (c.next.ensures.looked.tape at.at.told))
+    (still w (committed c.args.name.now (record { vids = c.args.parents.now; message = c.args.message.now; rows = c.args.rows.items }) w) c.args.self.now.held (g.H.Host.state c.args.host.now) at)
+
+pub returns-in-Err-clause-spared : goal.returns-in-Err-clause-spared
+returns-in-Err-clause-spared g c = λ w d at named.
+    unready_spared c.args.self.now.held c.args.name.now (record { vids = c.args.parents.now; message = c.args.message.now; rows = c.args.rows.items }) (g.H.Host.state c.args.host.now) (g.H.Host.state c.next.new.host) c.uncommitted.result d c.in-Err.why c.in-Err.ensures.why c.uncommitted.ensures.off c.uncommitted.ensures.long
+    (c.in-Err.ensures.spared w d at named)
+
+pub returns-in_err-change-clause-why : goal.returns-in_err-change-clause-why
+returns-in_err-change-clause-why g c =
+    let there = set_there c.args.self.now.held c.args.name.now c.args.parents.now c.args.rows.items c.in-Ok.ensures.allowed
+    in let fact : IsUncommitted c.args.self.now.held c.args.name.now (record { vids = c.args.parents.now; message = c.args.message.now; rows = c.args.rows.items }) (g.H.Host.state c.args.host.now) (g.H.Host.state c.change.new.host) c.in_err-change.field-0.0
+    = unstored_uncommitted c.args.self.now.held c.args.name.now there.0 (record { vids = c.args.parents.now; message = c.args.message.now; rows = c.args.rows.items }) (g.H.Host.state c.args.host.now) (g.H.Host.state c.next.new.host) (g.H.Host.state c.change.new.host) (bringing_of c.in-Ok.next.brought) c.in-Ok.next.fresh c.in_err-change.field-0.0
+    there.1 c.in-Ok.ensures.allowed (c.in-Ok.ensures.by there.0 there.1) c.next.ensures.looked.faults c.in_err-change.ensures.why
+    in search (rules, fact)
+
+pub returns-in_err-change-clause-stops : goal.returns-in_err-change-clause-stops
+returns-in_err-change-clause-stops g c = λ w at.
+    commits w c.args.self.now.held (g.H.Host.state c.args.host.now) at c.args.name.now (record { vids = c.args.parents.now; message = c.args.message.now; rows = c.args.rows.items }) c.in-Ok.ensures.allowed (λ v. Only (g.H.Host.state c.args.host.now).tape (g.H.Host.state c.change.new.host).tape (IsEither w v (g.H.Host.state c.args.host.now).tape.disk.printed))
+    (λ d named. subst (λ (tape : Tape). Only tape (g.H.Host.state c.change.new.host).tape (IsEither w (moved (commit_move d c.args.parents.now c.args.message.now c.args.rows.items) w) tape.disk.printed)) (c.next.ensures.looked.tape at.at.told)
+    (c.change.ensures.stops w (commit_move d c.args.parents.now c.args.message.now c.args.rows.items) (looked_at w c.args.self.now.held (g.H.Host.state c.args.host.now) (g.H.Host.state c.next.new.host) c.next.ensures.looked at) (c.in-Ok.ensures.brings w d at named)))
+
+pub returns-clause-done : goal.returns-clause-done
+returns-clause-done g c = λ s named. record {
+  brought = bringing_of c.in-Ok.next.brought;
+  by = c.in-Ok.ensures.by s named;
+  done = c.in_ok-change.ensures.done;
+  vid_is = c.in-Ok.ensures.vid s named;
+  rows_is = search rules;
+}
+
+pub returns-clause-stops : goal.returns-clause-stops
+returns-clause-stops g c = λ w at.
+    commits w c.args.self.now.held (g.H.Host.state c.args.host.now) at c.args.name.now (record { vids = c.args.parents.now; message = c.args.message.now; rows = c.args.rows.items }) c.in-Ok.ensures.allowed (λ v. Only (g.H.Host.state c.args.host.now).tape (g.H.Host.state c.change.new.host).tape (IsEither w v (g.H.Host.state c.args.host.now).tape.disk.printed))
+    (λ d named. subst (λ (tape : Tape). Only tape (g.H.Host.state c.change.new.host).tape (IsEither w (moved (commit_move d c.args.parents.now c.args.message.now c.args.rows.items) w) tape.disk.printed)) (c.next.ensures.looked.tape at.at.told)
+    (c.change.ensures.stops w (commit_move d c.args.parents.now c.args.message.now c.args.rows.items) (looked_at w c.args.self.now.held (g.H.Host.state c.args.host.now) (g.H.Host.state c.next.new.host) c.next.ensures.looked at) (c.in-Ok.ensures.brings w d at named)))
+
+pub returns-clause-moves : goal.returns-clause-moves
+returns-clause-moves g c = λ w at.
+    commits w c.args.self.now.held (g.H.Host.state c.args.host.now) at c.args.name.now (record { vids = c.args.parents.now; message = c.args.message.now; rows = c.args.rows.items }) c.in-Ok.ensures.allowed (λ v. IsAtNext v c.change.new.self.held (g.H.Host.state c.args.host.now) (g.H.Host.state c.change.new.host))
+    (λ d named.
+    let next : IsAtNext (moved (commit_move d c.args.parents.now c.args.message.now c.args.rows.items) w) c.change.new.self.held (g.H.Host.state c.next.new.host) (g.H.Host.state c.change.new.host)
+    = c.in_ok-change.ensures.moves w (commit_move d c.args.parents.now c.args.message.now c.args.rows.items) (looked_at w c.args.self.now.held (g.H.Host.state c.args.host.now) (g.H.Host.state c.next.new.host) c.next.ensures.looked at) (c.in-Ok.ensures.brings w d at named)
+    in record { at = next.at; printed_same = next.printed_same ∙ ap (λ (tape : Tape). tape.disk.printed) (c.next.ensures.looked.tape at.at.told) })

@@ -1,0 +1,201 @@
+use Rattle.std.proofs.Common.{rules, ◌≡◌, ◌≢◌, ◌≤◌, ◌<◌, ◌+◌, ◌∙◌, ℕ, true, List, [], slice_index_or, length, map, sym, ap, subst}
+use Rattle.std.specs.Prelude.{IsUtf8, None, Some}
+use Rattle.std.specs.List.{All, AllZip}
+use Rattle.std.proofs.lemmas.List.{length-map}
+use Rattle.ov_fetch.specs.Extents.{page_bytes}
+use Rattle.ov_segment.specs.declared.numbered.Record.{Record}
+use Rattle.ov_model.specs.Merge.{in_key_order}
+use Rattle.ov_catalog.specs.Applying.{set_numbered}
+use Rattle.ov_catalog.specs.Raw.{numbers_in}
+use Rattle.ov_catalog.specs.Reached.{AreParents}
+use Rattle.ov_catalog.specs.Sets as sets
+use Rattle.ov_core.specs.Held.{IsReplayed}
+use Rattle.ov_agree.specs.Agreeing.{ParentsAgree}
+use Rattle.ov_agree.proofs.Room.{few_records}
+use Rattle.ov_versions.specs.Agreement.{IsThere}
+use Rattle.ov_versions.specs.Sizes.{bytes_for}
+use Rattle.ov_parents.specs.Parents.{IsCounted, IsParent}
+use Rattle.ov_parents.proofs.Adding.{all_counted}
+use Rattle.ov_committing.specs.OfWorld.{IsAnswered, IsSpared}
+use Rattle.ov_store.specs.Changes.{bringing_of}
+use Rattle.ov_store.specs.Committing.{IsCommitBy, IsSparedBy, IsSparedOff, IsUncommitted, IsUnready, Set, commit_off, reads_for}
+use Rattle.ov_store.specs.Errors.{of_commit, of_fetch}
+use Rattle.ov_store.specs.Scanning.{set_in}
+use Rattle.ov_store.proofs.Commits.{commit_spared, refused_uncommitted, there_all}
+use Rattle.ov_store.proofs.Numbers.{found_in, named_numbered}
+use Rattle.ov_store.proofs.Readying.{asked_there, fits_there, fresh_there, made_by, reading_spared, reads, says_there, spared_there, unready_by}
+use Rattle.ov_store.proofs.Versions.{served_there}
+use Rattle.ov_store.proofs.store.Store.next.Goals as goal
+
+pub returns-in_err-d-clause-why : goal.returns-in_err-d-clause-why
+returns-in_err-d-clause-why g c =
+    let fact : IsUncommitted c.args.self.now.held c.args.name.now (record { vids = c.args.parents.now; message = c.args.message.now; rows = c.args.rows.items }) (g.H.Host.state c.args.host.now) (g.H.Host.state c.args.host.now) c.in_err-d.field-0.0
+    = refused_uncommitted c.args.self.now.held c.args.name.now (record { vids = c.args.parents.now; message = c.args.message.now; rows = c.args.rows.items }) (g.H.Host.state c.args.host.now) c.in_err-d.field-0.0 c.in_err-d.ensures.why
+    in search (rules, fact)
+
+pub returns-in_err-d-clause-spared : goal.returns-in_err-d-clause-spared
+returns-in_err-d-clause-spared g c = λ w d at named.
+    let fact : IsSparedOff d (record { vids = c.args.parents.now; message = c.args.message.now; rows = c.args.rows.items }) c.in_err-d.field-0.0
+    = commit_spared c.args.self.now.held c.args.name.now d (record { vids = c.args.parents.now; message = c.args.message.now; rows = c.args.rows.items }) c.in_err-d.field-0.0 c.in_err-d.ensures.why
+    in search (rules, fact)
+
+pub parents_of-requires-clause-there : goal.parents_of-requires-clause-there
+parents_of-requires-clause-there g c =
+    let there : All (IsThere (sets.set_in c.in_ok-d.field-0.d.now)) c.deref.result.now
+    = subst (λ (xs : List ℕ). All (IsThere (sets.set_in c.in_ok-d.field-0.d.now)) xs) (sym c.deref.ensures.value)
+    (subst (λ (n : ℕ). All (λ vid. (1 ≤ vid) × (vid ≤ n)) c.in_ok-d.field-0.vids.items) (sym (length-map c.in_ok-d.field-0.d.now.versions.items sets.version_in))
+    (there_all (length c.in_ok-d.field-0.d.now.versions.items) c.in_ok-d.field-0.vids.items c.in_ok-d.ensures.parents.there))
+    in there
+
+pub parents_of-requires-clause-placed : goal.parents_of-requires-clause-placed
+parents_of-requires-clause-placed g c = λ k d below.
+    let there : All (λ vid. (1 ≤ vid) × (vid ≤ length c.in_ok-d.field-0.d.now.versions.items)) c.deref.result.now
+    = subst (λ (xs : List ℕ). All (λ vid. (1 ≤ vid) × (vid ≤ length c.in_ok-d.field-0.d.now.versions.items)) xs) (sym c.deref.ensures.value)
+    (there_all (length c.in_ok-d.field-0.d.now.versions.items) c.in_ok-d.field-0.vids.items c.in_ok-d.ensures.parents.there)
+    in served_there c.in_ok-d.field-0.d.now (slice_index_or c.deref.result.now k d) c.in_ok-d.ensures.sound (there k d below).0 (there k d below).1
+
+pub parents_of-requires-clause-counted : goal.parents_of-requires-clause-counted
+parents_of-requires-clause-counted g c =
+    let numbers : c.self.inside.core.numbers ≡ c.args.self.now.held.numbers = ap (λ kept. kept.held.numbers) c.self.view_is
+    in let replayed : IsReplayed c.args.self.now.held.numbers = subst (λ n. IsReplayed n) numbers c.is_replayed.ensures
+    in all_counted replayed.events (sets.set_in c.in_ok-d.field-0.d.now) replayed.apply
+    (found_in c.args.name.now (numbers_in replayed.events).sets (sets.set_in c.in_ok-d.field-0.d.now) (subst (λ n. set_in n c.args.name.now ≡ Some (sets.set_in c.in_ok-d.field-0.d.now)) replayed.are c.in_ok-d.ensures.found))
+
+pub returns-in_err-read-clause-spared : goal.returns-in_err-read-clause-spared
+returns-in_err-read-clause-spared g c = λ w d at named.
+    let there : All (IsThere (sets.set_in c.in_ok-d.field-0.d.now)) c.deref.result.now
+    = subst (λ (xs : List ℕ). All (IsThere (sets.set_in c.in_ok-d.field-0.d.now)) xs) (sym c.deref.ensures.value)
+    (subst (λ (n : ℕ). All (λ vid. (1 ≤ vid) × (vid ≤ n)) c.in_ok-d.field-0.vids.items) (sym (length-map c.in_ok-d.field-0.d.now.versions.items sets.version_in))
+    (there_all (length c.in_ok-d.field-0.d.now.versions.items) c.in_ok-d.field-0.vids.items c.in_ok-d.ensures.parents.there))
+    in let fact : IsSparedOff d (record { vids = c.args.parents.now; message = c.args.message.now; rows = c.args.rows.items }) (of_fetch c.in_err-read.field-0.0)
+    = reading_spared w c.args.self.now.held (g.H.Host.state c.args.host.now) at c.args.name.now (sets.set_in c.in_ok-d.field-0.d.now) d (record { vids = c.args.parents.now; message = c.args.message.now; rows = c.args.rows.items }) c.deref.result.now c.in_err-read.field-0.0 c.in_ok-d.ensures.found named there (c.in_err-read.ensures.answer at.at.told)
+    in search (rules, fact)
+
+pub commit_of-requires-clause-most : goal.commit_of-requires-clause-most
+commit_of-requires-clause-most g c =
+    let numbers : c.self.inside.core.numbers ≡ c.args.self.now.held.numbers = ap (λ kept. kept.held.numbers) c.self.view_is
+    in let replayed : IsReplayed c.args.self.now.held.numbers = subst (λ n. IsReplayed n) numbers c.is_replayed.ensures
+    in few_records replayed.events (sets.set_in c.in_ok-d.field-0.d.now) replayed.apply
+    (found_in c.args.name.now (numbers_in replayed.events).sets (sets.set_in c.in_ok-d.field-0.d.now) (subst (λ n. set_in n c.args.name.now ≡ Some (sets.set_in c.in_ok-d.field-0.d.now)) replayed.are c.in_ok-d.ensures.found))
+
+pub returns-in_err-brought-clause-why : goal.returns-in_err-brought-clause-why
+returns-in_err-brought-clause-why g c =
+    let vids_are : c.deref-2.result.now ≡ c.args.parents.now = c.deref-2.ensures.value ∙ c.in_ok-d.ensures.vids
+    in let sorted : c.in_ok-d.field-0.rows.items ≡ in_key_order (sets.set_in c.in_ok-d.field-0.d.now).schema c.args.rows.items = c.in_ok-d.ensures.rows
+    in let same : c.deref.result.now ≡ c.deref-2.result.now = c.deref.ensures.value ∙ sym c.deref-2.ensures.value
+    in let all : c.in_ok-read.read.items ≡ c.deref-3.result.now = sym c.deref-3.ensures.value
+    in let read : (g.H.Host.state c.args.host.now).tells ≡ true → AllZip (IsParent (page_bytes (g.H.Host.state c.args.host.now)) (sets.set_in c.in_ok-d.field-0.d.now)) c.deref-2.result.now c.deref-3.result.now = λ told. subst (λ (xs : List (List Record)). AllZip (IsParent (page_bytes (g.H.Host.state c.args.host.now)) (sets.set_in c.in_ok-d.field-0.d.now)) c.deref-2.result.now xs) all (subst (λ (xs : List ℕ). AllZip (IsParent (page_bytes (g.H.Host.state c.args.host.now)) (sets.set_in c.in_ok-d.field-0.d.now)) xs c.in_ok-read.read.items) same (c.in_ok-read.ensures.answer told))
+    in let agree : ParentsAgree (sets.set_in c.in_ok-d.field-0.d.now) c.deref-2.result.now c.deref-3.result.now = subst (λ (xs : List (List Record)). ParentsAgree (sets.set_in c.in_ok-d.field-0.d.now) c.deref-2.result.now xs) all (subst (λ (xs : List ℕ). ParentsAgree (sets.set_in c.in_ok-d.field-0.d.now) xs c.in_ok-read.read.items) same c.in_ok-read.ensures.agree)
+    in let fact : IsUnready c.args.self.now.held c.args.name.now (record { vids = c.args.parents.now; message = c.args.message.now; rows = c.args.rows.items }) (g.H.Host.state c.args.host.now) (g.H.Host.state c.commit_of.new.host) (of_commit c.in_err-brought.field-0.0)
+    = unready_by (sets.set_in c.in_ok-d.field-0.d.now) (record { vids = c.args.parents.now; message = c.args.message.now; rows = c.args.rows.items }) c.deref-2.result.now c.deref-3.result.now c.in_ok-d.field-0.rows.items vids_are sorted (g.H.Host.state c.args.host.now) read (g.H.Host.state c.parents_of.new.host) c.parents_of.ensures.looked agree c.args.self.now.held c.args.name.now (g.H.Host.state c.commit_of.new.host) c.in_err-brought.field-0.0 c.in_ok-d.ensures.found c.in_ok-d.ensures.allowed c.in_ok-d.ensures.fit.few
+    (λ host. c.commit_of.ensures.cause (search (rules, host))) c.in_err-brought.ensures.refuses
+    in search (rules, fact)
+
+pub returns-in_err-brought-clause-spared : goal.returns-in_err-brought-clause-spared
+returns-in_err-brought-clause-spared g c = λ w d at named.
+    let vids_are : c.deref-2.result.now ≡ c.args.parents.now = c.deref-2.ensures.value ∙ c.in_ok-d.ensures.vids
+    in let sorted : c.in_ok-d.field-0.rows.items ≡ in_key_order (sets.set_in c.in_ok-d.field-0.d.now).schema c.args.rows.items = c.in_ok-d.ensures.rows
+    in let same : c.deref.result.now ≡ c.deref-2.result.now = c.deref.ensures.value ∙ sym c.deref-2.ensures.value
+    in let all : c.in_ok-read.read.items ≡ c.deref-3.result.now = sym c.deref-3.ensures.value
+    in let read : (g.H.Host.state c.args.host.now).tells ≡ true → AllZip (IsParent (page_bytes (g.H.Host.state c.args.host.now)) (sets.set_in c.in_ok-d.field-0.d.now)) c.deref-2.result.now c.deref-3.result.now = λ told. subst (λ (xs : List (List Record)). AllZip (IsParent (page_bytes (g.H.Host.state c.args.host.now)) (sets.set_in c.in_ok-d.field-0.d.now)) c.deref-2.result.now xs) all (subst (λ (xs : List ℕ). AllZip (IsParent (page_bytes (g.H.Host.state c.args.host.now)) (sets.set_in c.in_ok-d.field-0.d.now)) xs c.in_ok-read.read.items) same (c.in_ok-read.ensures.answer told))
+    in let there : All (IsThere (sets.set_in c.in_ok-d.field-0.d.now)) c.deref-2.result.now
+    = subst (λ (xs : List ℕ). All (IsThere (sets.set_in c.in_ok-d.field-0.d.now)) xs) (sym c.deref-2.ensures.value)
+    (subst (λ (n : ℕ). All (λ vid. (1 ≤ vid) × (vid ≤ n)) c.in_ok-d.field-0.vids.items) (sym (length-map c.in_ok-d.field-0.d.now.versions.items sets.version_in))
+    (there_all (length c.in_ok-d.field-0.d.now.versions.items) c.in_ok-d.field-0.vids.items c.in_ok-d.ensures.parents.there))
+    in let told : (g.H.Host.state c.parents_of.new.host).tells ≡ true = c.parents_of.ensures.looked.told ∙ at.at.told
+    in let fact : IsSparedBy d (record { vids = c.args.parents.now; message = c.args.message.now; rows = c.args.rows.items }) (of_commit c.in_err-brought.field-0.0)
+    = spared_there (sets.set_in c.in_ok-d.field-0.d.now) (record { vids = c.args.parents.now; message = c.args.message.now; rows = c.args.rows.items }) c.deref-2.result.now c.deref-3.result.now c.in_ok-d.field-0.rows.items vids_are sorted (g.H.Host.state c.args.host.now) read (g.H.Host.state c.parents_of.new.host) c.parents_of.ensures.looked w c.args.self.now.held at c.args.name.now d c.in_ok-d.ensures.found named there c.in_err-brought.field-0.0
+    (c.in_err-brought.ensures.world told w d (asked_there (sets.set_in c.in_ok-d.field-0.d.now) (record { vids = c.args.parents.now; message = c.args.message.now; rows = c.args.rows.items }) c.deref-2.result.now c.deref-3.result.now c.in_ok-d.field-0.rows.items vids_are sorted (g.H.Host.state c.args.host.now) read (g.H.Host.state c.parents_of.new.host) c.parents_of.ensures.looked w c.args.self.now.held at c.args.name.now d c.in_ok-d.ensures.found named there))
+    in search (rules, fact)
+
+pub returns-clause-ready : goal.returns-clause-ready
+returns-clause-ready g c =
+    let numbers : c.self.inside.core.numbers ≡ c.args.self.now.held.numbers = ap (λ kept. kept.held.numbers) c.self.view_is
+    in let replayed : IsReplayed c.args.self.now.held.numbers = subst (λ n. IsReplayed n) numbers c.is_replayed.ensures
+    in let numbered : set_numbered (sets.set_in c.in_ok-d.field-0.d.now).number c.args.self.now.held.numbers ≡ Some (sets.set_in c.in_ok-d.field-0.d.now)
+    = subst (λ n. set_numbered (sets.set_in c.in_ok-d.field-0.d.now).number n ≡ Some (sets.set_in c.in_ok-d.field-0.d.now)) (sym replayed.are)
+    (named_numbered replayed.events c.args.name.now (sets.set_in c.in_ok-d.field-0.d.now) (subst (λ n. set_in n c.args.name.now ≡ Some (sets.set_in c.in_ok-d.field-0.d.now)) replayed.are c.in_ok-d.ensures.found))
+    in record {
+      unplaced = c.in_ok-brought.ensures.unplaced;
+      event = c.in_ok-brought.ensures.event;
+      applies = c.in_ok-brought.ensures.applies c.args.self.now.held.numbers numbered;
+    }
+
+pub returns-clause-by : goal.returns-clause-by
+returns-clause-by g c = λ s named.
+    let vids_are : c.deref-2.result.now ≡ c.args.parents.now = c.deref-2.ensures.value ∙ c.in_ok-d.ensures.vids
+    in let sorted : c.in_ok-d.field-0.rows.items ≡ in_key_order (sets.set_in c.in_ok-d.field-0.d.now).schema c.args.rows.items = c.in_ok-d.ensures.rows
+    in let same : c.deref.result.now ≡ c.deref-2.result.now = c.deref.ensures.value ∙ sym c.deref-2.ensures.value
+    in let all : c.in_ok-read.read.items ≡ c.deref-3.result.now = sym c.deref-3.ensures.value
+    in let read : (g.H.Host.state c.args.host.now).tells ≡ true → AllZip (IsParent (page_bytes (g.H.Host.state c.args.host.now)) (sets.set_in c.in_ok-d.field-0.d.now)) c.deref-2.result.now c.deref-3.result.now = λ told. subst (λ (xs : List (List Record)). AllZip (IsParent (page_bytes (g.H.Host.state c.args.host.now)) (sets.set_in c.in_ok-d.field-0.d.now)) c.deref-2.result.now xs) all (subst (λ (xs : List ℕ). AllZip (IsParent (page_bytes (g.H.Host.state c.args.host.now)) (sets.set_in c.in_ok-d.field-0.d.now)) xs c.in_ok-read.read.items) same (c.in_ok-read.ensures.answer told))
+    in let agree : ParentsAgree (sets.set_in c.in_ok-d.field-0.d.now) c.deref-2.result.now c.deref-3.result.now = subst (λ (xs : List (List Record)). ParentsAgree (sets.set_in c.in_ok-d.field-0.d.now) c.deref-2.result.now xs) all (subst (λ (xs : List ℕ). ParentsAgree (sets.set_in c.in_ok-d.field-0.d.now) xs c.in_ok-read.read.items) same c.in_ok-read.ensures.agree)
+    in let is : (sets.set_in c.in_ok-d.field-0.d.now) ≡ s = ap (λ o. elim o as (λ _. Set) [ None ↦ (sets.set_in c.in_ok-d.field-0.d.now) | Some x ↦ x ]) (sym c.in_ok-d.ensures.found ∙ named)
+    in subst (λ x. IsCommitBy x (record { vids = c.args.parents.now; message = c.args.message.now; rows = c.args.rows.items }) (g.H.Host.state c.args.host.now) (bringing_of c.in_ok-brought.field-0.brought) c.in_ok-brought.field-0.fresh) is
+    (made_by (sets.set_in c.in_ok-d.field-0.d.now) (record { vids = c.args.parents.now; message = c.args.message.now; rows = c.args.rows.items }) c.deref-2.result.now c.deref-3.result.now c.in_ok-d.field-0.rows.items vids_are sorted (g.H.Host.state c.args.host.now) read (g.H.Host.state c.parents_of.new.host) c.parents_of.ensures.looked agree (bringing_of c.in_ok-brought.field-0.brought) c.in_ok-brought.field-0.fresh c.in_ok-brought.ensures.is c.in_ok-brought.ensures.fresh)
+
+pub returns-clause-brings : goal.returns-clause-brings
+returns-clause-brings g c = λ w d at named.
+    let vids_are : c.deref-2.result.now ≡ c.args.parents.now = c.deref-2.ensures.value ∙ c.in_ok-d.ensures.vids
+    in let sorted : c.in_ok-d.field-0.rows.items ≡ in_key_order (sets.set_in c.in_ok-d.field-0.d.now).schema c.args.rows.items = c.in_ok-d.ensures.rows
+    in let same : c.deref.result.now ≡ c.deref-2.result.now = c.deref.ensures.value ∙ sym c.deref-2.ensures.value
+    in let all : c.in_ok-read.read.items ≡ c.deref-3.result.now = sym c.deref-3.ensures.value
+    in let read : (g.H.Host.state c.args.host.now).tells ≡ true → AllZip (IsParent (page_bytes (g.H.Host.state c.args.host.now)) (sets.set_in c.in_ok-d.field-0.d.now)) c.deref-2.result.now c.deref-3.result.now = λ told. subst (λ (xs : List (List Record)). AllZip (IsParent (page_bytes (g.H.Host.state c.args.host.now)) (sets.set_in c.in_ok-d.field-0.d.now)) c.deref-2.result.now xs) all (subst (λ (xs : List ℕ). AllZip (IsParent (page_bytes (g.H.Host.state c.args.host.now)) (sets.set_in c.in_ok-d.field-0.d.now)) xs c.in_ok-read.read.items) same (c.in_ok-read.ensures.answer told))
+    in let there : All (IsThere (sets.set_in c.in_ok-d.field-0.d.now)) c.deref-2.result.now
+    = subst (λ (xs : List ℕ). All (IsThere (sets.set_in c.in_ok-d.field-0.d.now)) xs) (sym c.deref-2.ensures.value)
+    (subst (λ (n : ℕ). All (λ vid. (1 ≤ vid) × (vid ≤ n)) c.in_ok-d.field-0.vids.items) (sym (length-map c.in_ok-d.field-0.d.now.versions.items sets.version_in))
+    (there_all (length c.in_ok-d.field-0.d.now.versions.items) c.in_ok-d.field-0.vids.items c.in_ok-d.ensures.parents.there))
+    in let told : (g.H.Host.state c.parents_of.new.host).tells ≡ true = c.parents_of.ensures.looked.told ∙ at.at.told
+    in let answered = c.in_ok-brought.ensures.world told w d (asked_there (sets.set_in c.in_ok-d.field-0.d.now) (record { vids = c.args.parents.now; message = c.args.message.now; rows = c.args.rows.items }) c.deref-2.result.now c.deref-3.result.now c.in_ok-d.field-0.rows.items vids_are sorted (g.H.Host.state c.args.host.now) read (g.H.Host.state c.parents_of.new.host) c.parents_of.ensures.looked w c.args.self.now.held at c.args.name.now d c.in_ok-d.ensures.found named there)
+    in let count : length c.in_ok-d.field-0.d.now.versions.items ≡ length (sets.set_in c.in_ok-d.field-0.d.now).versions = sym (length-map c.in_ok-d.field-0.d.now.versions.items sets.version_in)
+    in let are : AreParents (length (sets.set_in c.in_ok-d.field-0.d.now).versions) c.deref-2.result.now
+    = subst (λ (n : ℕ). AreParents n c.deref-2.result.now) count (subst (λ (xs : List ℕ). AreParents (length c.in_ok-d.field-0.d.now.versions.items) xs) (sym c.deref-2.ensures.value) c.in_ok-d.ensures.parents)
+    in let text : IsUtf8 c.args.message.now = subst (λ (xs : List ℕ). IsUtf8 xs) c.as_str.ensures.text c.as_str.ensures.utf8
+    in record {
+      fits = fits_there (sets.set_in c.in_ok-d.field-0.d.now) (record { vids = c.args.parents.now; message = c.args.message.now; rows = c.args.rows.items }) c.deref-2.result.now c.deref-3.result.now c.in_ok-d.field-0.rows.items vids_are sorted (g.H.Host.state c.args.host.now) read (g.H.Host.state c.parents_of.new.host) c.parents_of.ensures.looked w c.args.self.now.held at c.args.name.now d c.in_ok-d.ensures.found named there c.in_ok-brought.field-0.brought.event c.in_ok-brought.field-0.fresh
+          c.in_ok-brought.field-0.brought.list.items c.in_ok-brought.field-0.brought.segment.items answered are text c.requires.message
+          (subst (λ (n : ℕ). n < 65535) count c.in_ok-d.ensures.few) c.in_ok-d.ensures.fit;
+      says = says_there (sets.set_in c.in_ok-d.field-0.d.now) (record { vids = c.args.parents.now; message = c.args.message.now; rows = c.args.rows.items }) c.deref-2.result.now c.deref-3.result.now c.in_ok-d.field-0.rows.items vids_are sorted (g.H.Host.state c.args.host.now) read (g.H.Host.state c.parents_of.new.host) c.parents_of.ensures.looked w c.args.self.now.held at c.args.name.now d c.in_ok-d.ensures.found named there c.in_ok-brought.field-0.brought.event c.in_ok-brought.field-0.fresh
+          c.in_ok-brought.field-0.brought.list.items c.in_ok-brought.field-0.brought.segment.items answered;
+    }
+
+pub returns-clause-fresh : goal.returns-clause-fresh
+returns-clause-fresh g c = λ w d at named.
+    let vids_are : c.deref-2.result.now ≡ c.args.parents.now = c.deref-2.ensures.value ∙ c.in_ok-d.ensures.vids
+    in let sorted : c.in_ok-d.field-0.rows.items ≡ in_key_order (sets.set_in c.in_ok-d.field-0.d.now).schema c.args.rows.items = c.in_ok-d.ensures.rows
+    in let same : c.deref.result.now ≡ c.deref-2.result.now = c.deref.ensures.value ∙ sym c.deref-2.ensures.value
+    in let all : c.in_ok-read.read.items ≡ c.deref-3.result.now = sym c.deref-3.ensures.value
+    in let read : (g.H.Host.state c.args.host.now).tells ≡ true → AllZip (IsParent (page_bytes (g.H.Host.state c.args.host.now)) (sets.set_in c.in_ok-d.field-0.d.now)) c.deref-2.result.now c.deref-3.result.now = λ told. subst (λ (xs : List (List Record)). AllZip (IsParent (page_bytes (g.H.Host.state c.args.host.now)) (sets.set_in c.in_ok-d.field-0.d.now)) c.deref-2.result.now xs) all (subst (λ (xs : List ℕ). AllZip (IsParent (page_bytes (g.H.Host.state c.args.host.now)) (sets.set_in c.in_ok-d.field-0.d.now)) xs c.in_ok-read.read.items) same (c.in_ok-read.ensures.answer told))
+    in let there : All (IsThere (sets.set_in c.in_ok-d.field-0.d.now)) c.deref-2.result.now
+    = subst (λ (xs : List ℕ). All (IsThere (sets.set_in c.in_ok-d.field-0.d.now)) xs) (sym c.deref-2.ensures.value)
+    (subst (λ (n : ℕ). All (λ vid. (1 ≤ vid) × (vid ≤ n)) c.in_ok-d.field-0.vids.items) (sym (length-map c.in_ok-d.field-0.d.now.versions.items sets.version_in))
+    (there_all (length c.in_ok-d.field-0.d.now.versions.items) c.in_ok-d.field-0.vids.items c.in_ok-d.ensures.parents.there))
+    in let told : (g.H.Host.state c.parents_of.new.host).tells ≡ true = c.parents_of.ensures.looked.told ∙ at.at.told
+    in let answered = c.in_ok-brought.ensures.world told w d (asked_there (sets.set_in c.in_ok-d.field-0.d.now) (record { vids = c.args.parents.now; message = c.args.message.now; rows = c.args.rows.items }) c.deref-2.result.now c.deref-3.result.now c.in_ok-d.field-0.rows.items vids_are sorted (g.H.Host.state c.args.host.now) read (g.H.Host.state c.parents_of.new.host) c.parents_of.ensures.looked w c.args.self.now.held at c.args.name.now d c.in_ok-d.ensures.found named there)
+    in fresh_there (sets.set_in c.in_ok-d.field-0.d.now) (record { vids = c.args.parents.now; message = c.args.message.now; rows = c.args.rows.items }) c.deref-2.result.now c.deref-3.result.now c.in_ok-d.field-0.rows.items vids_are sorted (g.H.Host.state c.args.host.now) read (g.H.Host.state c.parents_of.new.host) c.parents_of.ensures.looked w c.args.self.now.held at c.args.name.now d c.in_ok-d.ensures.found named there c.in_ok-brought.field-0.brought.event c.in_ok-brought.field-0.fresh
+    c.in_ok-brought.field-0.brought.list.items c.in_ok-brought.field-0.brought.segment.items answered
+
+pub returns-in_err-brought-clause-fetched : goal.returns-in_err-brought-clause-fetched
+returns-in_err-brought-clause-fetched g c = λ s named.
+    let vids_are : c.deref-2.result.now ≡ c.args.parents.now = c.deref-2.ensures.value ∙ c.in_ok-d.ensures.vids
+    in let sorted : c.in_ok-d.field-0.rows.items ≡ in_key_order (sets.set_in c.in_ok-d.field-0.d.now).schema c.args.rows.items = c.in_ok-d.ensures.rows
+    in let same : c.deref.result.now ≡ c.deref-2.result.now = c.deref.ensures.value ∙ sym c.deref-2.ensures.value
+    in let all : c.in_ok-read.read.items ≡ c.deref-3.result.now = sym c.deref-3.ensures.value
+    in let read : (g.H.Host.state c.args.host.now).tells ≡ true → AllZip (IsParent (page_bytes (g.H.Host.state c.args.host.now)) (sets.set_in c.in_ok-d.field-0.d.now)) c.deref-2.result.now c.deref-3.result.now = λ told. subst (λ (xs : List (List Record)). AllZip (IsParent (page_bytes (g.H.Host.state c.args.host.now)) (sets.set_in c.in_ok-d.field-0.d.now)) c.deref-2.result.now xs) all (subst (λ (xs : List ℕ). AllZip (IsParent (page_bytes (g.H.Host.state c.args.host.now)) (sets.set_in c.in_ok-d.field-0.d.now)) xs c.in_ok-read.read.items) same (c.in_ok-read.ensures.answer told))
+    in let agree : ParentsAgree (sets.set_in c.in_ok-d.field-0.d.now) c.deref-2.result.now c.deref-3.result.now = subst (λ (xs : List (List Record)). ParentsAgree (sets.set_in c.in_ok-d.field-0.d.now) c.deref-2.result.now xs) all (subst (λ (xs : List ℕ). ParentsAgree (sets.set_in c.in_ok-d.field-0.d.now) xs c.in_ok-read.read.items) same c.in_ok-read.ensures.agree)
+    in let is : (sets.set_in c.in_ok-d.field-0.d.now) ≡ s = ap (λ o. elim o as (λ _. Set) [ None ↦ (sets.set_in c.in_ok-d.field-0.d.now) | Some x ↦ x ]) (sym c.in_ok-d.ensures.found ∙ named)
+    in let some : c.deref-2.result.now ≢ [] = λ none. c.requires.some (sym vids_are ∙ none)
+    in subst (λ x. (g.H.Host.state c.commit_of.new.host).fetched ≤ (g.H.Host.state c.args.host.now).fetched + reads_for x c.args.parents.now) is
+    (reads (sets.set_in c.in_ok-d.field-0.d.now) (record { vids = c.args.parents.now; message = c.args.message.now; rows = c.args.rows.items }) c.deref-2.result.now c.deref-3.result.now c.in_ok-d.field-0.rows.items vids_are sorted (g.H.Host.state c.args.host.now) read (g.H.Host.state c.parents_of.new.host) c.parents_of.ensures.looked agree some (g.H.Host.state c.commit_of.new.host) (subst (λ (xs : List ℕ). (g.H.Host.state c.parents_of.new.host).fetched ≤ (g.H.Host.state c.args.host.now).fetched + bytes_for (sets.set_in c.in_ok-d.field-0.d.now) xs) same c.parents_of.ensures.fetched) c.commit_of.ensures.fetched)
+
+pub returns-clause-fetched : goal.returns-clause-fetched
+returns-clause-fetched g c = λ s named.
+    let vids_are : c.deref-2.result.now ≡ c.args.parents.now = c.deref-2.ensures.value ∙ c.in_ok-d.ensures.vids
+    in let sorted : c.in_ok-d.field-0.rows.items ≡ in_key_order (sets.set_in c.in_ok-d.field-0.d.now).schema c.args.rows.items = c.in_ok-d.ensures.rows
+    in let same : c.deref.result.now ≡ c.deref-2.result.now = c.deref.ensures.value ∙ sym c.deref-2.ensures.value
+    in let all : c.in_ok-read.read.items ≡ c.deref-3.result.now = sym c.deref-3.ensures.value
+    in let read : (g.H.Host.state c.args.host.now).tells ≡ true → AllZip (IsParent (page_bytes (g.H.Host.state c.args.host.now)) (sets.set_in c.in_ok-d.field-0.d.now)) c.deref-2.result.now c.deref-3.result.now = λ told. subst (λ (xs : List (List Record)). AllZip (IsParent (page_bytes (g.H.Host.state c.args.host.now)) (sets.set_in c.in_ok-d.field-0.d.now)) c.deref-2.result.now xs) all (subst (λ (xs : List ℕ). AllZip (IsParent (page_bytes (g.H.Host.state c.args.host.now)) (sets.set_in c.in_ok-d.field-0.d.now)) xs c.in_ok-read.read.items) same (c.in_ok-read.ensures.answer told))
+    in let agree : ParentsAgree (sets.set_in c.in_ok-d.field-0.d.now) c.deref-2.result.now c.deref-3.result.now = subst (λ (xs : List (List Record)). ParentsAgree (sets.set_in c.in_ok-d.field-0.d.now) c.deref-2.result.now xs) all (subst (λ (xs : List ℕ). ParentsAgree (sets.set_in c.in_ok-d.field-0.d.now) xs c.in_ok-read.read.items) same c.in_ok-read.ensures.agree)
+    in let is : (sets.set_in c.in_ok-d.field-0.d.now) ≡ s = ap (λ o. elim o as (λ _. Set) [ None ↦ (sets.set_in c.in_ok-d.field-0.d.now) | Some x ↦ x ]) (sym c.in_ok-d.ensures.found ∙ named)
+    in let some : c.deref-2.result.now ≢ [] = λ none. c.requires.some (sym vids_are ∙ none)
+    in subst (λ x. (g.H.Host.state c.commit_of.new.host).fetched ≤ (g.H.Host.state c.args.host.now).fetched + reads_for x c.args.parents.now) is
+    (reads (sets.set_in c.in_ok-d.field-0.d.now) (record { vids = c.args.parents.now; message = c.args.message.now; rows = c.args.rows.items }) c.deref-2.result.now c.deref-3.result.now c.in_ok-d.field-0.rows.items vids_are sorted (g.H.Host.state c.args.host.now) read (g.H.Host.state c.parents_of.new.host) c.parents_of.ensures.looked agree some (g.H.Host.state c.commit_of.new.host) (subst (λ (xs : List ℕ). (g.H.Host.state c.parents_of.new.host).fetched ≤ (g.H.Host.state c.args.host.now).fetched + bytes_for (sets.set_in c.in_ok-d.field-0.d.now) xs) same c.parents_of.ensures.fetched) c.commit_of.ensures.fetched)

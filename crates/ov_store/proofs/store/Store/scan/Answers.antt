@@ -1,0 +1,88 @@
+use Rattle.std.proofs.Common.{rules, ◌≡◌, ◌≤◌, ◌∙◌, ℕ, List, [], slice_index_or, length, map, sym, ap, subst}
+use Rattle.std.specs.Prelude.{Some}
+use Rattle.std.specs.List.{All, AllZip}
+use Rattle.std.proofs.lemmas.List.{length-map}
+use Rattle.ov_host.specs.declared.area.Extent.{Extent}
+use Rattle.ov_fetch.specs.Extents.{page_bytes}
+use Rattle.ov_model.specs.Placed.{times}
+use Rattle.ov_catalog.specs.Numbers.{Numbers}
+use Rattle.ov_catalog.specs.Sets as sets
+use Rattle.ov_versions.specs.Agreement.{IsThere}
+use Rattle.ov_versions.specs.Damages.{RefusesScan}
+use Rattle.ov_versions.specs.Found.{IsScanned}
+use Rattle.ov_versions.specs.OfWorld.{IsSetOf}
+use Rattle.ov_sights.proofs.Served.{scan_spared}
+use Rattle.ov_sights.proofs.Scanned.{have_rows}
+use Rattle.ov_store.specs.Errors.{of_fetch}
+use Rattle.ov_store.specs.Listing.{IsListed}
+use Rattle.ov_store.specs.Refusals.{IsVidOff}
+use Rattle.ov_store.specs.Scanning.{IsUndamaged, IsUnscanned, scan_off, set_in}
+use Rattle.ov_store.proofs.Versions.{all_there, listed_once, served_there, vids_undamaged, vids_unscanned}
+use Rattle.ov_store.proofs.Seeing.{found_set, spared}
+use Rattle.ov_store.proofs.store.Store.scan.Goals as goal
+
+pub returns-in_err-vids-clause-why : goal.returns-in_err-vids-clause-why
+returns-in_err-vids-clause-why g c =
+    let found : set_in c.args.self.now.held.numbers c.args.name.now ≡ Some (sets.set_in c.in-Some.d.now)
+    = subst (λ (n : Numbers Extent Extent). set_in n c.args.name.now ≡ Some (sets.set_in c.in-Some.d.now)) (c.catalog.ensures ∙ ap (λ kept. kept.held.numbers) c.self.view_is) (sym c.in-Some.ensures.found)
+    in let count : c.len.result ≡ length (map sets.version_in c.in-Some.d.now.versions.items) = search (rules, length-map c.in-Some.d.now.versions.items sets.version_in)
+    in let fact : IsUnscanned (scan_off c.args.self.now.held.numbers c.args.name.now c.args.vids.now) (set_in c.args.self.now.held.numbers c.args.name.now) c.args.vids.now
+    (g.H.Host.state c.args.host.now) (g.H.Host.state c.args.host.now) c.in_err-vids.field-0.0
+    = vids_unscanned c.args.self.now.held.numbers c.args.name.now (sets.set_in c.in-Some.d.now) c.args.vids.now (g.H.Host.state c.args.host.now) c.in_err-vids.field-0.0 found
+    (subst (λ (n : ℕ). IsVidOff n c.args.vids.now c.in_err-vids.field-0.0) count c.in_err-vids.ensures)
+    in search (rules, fact)
+
+pub scan_versions-requires-clause-there : goal.scan_versions-requires-clause-there
+scan_versions-requires-clause-there g c =
+    let listed : IsListed c.len.result c.args.vids.now c.in_ok-vids.vids.items = c.in_ok-vids.ensures
+    in let count : c.len.result ≡ length (map sets.version_in c.in-Some.d.now.versions.items) = search (rules, length-map c.in-Some.d.now.versions.items sets.version_in)
+    in subst (λ (xs : List ℕ). All (λ vid. (1 ≤ vid) × (vid ≤ length (map sets.version_in c.in-Some.d.now.versions.items))) xs) (sym listed.listed_are)
+    (subst (λ (n : ℕ). All (λ vid. (1 ≤ vid) × (vid ≤ n)) c.args.vids.now) count (all_there c.len.result [] c.args.vids.now listed.passed))
+
+pub scan_versions-requires-clause-once : goal.scan_versions-requires-clause-once
+scan_versions-requires-clause-once g c = λ vid.
+    let listed : IsListed c.len.result c.args.vids.now c.in_ok-vids.vids.items = c.in_ok-vids.ensures
+    in subst (λ (xs : List ℕ). times xs vid ≤ 1) (sym listed.listed_are) (listed_once c.len.result c.args.vids.now listed.passed vid)
+
+pub scan_versions-requires-clause-placed : goal.scan_versions-requires-clause-placed
+scan_versions-requires-clause-placed g c = λ k d below.
+    let listed : IsListed c.len.result c.args.vids.now c.in_ok-vids.vids.items = c.in_ok-vids.ensures
+    in let count : c.len.result ≡ length c.in-Some.d.now.versions.items = search rules
+    in let there : All (λ vid. (1 ≤ vid) × (vid ≤ length c.in-Some.d.now.versions.items)) c.in_ok-vids.vids.items
+    = subst (λ (xs : List ℕ). All (λ vid. (1 ≤ vid) × (vid ≤ length c.in-Some.d.now.versions.items)) xs) (sym listed.listed_are)
+    (subst (λ (n : ℕ). All (λ vid. (1 ≤ vid) × (vid ≤ n)) c.args.vids.now) count (all_there c.len.result [] c.args.vids.now listed.passed))
+    in served_there c.in-Some.d.now (slice_index_or c.in_ok-vids.vids.items k d) c.in-Some.ensures.sound (there k d below).0 (there k d below).1
+
+pub returns-in_err-vids-clause-world : goal.returns-in_err-vids-clause-world
+returns-in_err-vids-clause-world g c = λ w d at named.
+    let fact : IsUndamaged c.in_err-vids.field-0.0 = vids_undamaged c.len.result c.args.vids.now c.in_err-vids.field-0.0 c.in_err-vids.ensures
+    in search (rules, fact)
+
+pub returns-in_err-scan_versions-clause-world : goal.returns-in_err-scan_versions-clause-world
+returns-in_err-scan_versions-clause-world g c = λ w d at named.
+    let found : set_in c.args.self.now.held.numbers c.args.name.now ≡ Some (sets.set_in c.in-Some.d.now)
+    = subst (λ (n : Numbers Extent Extent). set_in n c.args.name.now ≡ Some (sets.set_in c.in-Some.d.now)) (c.catalog.ensures ∙ ap (λ kept. kept.held.numbers) c.self.view_is) (sym c.in-Some.ensures.found)
+    in let listed : IsListed c.len.result c.args.vids.now c.in_ok-vids.vids.items = c.in_ok-vids.ensures
+    in let count : c.len.result ≡ length (map sets.version_in c.in-Some.d.now.versions.items) = search (rules, length-map c.in-Some.d.now.versions.items sets.version_in)
+    in let there : All (IsThere (sets.set_in c.in-Some.d.now)) c.args.vids.now
+    = subst (λ (n : ℕ). All (λ vid. (1 ≤ vid) × (vid ≤ n)) c.args.vids.now) count (all_there c.len.result [] c.args.vids.now listed.passed)
+    in let is : IsSetOf w d (page_bytes (g.H.Host.state c.args.host.now)) (sets.set_in c.in-Some.d.now)
+    = found_set w c.args.self.now.held (g.H.Host.state c.args.host.now) at c.args.name.now (sets.set_in c.in-Some.d.now) d found named
+    in let fact : IsUndamaged (of_fetch c.in_err-scan_versions.field-0.0)
+    = spared c.in_err-scan_versions.field-0.0 (scan_spared w (page_bytes (g.H.Host.state c.args.host.now)) (sets.set_in c.in-Some.d.now) d c.args.vids.now c.in_err-scan_versions.field-0.0 is there
+    (subst (λ (xs : List ℕ). RefusesScan c.in_err-scan_versions.field-0.0 (page_bytes (g.H.Host.state c.args.host.now)) (sets.set_in c.in-Some.d.now) xs) listed.listed_are (c.in_err-scan_versions.ensures.answer at.at.told)))
+    in search (rules, fact)
+
+pub returns-clause-world : goal.returns-clause-world
+returns-clause-world g c = λ w d at named.
+    let found : set_in c.args.self.now.held.numbers c.args.name.now ≡ Some (sets.set_in c.in-Some.d.now)
+    = subst (λ (n : Numbers Extent Extent). set_in n c.args.name.now ≡ Some (sets.set_in c.in-Some.d.now)) (c.catalog.ensures ∙ ap (λ kept. kept.held.numbers) c.self.view_is) (sym c.in-Some.ensures.found)
+    in let listed : IsListed c.len.result c.args.vids.now c.in_ok-vids.vids.items = c.in_ok-vids.ensures
+    in let count : c.len.result ≡ length (map sets.version_in c.in-Some.d.now.versions.items) = search (rules, length-map c.in-Some.d.now.versions.items sets.version_in)
+    in let there : All (IsThere (sets.set_in c.in-Some.d.now)) c.args.vids.now
+    = subst (λ (n : ℕ). All (λ vid. (1 ≤ vid) × (vid ≤ n)) c.args.vids.now) count (all_there c.len.result [] c.args.vids.now listed.passed)
+    in let is : IsSetOf w d (page_bytes (g.H.Host.state c.args.host.now)) (sets.set_in c.in-Some.d.now)
+    = found_set w c.args.self.now.held (g.H.Host.state c.args.host.now) at c.args.name.now (sets.set_in c.in-Some.d.now) d found named
+    in have_rows w (page_bytes (g.H.Host.state c.args.host.now)) (sets.set_in c.in-Some.d.now) d c.in_ok-scan_versions.field-0.records c.args.vids.now c.in_ok-scan_versions.field-0.picks is there
+    (subst (λ (xs : List ℕ). AllZip (IsScanned (page_bytes (g.H.Host.state c.args.host.now)) (sets.set_in c.in-Some.d.now) c.in_ok-scan_versions.field-0.records) xs c.in_ok-scan_versions.field-0.picks)
+    listed.listed_are (c.in_ok-scan_versions.ensures.answer at.at.told))

@@ -1,0 +1,10 @@
+pub mod Errors
+pub mod Kept
+pub mod Refusals
+pub mod Listing
+pub mod Changes
+pub mod Unready
+pub mod Beginning
+pub mod Dropping
+pub mod Scanning
+pub mod Committing

@@ -1,0 +1,215 @@
+// Commits.
+
+ghost use Rattle.std.specs.Prelude.{◌≡◌, ◌≢◌, ◌≤◌, ◌<◌, ◌+◌, ℕ, List, true, false, None, Some, [], IfOk, IfErr, OnOk, IsErrOf, MatchResult, length, map, option_map};
+ghost use Rattle.std.specs.List.{All};
+ghost use Rattle.ov_host.specs.Stops.{Only};
+ghost use Rattle.ov_value.specs.Spelling.{IsRow};
+ghost use Rattle.ov_model.specs.Merge.{in_key_order};
+ghost use Rattle.ov_model.specs.Moves.{moved};
+ghost use Rattle.ov_model.specs.World.{Dataset, World, set_named};
+ghost use Rattle.ov_catalog.specs.Reached.{AreParents, AreRows};
+ghost use Rattle.ov_catalog.specs.Ready.{IsSet};
+ghost use Rattle.ov_catalog.specs.Sets.{set_in as numbers_of};
+ghost use Rattle.ov_core.specs.AtWorld.{IsAtNext, IsAtWorld, IsEither};
+ghost use Rattle.ov_core.specs.Brought.{Brings};
+ghost use Rattle.ov_fetch.specs.Extents.{Looked};
+ghost use Rattle.ov_store.specs.Beginning.{IsShort};
+ghost use Rattle.ov_store.specs.Changes.{IsReady, bringing_of};
+ghost use Rattle.ov_store.specs.Committing.{Set, IsCommitBy, IsCommitted, IsSparedBy, IsSparedOff, IsUncommitted, IsUnready, commit_move, commit_off, committed, fresh_in_world, reads_for};
+ghost use Rattle.ov_store.specs.Kept.{MayCall, Stays};
+ghost use Rattle.ov_store.specs.Scanning.{set_in};
+ghost use Rattle.ov_store.specs.Unready.{IsFewPages, IsNoRoom, IsRefused};
+ghost use Rattle.ov_store.specs.declared.errors.StoreErr.{StoreErr as StoreErrValue};
+ghost use Rattle.ov_store.specs.declared.errors.StoreErr.TheVariants as off;
+ghost use Rattle.ov_store.specs.declared.unready.Unready.TheVariants as unready;
+ghost use Rattle.ov_catalog.specs.Extents.{live};
+ghost use Rattle.ov_writing.specs.Written.{IsLong};
+
+use crate::errors::StoreErr;
+use crate::listing::listed;
+use crate::store::{Committed, Store};
+use crate::unready::Unready;
+use ov_catalog::Cvd;
+use ov_committing::{Commit, Wanted, commit_of};
+use ov_core::Brought;
+use ov_host::Host;
+use ov_parents::parents_of;
+use ov_rows::version_rows;
+use ov_value::{Row, Txt};
+
+/// How many versions a dataset may have.
+const MOST_VERSIONS: usize = 65_535;
+
+/// What a commit asks: a dataset, its versions that are the parents, and the rows in key order.
+struct Ask<'a> {
+    d: &'a Cvd,
+    vids: Vec<u32>,
+    rows: Vec<Row>,
+}
+
+/// A version that is ready to be stored: what it brings, its number, and how many of its records are new.
+#[derive(Drop)]
+struct NextVersion {
+    brought: Brought,
+    vid: u32,
+    fresh: u32,
+}
+
+impl Store {
+    // What a commit asks, where nothing of the catalog and its arguments refuses it.
+    fn ask(&self, name: &str, parents: &[u64], rows: Vec<Row>) -> Result<Ask<'_>, StoreErr>
+        requires fit { (s : Set) → set_in self.now.held.numbers name.now ≡ Some s → All (IsRow s.schema) rows.items }
+        requires short { All IsShort rows.items }
+        requires some { parents.now ≢ [] }
+        ensures allowed { OnOk result (commit_off self.now.held name.now parents.now rows.items ≡ None) }
+        ensures found { IfOk result (λ ask. set_in self.now.held.numbers name.now ≡ Some (numbers_of ask.d.now)) }
+        ensures sound { IfOk result (λ ask. IsSet ask.d.now) }
+        ensures few { IfOk result (λ ask. length ask.d.now.versions.items < 65535) }
+        ensures vids { IfOk result (λ ask. ask.vids.items ≡ parents.now) }
+        ensures parents { IfOk result (λ ask. AreParents (length ask.d.now.versions.items) ask.vids.items) }
+        ensures rows { IfOk result (λ ask. ask.rows.items ≡ in_key_order ask.d.now.schema rows.items) }
+        ensures fit { IfOk result (λ ask. AreRows ask.d.now.schema ask.rows.items) }
+        ensures count { IfOk result (λ ask. length ask.rows.items ≡ length rows.items) }
+        ensures why { IfErr result (IsRefused (commit_off self.now.held name.now parents.now rows.items)) }
+    {
+        let Some(d) = self.core.catalog().cvd(name) else {
+            return Err(StoreErr::NoCvd);
+        };
+        let vids = listed(self.alloc, d.versions.len(), parents)?;
+        if d.versions.len() >= MOST_VERSIONS {
+            return Err(StoreErr::TooManyVersions);
+        }
+        let format = self.core.journal().format();
+        let rows = version_rows(self.alloc, &d.schema, format, false, rows)?;
+        Ok(Ask { d, vids, rows })
+    }
+
+    // A dataset's next version, ready to be stored.
+    fn next<H: Host>(
+        &self,
+        host: &mut H,
+        name: &str,
+        parents: &[u64],
+        rows: Vec<Row>,
+        message: &Txt,
+    ) -> Result<NextVersion, Unready>
+        requires fit { (s : Set) → set_in self.now.held.numbers name.now ≡ Some s → All (IsRow s.schema) rows.items }
+        requires short { All IsShort rows.items }
+        requires some { parents.now ≢ [] }
+        requires message { length message.now ≤ 1024 }
+        ensures looked { Looked (H.state host.old) (H.state host.new) }
+        ensures fetched { (s : Set) → set_in self.now.held.numbers name.now ≡ Some s
+            → (H.state host.new).fetched ≤ (H.state host.old).fetched + reads_for s parents.now }
+        ensures ready { IfOk result (λ next. IsReady next.brought self.now.held) }
+        ensures allowed { OnOk result (commit_off self.now.held name.now parents.now rows.items ≡ None) }
+        ensures by { (s : Set) → set_in self.now.held.numbers name.now ≡ Some s → IfOk result (λ next. IsCommitBy s
+            (record { vids = parents.now; message = message.now; rows = rows.items }) (H.state host.old) (bringing_of next.brought) next.fresh) }
+        ensures vid { (s : Set) → set_in self.now.held.numbers name.now ≡ Some s → IfOk result (λ next. next.vid ≡ length s.versions + 1) }
+        ensures count { OnOk result (length rows.items ≤ 1000000) }
+        ensures why { IfErr result (IsUnready self.now.held name.now (record { vids = parents.now; message = message.now; rows = rows.items })
+            (H.state host.old) (H.state host.new)) }
+        ensures brings { (w : World) (d : Dataset) → IsAtWorld w self.now.held (H.state host.old) → set_named w name.now ≡ Some d
+            → IfOk result (λ next. Brings (commit_move d parents.now message.now rows.items) w next.brought) }
+        ensures fresh { (w : World) (d : Dataset) → IsAtWorld w self.now.held (H.state host.old) → set_named w name.now ≡ Some d
+            → IfOk result (λ next. next.fresh ≡ fresh_in_world d (record { vids = parents.now; message = message.now; rows = rows.items })) }
+        ensures spared { (w : World) (d : Dataset) → IsAtWorld w self.now.held (H.state host.old) → set_named w name.now ≡ Some d
+            → IfErr result (IsSparedBy d (record { vids = parents.now; message = message.now; rows = rows.items })) }
+    {
+        let Ask { d, vids, rows } = self.ask(name, parents, rows)?;
+        let _ = self.core.is_replayed();
+        let _ = message.as_str();
+        let read = parents_of(self.alloc, host, d, &vids)?;
+        let vid = d.versions.len() as u32 + 1;
+        let wanted = Wanted {
+            vids: &vids,
+            parents: &read,
+            message,
+            rows,
+        };
+        let Commit { brought, fresh } = commit_of(self.alloc, host, d, wanted)?;
+        Ok(NextVersion {
+            brought,
+            vid,
+            fresh,
+        })
+    }
+
+    // Why a commit isn't done whose version isn't ready. After a fault of the host the store isn't used again.
+    fn uncommitted(&mut self, why: Unready) -> StoreErr
+        requires long { IsFewPages why }
+        ensures off { (refusal : StoreErrValue) → why ≡ unready.Off refusal → result ≡ refusal }
+        ensures long { (list_pages segment_pages : ℕ) (list segment : List ℕ) → why ≡ unready.TooLong list_pages segment_pages
+            → IsLong list_pages segment_pages list segment → IsNoRoom (live self.old.held.numbers) list segment result }
+        ensures unusable { result ≡ off.Host → self.new.usable ≡ false }
+        ensures same { (result ≡ off.Host → ⊥) → self.new ≡ self.old }
+    {
+        let refusal = self.unready(why);
+        if refusal == StoreErr::Host {
+            self.usable = false;
+        }
+        refusal
+    }
+
+    /// Commits rows as a dataset's next version. Its parents are versions of the dataset, and the rows may come in any order.
+    /// A row that some parent has takes that parent's record; the others get new records.
+    ///
+    /// Refusals in their order: `NoCvd`; for each parent as it is listed `NoVersion` and `RepeatedVersion`; `TooManyVersions`,
+    /// `TooManyRows`, `DuplicateKey`, `FormatOne`; `Damaged` where a parent, or the partition that the version joins, is damaged;
+    /// `TooManyRecords`, `Full`, `JournalFull`. All memory is taken before the first write.
+    ///
+    /// A commit costs the pages of its parents' lists and of the segments of their partitions, with those of the partition that
+    /// it joins once more; the writes of its list, its segment and its record; and three syncs.
+    pub fn commit<H: Host>(
+        &mut self,
+        host: &mut H,
+        name: &str,
+        parents: &[u64],
+        rows: Vec<Row>,
+        message: &Txt,
+    ) -> Result<Committed, StoreErr>
+        requires call { MayCall self.old (H.state host.old) }
+        requires fit { (s : Set) → set_in self.old.held.numbers name.now ≡ Some s → All (IsRow s.schema) rows.items }
+        requires short { All IsShort rows.items }
+        requires some { parents.now ≢ [] }
+        requires message { length message.now ≤ 1024 }
+        ensures told { (H.state host.new).tells ≡ (H.state host.old).tells }
+        ensures kept { (H.state host.new).keeps ≡ (H.state host.old).keeps }
+        ensures fetched { (s : Set) → set_in self.old.held.numbers name.now ≡ Some s
+            → (H.state host.new).fetched ≤ (H.state host.old).fetched + reads_for s parents.now }
+        ensures done { (s : Set) → set_in self.old.held.numbers name.now ≡ Some s → IfOk result (IsCommitted s
+            (record { vids = parents.now; message = message.now; rows = rows.items }) (H.state host.old) self.old.held self.new.held) }
+        ensures allowed { OnOk result (commit_off self.old.held name.now parents.now rows.items ≡ None) }
+        ensures why { IfErr result (IsUncommitted self.old.held name.now (record { vids = parents.now; message = message.now; rows = rows.items })
+            (H.state host.old) (H.state host.new)) }
+        ensures stays { IfErr result (λ off. Stays off self.old self.new (H.state host.old) (H.state host.new)) }
+        ensures usable { OnOk result (MayCall self.new (H.state host.new)) }
+        ensures unusable { IsErrOf result StoreErr.Host → self.new.usable ≡ false }
+
+        // Where the store is at a World: a stop at any moment, what was made, how many records are new, and why not.
+        ensures stops { (w : World) → IsAtWorld w self.old.held (H.state host.old) → Only (H.state host.old).tape (H.state host.new).tape
+            (IsEither w (committed name.now (record { vids = parents.now; message = message.now; rows = rows.items }) w) (H.state host.old).tape.disk.printed) }
+        ensures moves { (w : World) → IsAtWorld w self.old.held (H.state host.old) → OnOk result
+            (IsAtNext (committed name.now (record { vids = parents.now; message = message.now; rows = rows.items }) w) self.new.held (H.state host.old) (H.state host.new)) }
+        ensures fresh { (w : World) (d : Dataset) → IsAtWorld w self.old.held (H.state host.old) → set_named w name.now ≡ Some d
+            → IfOk result (λ made. made.fresh ≡ fresh_in_world d (record { vids = parents.now; message = message.now; rows = rows.items })) }
+        ensures spared { (w : World) (d : Dataset) → IsAtWorld w self.old.held (H.state host.old) → set_named w name.now ≡ Some d
+            → IfErr result (IsSparedOff d (record { vids = parents.now; message = message.now; rows = rows.items })) }
+    {
+        let count = rows.len();
+        let next = match self.next(host, name, parents, rows, message) {
+            Ok(next) => next,
+            Err(why) => return Err(self.uncommitted(why)),
+        };
+        let NextVersion {
+            brought,
+            vid,
+            fresh,
+        } = next;
+        self.change(host, brought)?;
+        Ok(Committed {
+            vid,
+            rows: count as u32,
+            fresh,
+        })
+    }
+}

@@ -1,0 +1,17 @@
+//! The store: a team's datasets in a page file and a journal.
+//!
+//! Each call that changes the store is one move of the World, taken at the opening of one gate of the journal: what a stop
+//! leaves stands for the World before the call or the one after it. A refusal changes nothing.
+#![tactic(auto)]
+
+mod committing;
+mod errors;
+mod laws;
+mod listing;
+mod reading;
+mod store;
+mod unready;
+
+pub use errors::StoreErr;
+pub use laws::refusals_are_the_worlds;
+pub use store::{Committed, Store};

@@ -1,0 +1,54 @@
+// What a store reads.
+
+ghost use Rattle.std.specs.Prelude.{◌≡◌, ◌≤◌, ◌+◌, ℕ, true, None, Some, IfOk, IfErr, OnOk, MatchResult, map};
+ghost use Rattle.std.specs.List.{AllZip};
+ghost use Rattle.ov_host.specs.declared.area.Extent.{Extent as ExtentValue};
+ghost use Rattle.ov_catalog.specs.Numbers.{SetNumbers};
+ghost use Rattle.ov_fetch.specs.Extents.{Looked, page_bytes};
+ghost use Rattle.ov_fetch.specs.Scans.{IsSound, rows_at};
+ghost use Rattle.ov_model.specs.Records.{rows_at as rows_of};
+ghost use Rattle.ov_model.specs.World.{Dataset, World, set_named};
+ghost use Rattle.ov_core.specs.AtWorld.{IsAtWorld};
+ghost use Rattle.ov_versions.specs.Found.{HasRows, IsScanned};
+ghost use Rattle.ov_versions.specs.Sizes.{bytes_for};
+ghost use Rattle.ov_store.specs.Scanning.{IsUndamaged, IsUnscanned, scan_off, set_in};
+
+use crate::errors::StoreErr;
+use crate::listing::listed;
+use crate::store::Store;
+use ov_fetch::Scan;
+use ov_host::Host;
+use ov_versions::scan_versions;
+
+impl Store {
+    /// The rows of these versions of a dataset, each in the order of its keys: a record that versions of one partition share
+    /// stands once.
+    ///
+    /// Refusals in their order: `NoCvd`, then per version from the left `NoVersion` and `RepeatedVersion`; before these nothing is
+    /// read. Then `Damaged` exactly where a list or a segment that is read is damaged, with the first page of one such. A scan
+    /// reads the list of each version once, and once each partition that serves one of them, and nothing else.
+    pub fn scan<H: Host>(&self, host: &mut H, name: &str, vids: &[u64]) -> Result<Scan, StoreErr>
+        requires usable { self.now.usable ≡ true }
+        ensures looked { Looked (H.state host.old) (H.state host.new) }
+        ensures allowed { OnOk result (scan_off self.now.held.numbers name.now vids.now ≡ None) }
+        ensures why { IfErr result (IsUnscanned (scan_off self.now.held.numbers name.now vids.now) (set_in self.now.held.numbers name.now) vids.now (H.state host.old) (H.state host.new)) }
+        ensures fetched { (s : SetNumbers ExtentValue ExtentValue) → set_in self.now.held.numbers name.now ≡ Some s
+            → (H.state host.new).fetched ≤ (H.state host.old).fetched + bytes_for s vids.now }
+        ensures vids { IfOk result (λ scan. scan.vids ≡ vids.now) }
+        ensures sound { (s : SetNumbers ExtentValue ExtentValue) → set_in self.now.held.numbers name.now ≡ Some s → IfOk result (IsSound s.schema) }
+        ensures rows { (s : SetNumbers ExtentValue ExtentValue) → set_in self.now.held.numbers name.now ≡ Some s
+            → IfOk result (λ scan. AllZip (HasRows s) vids.now scan.picks) }
+        ensures scanned { (s : SetNumbers ExtentValue ExtentValue) → (H.state host.old).tells ≡ true → set_in self.now.held.numbers name.now ≡ Some s
+            → IfOk result (λ scan. AllZip (IsScanned (page_bytes (H.state host.old)) s scan.records) vids.now scan.picks) }
+
+        // At a World nothing is damaged, and the rows are those of the versions.
+        ensures world { (w : World) (d : Dataset) → IsAtWorld w self.now.held (H.state host.old) → set_named w name.now ≡ Some d
+            → MatchResult result (λ scan. map (rows_at scan.records) scan.picks ≡ map (rows_of d.cvd.versions) vids.now) IsUndamaged }
+    {
+        let Some(d) = self.core.catalog().cvd(name) else {
+            return Err(StoreErr::NoCvd);
+        };
+        let vids = listed(self.alloc, d.versions.len(), vids)?;
+        Ok(scan_versions(self.alloc, host, d, vids)?)
+    }
+}

@@ -1,0 +1,12 @@
+pub mod Bearing
+pub mod Listing
+pub mod Parting
+pub mod Numbered
+pub mod Uniting
+pub mod Matching
+pub mod Placing
+pub mod Picked
+pub mod Gatherings
+pub mod Passed
+pub mod Ending
+pub mod Shows

@@ -1,0 +1,91 @@
+// The rows of some versions out of the segments of one partition.
+
+ghost use Rattle.std.specs.Prelude.{◌≡◌, ◌≤◌, ◌<◌, ◌+◌, ◌^◌, ℕ, true, All, IfOk, OnOk, IfErr, IsErrOf, MatchOption, length};
+ghost use Rattle.std.specs.List.{AllZip, sum_by};
+ghost use Rattle.ov_host.specs.Host.{Rose};
+ghost use Rattle.ov_fetch.specs.Extents.{Looked, page_bytes};
+ghost use Rattle.ov_fetch.specs.Rows.{RefusesRows};
+ghost use Rattle.ov_fetch.specs.Scans.{AllFit, AllStand};
+ghost use Rattle.ov_versions.specs.Gathering.{AreFull, ArePut, IsNotFull, IsRowsOf, moved};
+
+use ov_fetch::{FetchErr, Pick, Scan, Vids, rows_of};
+use ov_host::{Extent, Host};
+use ov_member::Members;
+use ov_scan::scan_of;
+use ov_value::Schema;
+use std::alloc::{AllocError, Global};
+
+/// The rows of versions whose lists are these members, out of these segments.
+pub(crate) fn scan_part<H: Host>(
+    alloc: Global,
+    host: &mut H,
+    schema: &Schema,
+    segments: &[Extent],
+    vids: Vec<u32>,
+    lists: &[Extent],
+    members: &[Members],
+) -> Result<Scan, FetchErr>
+    requires lists { length lists.now ≡ length members.now }
+    requires vids { length vids.items ≡ length members.now }
+    ensures looked { Looked (H.state host.old) (H.state host.new) }
+    ensures cause { IsErrOf result FetchErr.Host → Rose (H.state host.old).faults (H.state host.new).faults }
+    ensures fetched { (H.state host.new).fetched ≤ (H.state host.old).fetched + sum_by (λ e. e.bytes) segments.now }
+    ensures fit { IfOk result (λ scan. AllFit schema.now scan.records) }
+    ensures stand { IfOk result (λ scan. All (AllStand scan.records) scan.picks) }
+    ensures rows { IfOk result (λ scan. AllZip (IsRowsOf schema.now (H.state host.old) segments.now scan.records) members.now scan.picks) }
+    ensures err { (H.state host.old).tells ≡ true
+        → IfErr result (λ e. RefusesRows e schema.now (page_bytes (H.state host.old)) segments.now lists.now members.now) }
+{
+    let records = rows_of(alloc, host, schema, segments, lists, members)?;
+    let scan = scan_of(alloc, schema, Vids::new(vids), records, members)?;
+    // Each member has its record, or `rows_of` had refused; so no pick is short.
+    match place_short(scan.picks.as_slice(), members) {
+        None => Ok(scan),
+        Some(place) => Err(FetchErr::Damaged {
+            page: lists[place].page,
+        }),
+    }
+}
+
+// The place of the first pick that doesn't have as many positions as there are members.
+fn place_short(picks: &[Pick], members: &[Members]) -> Option<usize>
+    requires { length picks.now ≡ length members.now }
+    ensures { MatchOption result (AreFull (length members.now) picks.now members.now) (IsNotFull picks.now members.now) }
+{
+    for (place, rids) in members.iter().enumerate() {
+        if picks[place].as_slice().len() != rids.len() as usize {
+            return Some(place);
+        }
+    }
+    None
+}
+
+/// Puts the picks at their places, moved behind so many records.
+pub(crate) fn put(
+    alloc: Global,
+    picks: &mut Vec<Pick>,
+    group: &[usize],
+    more: &[Pick],
+    base: usize,
+) -> Result<(), AllocError>
+    requires paired { length more.now ≡ length group.now }
+    requires there { All (λ place. place < length picks.old.items) group.now }
+    requires fit { All (All (λ place. base + place < 2 ^ 64)) more.now }
+    ensures { OnOk result (ArePut (length group.now) base group.now more.now picks.old.items picks.new.items) }
+{
+    for (k, place) in group.iter().enumerate() {
+        picks[*place] = moved_pick(alloc, more[k].as_slice(), base)?;
+    }
+    Ok(())
+}
+
+fn moved_pick(alloc: Global, pick: &[usize], base: usize) -> Result<Pick, AllocError>
+    requires { All (λ place. base + place < 2 ^ 64) pick.now }
+    ensures { IfOk result (λ new. new ≡ moved base pick.now) }
+{
+    let mut places = Vec::with_capacity(alloc, pick.len())?;
+    for place in pick {
+        places.push(base + *place)?;
+    }
+    Ok(Pick::new(places))
+}

@@ -1,0 +1,12 @@
+pub mod Sorting
+pub mod Listing
+pub mod Keeping
+pub mod Counting
+pub mod Texts
+pub mod Reading
+pub mod Fitting
+pub mod Beginning
+pub mod Sizes
+pub mod Edges
+pub mod Following
+pub mod Given
