@@ -15,3 +15,6 @@ mod unready;
 pub use errors::StoreErr;
 pub use laws::refusals_are_the_worlds;
 pub use store::{Committed, Store};
+
+#[cfg(test)]
+mod tests;
