@@ -26,6 +26,3 @@ pub use lineage::relatives;
 pub use pairing::{Pair, pairs};
 pub use refusals::{rows_refusal, vids_refusal};
 pub use typing::kinds;
-
-#[cfg(test)]
-mod tests;

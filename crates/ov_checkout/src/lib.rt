@@ -6,7 +6,7 @@
 
 mod text;
 
-pub use text::checkout_text;
+pub use text::{Checkout, checkout_of, checkout_text};
 
 #[cfg(test)]
 mod tests;

@@ -2,7 +2,6 @@
 use Rattle.std.proofs.Common.{◌≡◌, ℕ, Bool, true, List, [], sym, subst}
 use Rattle.std.specs.Prelude.{Option, Result, Ok, Err, MatchResult, IsErr, IsErrAnd}
 use Rattle.std.proofs.lemmas.Bool.{true≢false}
-use Rattle.ov_fetch.specs.declared.errors.FetchErr.{FetchErr}
 use Rattle.ov_fetch.specs.declared.errors.FetchErr.TheVariants as fetch
 use Rattle.ov_host.specs.declared.area.Extent.{Extent}
 use Rattle.ov_place.specs.declared.place_facts.Place.{Place}
@@ -15,7 +14,10 @@ use Rattle.ov_writing.specs.declared.write_err.WriteErr.{WriteErr}
 use Rattle.ov_writing.specs.declared.write_err.WriteErr.TheVariants as write
 use Rattle.ov_committing.specs.Asked.{Asked}
 use Rattle.ov_committing.specs.Commits.{Refuses}
-use Rattle.ov_committing.specs.Errors.{of_fetch, of_write}
+use Rattle.ov_committing.specs.Errors.{of_write}
+use Rattle.ov_committing.specs.Held.{IsOfHeld, RefusesHeld}
+use Rattle.ov_committing.specs.declared.errors.CommitErr.{CommitErr}
+use Rattle.ov_committing.specs.declared.errors.CommitErr.TheVariants.{Memory, Damaged, TooManyRecords, TooLong}
 use Rattle.ov_committing.specs.Joined.{joined_of, IsReadOf, RefusesJoined}
 use Rattle.ov_committing.proofs.Making.{IsMade, too_long}
 
@@ -23,11 +25,12 @@ pub err_match : {X E : Type 0} (P : X → Type 0) (Q : E → Type 0) (r : Result
 err_match P Q (Ok x) e h q = absurd (true≢false (sym h.0))
 err_match P Q (Err x) e h q = subst Q (sym h.1) q
 
-pub not_held : (a : Asked) (told : Bool) (area : List ℕ) (part : Option (PartNumbers Extent)) (e : FetchErr) → part ≡ joined_of a → (told ≡ true → RefusesJoined e a.set area part)
-    → Refuses (of_fetch e) a told area
-not_held a told area part fetch.Host is why = tt
-not_held a told area part fetch.Memory is why = tt
-not_held a told area part (fetch.Damaged page) is why = λ tells. subst (RefusesJoined (fetch.Damaged page) a.set area) is (why tells)
+pub not_held : (a : Asked) (told : Bool) (area : List ℕ) (part : Option (PartNumbers Extent)) (e : CommitErr) → part ≡ joined_of a → (told ≡ true → RefusesHeld e a.set area part)
+    → IsOfHeld e → Refuses e a told area
+not_held a told area part Memory is why of_held = tt
+not_held a told area part (Damaged page) is why of_held = λ tells. subst (RefusesJoined (fetch.Damaged page) a.set area) is (why tells)
+not_held a told area part TooManyRecords is why of_held = absurd of_held
+not_held a told area part (TooLong list_pages segment_pages) is why of_held = absurd of_held
 
 pub not_written : (a : Asked) (made : Assigned) (place : Place) (is : IsMade a made place) (held : List ℕ) (own : place ≡ Own → held ≡ []) (told : Bool) (area : List ℕ) (e : WriteErr)
     → JoinedAgrees a.set place held → (told ≡ true → IsReadOf a.set area (joined_of a) held) → IsWhy e held made.rids a.rows → Refuses (of_write e) a told area

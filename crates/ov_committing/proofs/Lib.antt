@@ -3,5 +3,6 @@ pub mod Holding
 pub mod Making
 pub mod Answering
 pub mod Worlds
-pub mod Counting
+pub mod Served
+pub mod Finding
 pub mod Trying

@@ -112,7 +112,7 @@ in_range count [] vid are is = absurd is
 in_range count (v ∷ vids) vid are (inl same) = subst (λ n. (1 ≤ n) × (n ≤ count)) (sym same) are.0
 in_range count (v ∷ vids) vid are (inr later) = in_range count vids vid are.1 later
 
-as_many : (s : Numbers) (vids : List ℕ) (parents : List (List Record)) → EachAgrees s vids parents → length parents ≡ length vids
+pub as_many : (s : Numbers) (vids : List ℕ) (parents : List (List Record)) → EachAgrees s vids parents → length parents ≡ length vids
 as_many s [] [] are = refl
 as_many s [] (records ∷ parents) are = absurd are
 as_many s (vid ∷ vids) [] are = absurd are

@@ -1,15 +1,15 @@
 -- A commit to a dataset of a World.
-use Rattle.std.proofs.Common.{◌≡◌, ◌≢◌, ◌<◌, ◌+◌, ◌^◌, ℕ, Bool, true, false, ◌==◌, cond, List, [], ◌∷◌, length, map, refl, sym, ◌∙◌, ap, subst, inl, inr, arith}
+use Rattle.std.proofs.Common.{◌≡◌, ◌≢◌, ◌≤◌, ◌<◌, ◌+◌, ◌^◌, ℕ, Bool, true, false, ◌==◌, cond, List, [], ◌∷◌, length, map, refl, sym, ◌∙◌, ap, subst, inl, inr, arith}
 use Rattle.std.specs.Prelude.{◌⊎◌, Option, Some, None}
 use Rattle.std.specs.List.{list_any, sum_by, zip}
 use Rattle.std.proofs.lemmas.Bool.{cases_Bool, eqb-true}
 use Rattle.std.proofs.lemmas.List.{length-append}
 use Rattle.std.proofs.lemmas.List.Sums.{sum_by-cons}
-use Rattle.ov_fetch.specs.declared.errors.FetchErr.{FetchErr}
+use Rattle.ov_event.specs.declared.event.Event.TheVariants as says
 use Rattle.ov_fetch.specs.declared.errors.FetchErr.TheVariants as fetch
 use Rattle.ov_graph.specs.Versions.{heaviest}
 use Rattle.ov_host.specs.declared.area.Extent.{Extent}
-use Rattle.ov_member.specs.Rids.{has}
+use Rattle.ov_member.specs.Rids.{has, left_out}
 use Rattle.ov_place.specs.Placement.{placed}
 use Rattle.ov_place.specs.declared.place_facts.Place.{Place}
 use Rattle.ov_place.specs.declared.place_facts.Place.TheVariants.{Own, Join}
@@ -23,24 +23,32 @@ use Rattle.ov_model.proofs.Sharing.{fresh_is as fresh_records}
 use Rattle.ov_records.specs.Committed.{AreRecords}
 use Rattle.ov_records.specs.declared.outcome.Assigned.{Assigned}
 use Rattle.ov_catalog.specs.Applying.{copied_in, facts_of, id_in, is_place, is_unmoved, part_numbered, part_serving}
+use Rattle.ov_catalog.specs.Events as events
 use Rattle.ov_catalog.specs.Numbers.{PartNumbers, PlanNumbers, SetNumbers, each_part, each_plan, each_set}
 use Rattle.ov_catalog.specs.Shown.{held_by, shown_plan, shown_set}
+use Rattle.ov_core.specs.Brought.{extent_at, segments_in}
+use Rattle.ov_image.specs.Lists.{list_in}
 use Rattle.ov_image.specs.Pages.{readings_of}
 use Rattle.ov_fitting.proofs.Seeing.{place_shown}
-use Rattle.ov_writing.specs.Next.{IsNext, held_at}
+use Rattle.ov_writing.specs.Next.{IsNext, held_at, spelled_place}
+use Rattle.ov_writing.specs.Written.{AreGiven, IsWhy, list_written, segment_written}
+use Rattle.ov_writing.specs.declared.write_err.WriteErr.{WriteErr}
+use Rattle.ov_writing.specs.declared.write_err.WriteErr.TheVariants as write
 use Rattle.ov_writing.proofs.Edges.{weights_zip}
+use Rattle.ov_writing.proofs.Following.{asked_of, event_asked, known_of, place_back}
 use Rattle.ov_sights.specs.Sights.{HasNumbers}
 use Rattle.ov_sights.proofs.Counted.{numbers}
 use Rattle.ov_sights.proofs.Parted.{rids}
 use Rattle.ov_sights.proofs.Served.{part_spared}
 use Rattle.ov_sights.proofs.Together.{has_listed}
 use Rattle.ov_committing.specs.declared.errors.CommitErr.{CommitErr}
-use Rattle.ov_committing.specs.declared.errors.CommitErr.TheVariants.{Memory, TooManyRecords}
+use Rattle.ov_committing.specs.declared.errors.CommitErr.TheVariants.{Memory, Damaged, TooManyRecords, TooLong}
 use Rattle.ov_committing.specs.Asked.{Asked, edges_of, fresh_of}
-use Rattle.ov_committing.specs.Errors.{of_fetch}
+use Rattle.ov_committing.specs.Errors.{of_write}
+use Rattle.ov_committing.specs.Held.{RefusesHeld}
 use Rattle.ov_committing.specs.Joined.{part_at, IsPlaceThere, IsReadOf, RefusesJoined}
 use Rattle.ov_committing.specs.OfWorld.{IsAsked, IsSpared, version_in, records_with}
-use Rattle.ov_committing.proofs.Making.{IsMade}
+use Rattle.ov_committing.proofs.Making.{IsMade, MayBe}
 
 -- ---- what decides on a place, whatever is in the holes
 
@@ -122,16 +130,17 @@ module _ (a : Asked) (w : World) (ds : Dataset) (area : List ℕ) (asked : IsAsk
       ∙ (λ i. sym counts.records i + length (fresh_in ours (number i)))
       ∙ ap (λ n. a.set.records + n) (sym fresh_shown)
 
-  pub too_many : 2 ^ 31 < a.set.records + fresh_of a → IsSpared TooManyRecords a ds
+  pub too_many : 2 ^ 31 < a.set.records + fresh_of a → IsSpared TooManyRecords a w ds
   too_many many = subst (λ n. 2 ^ 31 < n) (sym all_records) many
 
   -- ---- nothing is damaged
 
-  pub spared : (place : Place) (e : FetchErr) → IsPlaceThere a.set place → RefusesJoined e a.set area (part_at a.set place) → IsSpared (of_fetch e) a ds
-  spared place fetch.Host there why = tt
-  spared place fetch.Memory there why = tt
-  spared Own (fetch.Damaged page) there why = absurd why
-  spared (Join id) (fetch.Damaged page) there why = by (part_numbered a.set.parts id) refl why
+  pub spared : (place : Place) (e : CommitErr) → IsPlaceThere a.set place → RefusesHeld e a.set area (part_at a.set place) → IsSpared e a w ds
+  spared place Memory there why = tt
+  spared place TooManyRecords there why = absurd why
+  spared place (TooLong list_pages segment_pages) there why = absurd why
+  spared Own (Damaged page) there why = absurd why
+  spared (Join id) (Damaged page) there why = by (part_numbered a.set.parts id) refl why
     where
       by : (o : Option (PartNumbers Extent)) → part_numbered a.set.parts id ≡ o → RefusesJoined (fetch.Damaged page) a.set area o → ⊥
       by None is why = absurd why
@@ -185,8 +194,30 @@ module _ (a : Asked) (w : World) (ds : Dataset) (area : List ℕ) (asked : IsAsk
       held_is = held_shown place held there read;
     }
 
+    -- what is too long is what the World asks for
+    pub too_much : MayBe a → AreGiven made.rids a.rows → (vid : ℕ) (held : List ℕ) → IsNext ds (version_in a) vid made place held
+        → (e : WriteErr) → IsWhy e held made.rids a.rows → IsSpared (of_write e) a w ds
+    too_much may given vid held next write.Memory why = tt
+    too_much may given vid held next (write.TooLong list_pages segment_pages) why =
+        let list : List ℕ = list_written made.rids
+        in let segment : List ℕ = segment_written held made.rids a.rows
+        in let number : ℕ = a.set.number
+        in record {
+          event = says.Commit number vid a.message (zip a.vids made.weights) (length a.rows) made.fresh (spelled_place place) (length (left_out made.rids held))
+              (extent_at 0 list) (extent_at 0 segment);
+          list = list;
+          segment = segment;
+          says = (λ i. events.Commit number vid a.message (zip a.vids made.weights) (length a.rows) made.fresh (place_back place i) (length (left_out made.rids held)) (list_in list) (segments_in segment))
+              ∙ event_asked ds (version_in a) vid made place held a.set.schema (known_of number w ds asked.of_world.reached asked.of_world.among) next may.rows given number
+              ∙ sym (asked_of number a.vids a.message a.rows w ds asked.of_world.among);
+          sized = refl;
+          runs = tt;
+          long = why;
+          room = subst (λ n. n ≤ 2 ^ 31) (sym all_records) may.room;
+        }
+
 -- ---- too many records, or no memory
 
-pub made_spared : (a : Asked) (w : World) (ds : Dataset) (area : List ℕ) → IsAsked a w ds area → (e : CommitErr) → (e ≡ Memory) ⊎ ((e ≡ TooManyRecords) × (2 ^ 31 < a.set.records + fresh_of a)) → IsSpared e a ds
-made_spared a w ds area asked e (inl memory) = subst (λ x. IsSpared x a ds) (sym memory) tt
-made_spared a w ds area asked e (inr many) = subst (λ x. IsSpared x a ds) (sym many.0) (too_many a w ds area asked many.1)
+pub made_spared : (a : Asked) (w : World) (ds : Dataset) (area : List ℕ) → IsAsked a w ds area → (e : CommitErr) → (e ≡ Memory) ⊎ ((e ≡ TooManyRecords) × (2 ^ 31 < a.set.records + fresh_of a)) → IsSpared e a w ds
+made_spared a w ds area asked e (inl memory) = subst (λ x. IsSpared x a w ds) (sym memory) tt
+made_spared a w ds area asked e (inr many) = subst (λ x. IsSpared x a w ds) (sym many.0) (too_many a w ds area asked many.1)

@@ -11,7 +11,7 @@ use Rattle.ov_agree.specs.Committing.{JoinedAgrees, added_for}
 use Rattle.ov_writing.specs.Next.{spelled_place}
 use Rattle.ov_writing.specs.Written.{IsLong, list_written, segment_written}
 use Rattle.ov_committing.specs.declared.errors.CommitErr.{CommitErr}
-use Rattle.ov_committing.specs.declared.errors.CommitErr.TheVariants.{Host, Memory, Damaged, TooManyRecords, TooLong}
+use Rattle.ov_committing.specs.declared.errors.CommitErr.TheVariants.{Memory, Damaged, TooManyRecords, TooLong}
 use Rattle.ov_committing.specs.Asked.{Asked, rids_of, fresh_of, edges_of, place_of}
 use Rattle.ov_committing.specs.Joined.{joined_of, IsReadOf, RefusesJoined}
 
@@ -39,9 +39,8 @@ pub record IsTooLong (a : Asked) (told : Bool) (area : List ℕ) (list_pages seg
   pub commit : IsCommitOf a told area event list segment
   pub long : IsLong list_pages segment_pages list segment
 
--- want of memory and a fault of the host say nothing of the bytes
+-- want of memory says nothing of the bytes
 abbrev pub Refuses : CommitErr → Asked → Bool → List ℕ → Type 0
-Refuses Host a told area = Unit {0}
 Refuses Memory a told area = Unit {0}
 Refuses (Damaged page) a told area = told ≡ true → RefusesJoined (fetch.Damaged page) a.set area (joined_of a)
 Refuses TooManyRecords a told area = 2 ^ 31 < a.set.records + fresh_of a

@@ -1,21 +1,14 @@
 -- Errors of the crates below as a commit has them.
-use Rattle.ov_fetch.specs.declared.errors.FetchErr.{FetchErr}
-use Rattle.ov_fetch.specs.declared.errors.FetchErr.TheVariants as fetch
 use Rattle.ov_records.specs.declared.outcome.AssignErr.{AssignErr}
 use Rattle.ov_records.specs.declared.outcome.AssignErr.TheVariants as assign
 use Rattle.ov_writing.specs.declared.write_err.WriteErr.{WriteErr}
 use Rattle.ov_writing.specs.declared.write_err.WriteErr.TheVariants as write
 use Rattle.ov_committing.specs.declared.errors.CommitErr.{CommitErr}
-use Rattle.ov_committing.specs.declared.errors.CommitErr.TheVariants.{Host, Memory, Damaged, TooManyRecords, TooLong}
+use Rattle.ov_committing.specs.declared.errors.CommitErr.TheVariants.{Memory, TooManyRecords, TooLong}
 
 abbrev pub of_assign : AssignErr → CommitErr
 of_assign assign.TooManyRecords = TooManyRecords
 of_assign assign.Memory = Memory
-
-abbrev pub of_fetch : FetchErr → CommitErr
-of_fetch fetch.Host = Host
-of_fetch fetch.Memory = Memory
-of_fetch (fetch.Damaged page) = Damaged page
 
 abbrev pub of_write : WriteErr → CommitErr
 of_write write.Memory = Memory

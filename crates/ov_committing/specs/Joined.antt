@@ -1,10 +1,8 @@
 -- The partition that a version joins, and what is read of it.
 --     part_at s place      the partition of the place; none where the version gets its own
 --     joined_of a      it is the one that serves the tree parent
---     part_bytes part      how many bytes its segments have
 --     IsReadOf, RefusesJoined      what is read, and why it isn't
 use Rattle.std.specs.Prelude.{◌≡◌, ◌≢◌, ℕ, List, [], Option, Some, None}
-use Rattle.std.specs.List.{sum_by}
 use Rattle.ov_graph.specs.Versions.{heaviest}
 use Rattle.ov_host.specs.declared.area.Extent.{Extent}
 use Rattle.ov_place.specs.declared.place_facts.Place.{Place}
@@ -13,7 +11,7 @@ use Rattle.ov_fetch.specs.declared.errors.FetchErr.{FetchErr}
 use Rattle.ov_fetch.specs.declared.errors.FetchErr.TheVariants.{Host, Memory, Damaged}
 use Rattle.ov_catalog.specs.Applying.{part_numbered, part_serving}
 use Rattle.ov_catalog.specs.Numbers.{PartNumbers}
-use Rattle.ov_versions.specs.Agreement.{Numbers, segments_in}
+use Rattle.ov_versions.specs.Agreement.{Numbers}
 use Rattle.ov_versions.specs.Damages.{RefusesPart}
 use Rattle.ov_versions.specs.Partitions.{IsPartRead}
 use Rattle.ov_committing.specs.Asked.{Asked, edges_of, place_of}
@@ -29,9 +27,6 @@ if_joined (Join id) part = part
 -- the parent of the heaviest edge is the tree parent, and one of the parents
 abbrev pub joined_of : Asked → Option (PartNumbers Extent)
 joined_of a = if_joined (place_of a) (part_serving a.set.parts (heaviest (edges_of a)).0)
-
-abbrev pub part_bytes : Option (PartNumbers Extent) → ℕ
-part_bytes part = sum_by (λ e. e.bytes) (segments_in part)
 
 -- these are the rids of its records
 abbrev pub IsReadOf : Numbers → List ℕ → Option (PartNumbers Extent) → List ℕ → Type 0

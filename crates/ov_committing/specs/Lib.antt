@@ -1,5 +1,6 @@
 pub mod Errors
 pub mod Asked
 pub mod Joined
+pub mod Held
 pub mod Commits
 pub mod OfWorld

@@ -2,9 +2,8 @@
 
 ghost use Rattle.std.specs.Prelude.{◌≡◌};
 ghost use Rattle.ov_committing.specs.declared.errors.CommitErr.TheVariants as why;
-ghost use Rattle.ov_committing.specs.Errors.{of_assign, of_fetch, of_write};
+ghost use Rattle.ov_committing.specs.Errors.{of_assign, of_write};
 
-use ov_fetch::FetchErr;
 use ov_records::AssignErr;
 use ov_writing::WriteErr;
 use std::alloc::AllocError;
@@ -12,12 +11,10 @@ use std::alloc::AllocError;
 /// Why a version isn't committed.
 #[derive(Clone, Copy, Debug, PartialEq, Eq)]
 pub enum CommitErr {
-    /// The host failed.
-    Host,
     /// There was no memory.
     Memory,
-    /// A segment of the partition that the version joins is short or off its grammar, or together they don't bear out the
-    /// catalog's numbers. The page is the first one of such a segment.
+    /// The segments of the partition that the version joins don't bear out the catalog's numbers. The page is the first one of
+    /// the first of them.
     Damaged { page: u32 },
     /// The dataset would have over 2^31 records.
     TooManyRecords,
@@ -41,18 +38,6 @@ impl From<AssignErr> for CommitErr {
         match error {
             AssignErr::TooManyRecords => CommitErr::TooManyRecords,
             AssignErr::Memory => CommitErr::Memory,
-        }
-    }
-}
-
-impl From<FetchErr> for CommitErr {
-    ghost from_gives = { λ off made. made ≡ of_fetch off };
-
-    fn from(error: FetchErr) -> CommitErr {
-        match error {
-            FetchErr::Host => CommitErr::Host,
-            FetchErr::Memory => CommitErr::Memory,
-            FetchErr::Damaged { page } => CommitErr::Damaged { page },
         }
     }
 }

@@ -1,57 +1,93 @@
 // What the partition that a version joins holds already.
 
-ghost use Rattle.std.specs.Prelude.{◌≡◌, ◌≤◌, ◌+◌, true, None, IfOk, IsErrOf, MatchResult, [], option_copied};
-ghost use Rattle.ov_host.specs.Host.{Rose};
+ghost use Rattle.std.specs.Prelude.{◌≡◌, ◌<◌, ℕ, true, List, None, IfOk, IfErr, MatchOption, MatchResult, [], length, slice_get};
 ghost use Rattle.ov_layout.specs.Parts.{AreParts, part_numbered};
+ghost use Rattle.ov_member.specs.Rids.{AreRids};
 ghost use Rattle.ov_place.specs.declared.place_facts.Place.TheVariants as at;
 ghost use Rattle.ov_catalog.specs.Sets.{set_in};
-ghost use Rattle.ov_fetch.specs.Extents.{Looked, page_bytes};
+ghost use Rattle.ov_value.specs.Shapes.{Shape};
+ghost use Rattle.ov_fetch.specs.Rows.{HaveRids};
 ghost use Rattle.ov_agree.specs.Committing.{JoinedAgrees};
-ghost use Rattle.ov_committing.specs.Joined.{part_at, part_bytes, IsPlaceThere, IsReadOf, RefusesJoined};
+ghost use Rattle.ov_versions.specs.Agreement.{IsBorneOut};
+ghost use Rattle.ov_versions.specs.Damages.{first_page};
+ghost use Rattle.ov_versions.specs.Partitions.{AreHeld, IsPartRead};
+ghost use Rattle.ov_committing.specs.Held.{IsOfHeld, IsServed, RefusesHeld, RefusesRids};
+ghost use Rattle.ov_committing.specs.Joined.{part_at, IsPlaceThere, IsReadOf};
 
+use crate::errors::CommitErr;
 use ov_catalog::Cvd;
-use ov_fetch::FetchErr;
-use ov_host::Host;
+use ov_host::Extent;
 use ov_layout::Part;
 use ov_member::Members;
 use ov_place::Place;
-use ov_versions::rids_in_part;
+use ov_versions::{PartRids, rids_together};
 use std::alloc::{AllocError, Global};
 
 /// The rids of the records that are there already where a version goes: none for a partition of its own, and else those of
-/// the partition that it joins, of which each segment is read once.
-pub(crate) fn held_at<H: Host>(
+/// the partition that it joins, out of what was read of the dataset's partitions.
+pub(crate) fn held_at(
     alloc: Global,
-    host: &mut H,
     d: &Cvd,
     place: Place,
-) -> Result<Members, FetchErr>
-    requires { IsPlaceThere (set_in d.now) place }
+    held: &[PartRids],
+) -> Result<Members, CommitErr>
+    requires there { IsPlaceThere (set_in d.now) place }
+    requires held { length held.now ≡ length d.now.layout.parts }
     ensures sound { AreParts d.now.layout.parts d.now.layout.next }
-    ensures looked { Looked (H.state host.old) (H.state host.new) }
-    ensures cause { IsErrOf result FetchErr.Host → Rose (H.state host.old).faults (H.state host.new).faults }
-    ensures fetched { (H.state host.new).fetched ≤ (H.state host.old).fetched + part_bytes (part_at (set_in d.now) place) }
     ensures agrees { IfOk result (JoinedAgrees (set_in d.now) place) }
-    ensures own { IfOk result (λ held. place ≡ at.Own → held ≡ []) }
-    ensures answer { (H.state host.old).tells ≡ true → MatchResult result
-        (IsReadOf (set_in d.now) (page_bytes (H.state host.old)) (part_at (set_in d.now) place))
-        (λ e. RefusesJoined e (set_in d.now) (page_bytes (H.state host.old)) (part_at (set_in d.now) place)) }
+    ensures own { IfOk result (λ rids. place ≡ at.Own → rids ≡ []) }
+    ensures cause { IfErr result IsOfHeld }
+    ensures answer { (area vids : List ℕ) → AreHeld true area (set_in d.now) vids held.now → IsServed vids (part_at (set_in d.now) place)
+        → MatchResult result (IsReadOf (set_in d.now) area (part_at (set_in d.now) place))
+        (λ e. RefusesHeld e (set_in d.now) area (part_at (set_in d.now) place)) }
 {
     let parts = d.layout.parts();
     match place {
         Place::Own => Ok(no_rids(alloc)?),
-        Place::Join(id) => match part_with(parts, id) {
-            Some(part) => rids_in_part(alloc, host, d, part),
+        Place::Join(id) => match place_with(parts, id) {
+            Some(at) => rids_of(alloc, &parts[at], held[at].as_slice(), d.records),
             None => unreachable!(),
         },
     }
 }
 
-// The partition with a number.
-fn part_with(parts: &[Part], id: u32) -> Option<&Part>
-    ensures { option_copied result ≡ part_numbered id parts.now }
+// Where the partition with a number stands.
+fn place_with(parts: &[Part], id: u32) -> Option<usize>
+    ensures { MatchOption result (part_numbered id parts.now ≡ None)
+        (λ place. (place < length parts.now) × (part_numbered id parts.now ≡ slice_get parts.now place)) }
 {
-    parts.iter().find(|part| part.id == id)
+    for (place, part) in parts.iter().enumerate() {
+        if part.id == id {
+            return Some(place);
+        }
+    }
+    None
+}
+
+// The rids of a partition, out of those of each of its segments.
+fn rids_of(alloc: Global, part: &Part, sets: &[Members], last: u32) -> Result<Members, CommitErr>
+    ensures set { IfOk result AreRids }
+    ensures agree { IfOk result (IsBorneOut part.now.records last) }
+    ensures cause { IfErr result IsOfHeld }
+    ensures answer { (schema : Shape) (area : List ℕ) → HaveRids schema area part.now.segments sets.now → MatchResult result
+        (IsPartRead schema area part.now.segments) (λ e. RefusesRids e schema area part.now.segments part.now.records last) }
+{
+    match rids_together(alloc, sets, part.records, last)? {
+        Some(all) => Ok(all),
+        None => Err(CommitErr::Damaged {
+            page: page_of(part.segments.as_slice()),
+        }),
+    }
+}
+
+// The page that names a partition: the first one of its first segment.
+fn page_of(segments: &[Extent]) -> u32
+    ensures { result ≡ first_page segments.now }
+{
+    match segments {
+        [first, ..] => first.page,
+        [] => 0,
+    }
 }
 
 fn no_rids(alloc: Global) -> Result<Members, AllocError>

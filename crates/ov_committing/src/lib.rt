@@ -1,8 +1,9 @@
 //! From the records of a commit's parents to the event, the list and the segment of a dataset's next version.
 //!
 //! The rids of the version's rows come from its parents' records, and its place from the dataset's numbers. Where it joins a
-//! partition, the rids of that one are read, so that its segment has only what is lacking there. Nothing is written here, and
-//! what was read is tested against the numbers of the catalog, so the event applies on every host.
+//! partition, that one serves a parent, so its rids were read with the parents' records, and its segment has only what is
+//! lacking there. Nothing is read or written here, and what was read is tested against the numbers of the catalog, so the
+//! event applies on every host.
 #![tactic(auto)]
 
 mod committing;

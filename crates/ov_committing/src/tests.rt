@@ -1,4 +1,4 @@
-//! A commit upon the first version of `people`, whose bytes stand in memory.
+//! A commit upon the first version of `people`, whose records were read.
 
 ghost use Rattle.std.specs.Prelude.{◌≡◌, ◌≤◌, ◌<◌, ◌^◌, [], ◌∷◌, length, map, IfOk};
 ghost use Rattle.std.specs.Bool.{OnTrue};
@@ -17,16 +17,15 @@ use ov_agree::first_disagreeing;
 use ov_catalog::{Catalog, Cvd, Version};
 use ov_event::{Event, Items, Placed, RawSchema};
 use ov_host::Extent;
-use ov_memhost::MemHost;
+use ov_member::Members;
 use ov_segment::{Record, Records, read_segment};
 use ov_value::{Column, Kind, Row, Schema, Txt};
+use ov_versions::PartRids;
 use std::alloc::{AllocError, Global};
 use std::cmp::Ordering;
 use std::test::*;
 
 // Version 1 has the records 1 and 2: (1, ann, 10) and (2, bob, 20).
-const LIST_1: &[u8] = b"\0\0\0\x01\0\0\0\x02";
-
 const SEGMENT_1: &[u8] = b"\0\0\0\x01\0\0\0\x17\0\0\0\0\0\0\0\x01\0\0\0\x03ann\0\0\0\0\0\0\0\x0a\
 \0\0\0\x02\0\0\0\x17\0\0\0\0\0\0\0\x02\0\0\0\x03bob\0\0\0\0\0\0\0\x14";
 
@@ -41,16 +40,15 @@ const LIST_2: &[u8] = b"\0\0\0\x01\0\0\0\x01\0\0\0\x03\0\0\0\x02";
 const SEGMENT_2: &[u8] = b"\0\0\0\x03\0\0\0\x17\0\0\0\0\0\0\0\x02\0\0\0\x03bob\0\0\0\0\0\0\0\x19\
 \0\0\0\x04\0\0\0\x16\0\0\0\0\0\0\0\x03\0\0\0\x02cy\0\0\0\0\0\0\0\x1e";
 
-fn pages(alloc: Global) -> Result<Vec<u8>, Fail> {
-    let mut bytes = Vec::from_slice(alloc, LIST_1)?;
-    bytes.resize(4096, 0)?;
-    bytes.extend_from_slice(SEGMENT_1)?;
-    bytes.resize(8192, 0)?;
-    Ok(bytes)
-}
-
-fn host_of(alloc: Global, pages: Vec<u8>) -> MemHost {
-    MemHost::new(alloc, pages, Vec::new(alloc), Vec::new(alloc))
+// What the one partition holds, by the rids of its one segment.
+fn held_of(alloc: Global, rids: &[u32]) -> Result<Vec<PartRids>, AllocError> {
+    let mut sets = Vec::new(alloc);
+    if let Some(members) = Members::of(alloc, rids)? {
+        sets.push(members)?;
+    }
+    let mut held = Vec::new(alloc);
+    held.push(PartRids::new(sets))?;
+    Ok(held)
 }
 
 fn schema(alloc: Global) -> Result<RawSchema, AllocError> {
@@ -190,9 +188,9 @@ fn has_room(d: &Cvd, rows: &[Row], message: &Txt) -> bool
 // The commit of the listed rows upon the first version, where it may be asked.
 fn commit_upon_first(
     alloc: Global,
-    host: &mut MemHost,
     d: &Cvd,
     parent: Records,
+    held: &[PartRids],
     listed: &Records,
     message: &Txt,
 ) -> Result<Commit, CommitErr>
@@ -205,28 +203,31 @@ fn commit_upon_first(
         return Err(CommitErr::Memory);
     }
     let parents = alone(alloc, parent)?;
-    if first_disagreeing(alloc, &parents)?.is_some() {
+    let one_each = held.len() == d.layout.parts().len();
+    if !one_each || first_disagreeing(alloc, &parents)?.is_some() {
         return Err(CommitErr::Memory);
     }
     let wanted = Wanted {
         vids: &[1],
         parents: &parents,
+        held,
         message,
         rows,
     };
-    commit_of(alloc, host, d, wanted)
+    commit_of(alloc, d, wanted)
 }
 
-// The commit of the second version, over these pages.
-fn second(alloc: Global, host: &mut MemHost, catalog: &Catalog) -> Result<Commit, CommitErr> {
+// The commit of the second version, where the partition holds these rids.
+fn second(alloc: Global, rids: &[u32], catalog: &Catalog) -> Result<Commit, CommitErr> {
     match catalog.cvd("people") {
         Some(d) => {
             let parent = records_in(alloc, &d.schema, SEGMENT_1)?;
             let listed = records_in(alloc, &d.schema, ROWS_2)?;
             let message = Txt::new(alloc, "raise")?;
-            commit_upon_first(alloc, host, d, parent, &listed, &message)
+            let held = held_of(alloc, rids)?;
+            commit_upon_first(alloc, d, parent, &held, &listed, &message)
         }
-        None => Err(CommitErr::Host),
+        None => Err(CommitErr::Memory),
     }
 }
 
@@ -253,33 +254,28 @@ fn is_second(event: &Event) -> bool {
 fn only_what_the_partition_lacks_is_written(rt: HostRuntime) -> Result<(), Fail> {
     let alloc = rt.alloc();
     let catalog = catalog(alloc)?;
-    let mut host = host_of(alloc, pages(alloc)?);
-    let Commit { brought, fresh } = second(alloc, &mut host, &catalog)?;
+    let Commit { brought, fresh } = second(alloc, &[1, 2], &catalog)?;
     assert_eq!(rt; fresh, 2);
     assert_eq!(rt; brought.list.as_slice(), LIST_2);
     assert_eq!(rt; brought.segment.as_slice(), SEGMENT_2);
-    assert_eq!(rt; host.calls(), 1);
     assert!(rt; is_second(&brought.event));
     Ok(())
 }
 
-// A byte of the pages, and what it becomes: a length, a rid that stands before an earlier one, and one that no version has.
-const DAMAGES: [(usize, u8); 3] = [(4103, 0x16), (4130, 1), (4130, 3)];
+// Rids that a partition of two records doesn't have: too few, too many, and one that no version has. Rids that don't ascend
+// make no set.
+const OFF: [&[u32]; 4] = [&[1], &[1, 2, 3], &[1, 3], &[2, 1]];
 
 #[test]
-fn a_damaged_partition_is_named_by_its_page(rt: HostRuntime) -> Result<(), Fail> {
+fn a_partition_that_disagrees_is_named_by_its_first_page(rt: HostRuntime) -> Result<(), Fail> {
     let alloc = rt.alloc();
     let catalog = catalog(alloc)?;
-    for (place, byte) in DAMAGES {
-        let mut pages = pages(alloc)?;
-        if place < pages.len() {
-            pages[place] = byte;
-        }
-        let refused = second(alloc, &mut host_of(alloc, pages), &catalog).err();
+    for rids in OFF {
+        let refused = second(alloc, rids, &catalog).err();
         assert_eq!(rt;
             refused,
             Some(CommitErr::Damaged { page: 1 }),
-            "byte {place}"
+            "rids {rids:?}"
         );
     }
     Ok(())

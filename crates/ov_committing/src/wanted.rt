@@ -3,6 +3,7 @@
 use ov_core::Brought;
 use ov_segment::Records;
 use ov_value::{Row, Txt};
+use ov_versions::PartRids;
 
 /// A version that is to be committed.
 #[derive(Drop)]
@@ -11,6 +12,8 @@ pub struct Wanted<'a> {
     pub vids: &'a [u32],
     /// The records of each of them, in key order.
     pub parents: &'a [Records],
+    /// For each partition of the dataset, in their order, the rids of each of its segments, where it serves a parent.
+    pub held: &'a [PartRids],
     pub message: &'a Txt,
     /// Its rows, in key order.
     pub rows: Vec<Row>,

@@ -4,6 +4,7 @@ pub mod Reserving
 pub mod Placing
 pub mod Extents
 pub mod Ranges
+pub mod Growing
 pub mod Storing
 pub mod Changing
 pub mod Keeping

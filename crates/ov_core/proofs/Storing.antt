@@ -1,7 +1,7 @@
 -- A record over pages in which the live extents stay stands for the World before a move or for the one after it.
-use Rattle.std.proofs.Common.{◌≡◌, ◌⊎◌, inl, inr, ℕ, List, [], ◌∷◌, ◌++◌, length, refl, sym, ◌∙◌, ap, subst, arith, length-append}
+use Rattle.std.proofs.Common.{◌≡◌, ◌⊎◌, inl, inr, ℕ, List, [], ◌∷◌, ◌++◌, refl, sym, ◌∙◌, ap, subst}
 use Rattle.ov_host.specs.declared.area.Extent.{Extent}
-use Rattle.ov_host.specs.Disk.{Image, Stored, Leaves, MayLeave, as_read, settled, settled_leaves_itself}
+use Rattle.ov_host.specs.Disk.{Image, Leaves, as_read}
 use Rattle.ov_host.specs.Host.{State}
 use Rattle.ov_host.specs.Stops.{Only}
 use Rattle.ov_host.proofs.Stops.{only_start, only_wider}
@@ -9,8 +9,7 @@ use Rattle.ov_host.proofs.Writes.{settled_leaves}
 use Rattle.ov_event.specs.declared.event.Event as raw
 use Rattle.ov_event.specs.Spelling.{IsEvent, spelling}
 use Rattle.ov_journal.specs.Held.{kept_by}
-use Rattle.ov_journal.specs.Journal.{Kept, IsJournal, Holds, and_one}
-use Rattle.ov_journal.proofs.Unique.{one_thing}
+use Rattle.ov_journal.specs.Journal.{Kept, IsJournal, and_one}
 use Rattle.ov_step.specs.Pages.{AreOff, SameOn}
 use Rattle.ov_step.specs.Steps.{IsAdded, IsFree, IsStored}
 use Rattle.ov_model.specs.Moves.{Move, moved}
@@ -24,16 +23,9 @@ use Rattle.ov_image.specs.Pages.{SameLive, readings_of}
 use Rattle.ov_image.proofs.Standing.{same_world, other_pages, one_more}
 use Rattle.ov_core.specs.AtWorld.{IsAtWorld, IsAtNext, IsEither}
 use Rattle.ov_core.specs.Held.{Held}
+use Rattle.ov_core.proofs.Growing as growing
 use Rattle.ov_core.proofs.Ranges.{ranges_for, are_there, same_live}
 use Rattle.ov_core.proofs.Serving.{numbers_more}
-
-kept_once : (a b : Kept) (bytes : List ℕ) → IsJournal a bytes → IsJournal b bytes → a ≡ b
-kept_once a b bytes here there = let same : Holds a ≡ Holds b = one_thing (Holds a) (Holds b) bytes here there in cc
-
-not_longer : (ps : List (List ℕ)) (p : List ℕ) → ps ≡ ps ++ p ∷ [] → ⊥
-not_longer ps p same =
-    let size : length ps ≡ length (ps ++ p ∷ []) = ap length same
-    in omega (arith, size, length-append ps (p ∷ []))
 
 module _ (w : World) (held : Held) (s0 : State) (is : IsAtWorld w held s0) where
   abbrev pub kept : Kept
@@ -101,38 +93,10 @@ module _ (w : World) (held : Held) (s0 : State) (is : IsAtWorld w held s0) where
         (IsEither w (moved m w) s0.tape.disk.printed) either only
 
     module _ (s1 : State) (later : Held) (added : IsAdded (is.payloads ++ spelling e ∷ []) final s0.tape.disk.printed later.journal s1) where
-      at_final : s1.tape.disk.pages.bytes ≡ final
-      at_final = ap (λ (a : Stored). a.bytes) added.rest
-
-      settled_pages : s1.tape.disk.pages ≡ settled s1.tape.disk.pages.bytes
-      settled_pages = added.rest ∙ ap settled (sym at_final)
-
-      -- what reads now is what a stop leaves
-      left : MayLeave s1.tape.disk (as_read s1.tape.disk)
-      left = record {
-        pages = subst (λ (a : Stored). Leaves a s1.tape.disk.pages.bytes) (sym settled_pages) (settled_leaves_itself s1.tape.disk.pages.bytes);
-        journal = subst (λ (a : Stored). Leaves a s1.tape.disk.journal.bytes) (sym added.at.rest) (settled_leaves_itself s1.tape.disk.journal.bytes);
-        printed = refl;
-      }
-
-      kept_is : Only s0.tape s1.tape (IsStored kept (and_one kept (spelling e)) (ranges_for extents) pages final s0.tape.disk.printed)
-          → and_one kept (spelling e) ≡ kept_by later.journal (is.payloads ++ spelling e ∷ [])
-      kept_is only = by (only.now (as_read s1.tape.disk) left).which
-        where
-          new : Kept
-          new = kept_by later.journal (is.payloads ++ spelling e ∷ [])
-
-          by : (IsJournal kept s1.tape.disk.journal.bytes × SameOn (ranges_for extents) pages s1.tape.disk.pages.bytes) ⊎ (IsJournal (and_one kept (spelling e)) s1.tape.disk.journal.bytes × (s1.tape.disk.pages.bytes ≡ final))
-              → and_one kept (spelling e) ≡ kept_by later.journal (is.payloads ++ spelling e ∷ [])
-          by (inl old) =
-              let both = kept_once kept (kept_by later.journal (is.payloads ++ spelling e ∷ [])) s1.tape.disk.journal.bytes old.0 added.at.spells
-              in absurd (not_longer is.payloads (spelling e) (ap (λ (k : Kept). k.payloads) both))
-          by (inr done) = kept_once (and_one kept (spelling e)) (kept_by later.journal (is.payloads ++ spelling e ∷ [])) s1.tape.disk.journal.bytes done.0 added.at.spells
-
       pub next : Only s0.tape s1.tape (IsStored kept (and_one kept (spelling e)) (ranges_for extents) pages final s0.tape.disk.printed)
           → later.numbers ≡ applied (event_in e) held.numbers → IsAtNext (moved m w) later s0 s1
       next only numbers =
-          let same_kept = kept_is only
+          let same_kept = growing.kept_after held.journal later.journal is.payloads (spelling e) final s0.tape.disk.printed s1 added s0 (ranges_for extents) pages s0.tape.disk.printed only
           in let Journal : Kept → Type 0 = λ k. IsJournal k s1.tape.disk.journal.bytes
           in let Stands : Kept → Type 0 = λ k. StandsBy k (is.events ++ e ∷ []) (moved m w) (as_read s1.tape.disk)
           in record {
@@ -140,8 +104,8 @@ module _ (w : World) (held : Held) (s0 : State) (is : IsAtWorld w held s0) where
               payloads = is.payloads ++ spelling e ∷ [];
               events = is.events ++ e ∷ [];
               at = added.at;
-              rest = record { told = added.at.told; rest = settled_pages };
-              stands = subst Stands same_kept (after (as_read s1.tape.disk) (subst Journal (sym same_kept) added.at.spells) at_final);
+              rest = record { told = added.at.told; rest = growing.settled_pages held.journal later.journal is.payloads (spelling e) final s0.tape.disk.printed s1 added };
+              stands = subst Stands same_kept (after (as_read s1.tape.disk) (subst Journal (sym same_kept) added.at.spells) (growing.at_final held.journal later.journal is.payloads (spelling e) final s0.tape.disk.printed s1 added));
               numbers_are = numbers ∙ ap (applied (event_in e)) is.numbers_are ∙ sym (numbers_more is.events e);
             };
             printed_same = added.printed_is;

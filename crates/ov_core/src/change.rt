@@ -1,7 +1,7 @@
 // The changes of a store.
-ghost use Rattle.std.specs.Prelude.{◌≡◌, ◌<◌, ◌++◌, ◌∷◌, [], ℕ, List, None, true, length, IfErr, OnOk};
+ghost use Rattle.std.specs.Prelude.{◌≡◌, ◌<◌, ◌≤◌, ◌+◌, ◌++◌, ◌∷◌, [], ℕ, List, None, true, length, IfErr, OnOk};
 ghost use Rattle.ov_event.specs.declared.event.Event.TheVariants as says;
-ghost use Rattle.ov_event.specs.Spelling.{IsEvent};
+ghost use Rattle.ov_event.specs.Spelling.{IsEvent, spelling};
 ghost use Rattle.ov_host.specs.Stops.{Only};
 ghost use Rattle.ov_journal.specs.Held.{Passes, IsAt};
 ghost use Rattle.ov_step.specs.Puts.{PagesAtRest};
@@ -51,6 +51,8 @@ impl Core {
         ensures goes_on { (H.state host.old).tells ≡ true → OnOk result (GoesOn self.new (H.state host.new)) }
         ensures beside { (payloads : List (List ℕ)) → IsAt payloads self.old.journal (H.state host.old) → IsBeside self.old (H.state host.old)
             → OnOk result (IsBeside self.new (H.state host.new)) }
+        ensures grows { (payloads : List (List ℕ)) → IsAt payloads self.old.journal (H.state host.old) → PagesAtRest (H.state host.old)
+            → OnOk result (self.new.journal.end ≤ self.old.journal.end + 6 + length (spelling brought.event)) }
         ensures stops { (w : World) (m : Move) → IsAtWorld w self.old (H.state host.old) → Brings m w brought
             → Only (H.state host.old).tape (H.state host.new).tape (IsEither w (moved m w) (H.state host.old).tape.disk.printed) }
         ensures done { (w : World) (m : Move) → IsAtWorld w self.old (H.state host.old) → Brings m w brought
@@ -104,6 +106,8 @@ impl Core {
         ensures goes_on { (H.state host.old).tells ≡ true → OnOk result (GoesOn self.new (H.state host.new)) }
         ensures beside { (payloads : List (List ℕ)) → IsAt payloads self.old.journal (H.state host.old) → PagesAtRest (H.state host.old)
             → IsBeside self.old (H.state host.old) → OnOk result (IsBeside self.new (H.state host.new)) }
+        ensures grows { (payloads : List (List ℕ)) → IsAt payloads self.old.journal (H.state host.old) → PagesAtRest (H.state host.old)
+            → OnOk result (self.new.journal.end ≤ self.old.journal.end + 6 + length (spelling (says.Drop cvd))) }
         ensures stops { (w : World) → IsAtWorld w self.old (H.state host.old) → Fits (DropMove cvd) w
             → Only (H.state host.old).tape (H.state host.new).tape (IsEither w (moved (DropMove cvd) w) (H.state host.old).tape.disk.printed) }
         ensures done { (w : World) → IsAtWorld w self.old (H.state host.old) → Fits (DropMove cvd) w

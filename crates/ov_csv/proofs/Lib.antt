@@ -1,6 +1,7 @@
 pub mod Between
 pub mod Steps
 pub mod Spelled
+pub mod Texts
 pub mod Flexible
 pub mod IsRows
 pub mod Lists

@@ -1,14 +1,11 @@
 -- A record's fields and values from a place on, and what its refusal is made of.
 use Rattle.std.proofs.Common.{◌≡◌, ◌++◌, ◌∷◌, [], ℕ, List, refl, suc, length, drop, arith, ap}
-use Rattle.std.specs.List.{list_all}
-use Rattle.std.specs.Str.{is_utf8}
 use Rattle.ov_value.specs.declared.column.Column.{Column}
 use Rattle.ov_model.specs.Book.{Row}
 use Rattle.ov_model.specs.Csv.{bad_field, row_in}
 
 -- what is known before the field at a place is read
 pub record SoFar (nth : ℕ) (columns : List Column) (fields : List (List ℕ)) (place : ℕ) (values : Row) : Type 0 where
-  pub text : list_all is_utf8 fields ≡ list_all is_utf8 (drop place fields)
   pub good : bad_field nth columns fields ≡ bad_field nth (drop place columns) (drop place fields)
   pub made : row_in columns fields ≡ values ++ row_in (drop place columns) (drop place fields)
 

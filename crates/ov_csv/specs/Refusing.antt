@@ -1,14 +1,10 @@
 -- The refusals of a command that the errors of reading stand for.
 --     refusal_of schema why      the refusal; want of memory stands for none
 --     StandsFor schema why answer      the answer is this refusal
-use Rattle.std.specs.Prelude.{◌≡◌, ℕ, not, if◌then◌else◌, List, length, Option, Some, None, IfSome}
-use Rattle.std.specs.List.{list_all}
-use Rattle.std.specs.Str.{is_utf8}
+use Rattle.std.specs.Prelude.{◌≡◌, length, Option, Some, None, IfSome}
 use Rattle.ov_csv.specs.declared.csv_err.CsvErr.{CsvErr}
 use Rattle.ov_csv.specs.declared.csv_err.CsvErr.TheVariants as why
-use Rattle.ov_value.specs.declared.column.Column.{Column}
 use Rattle.ov_value.specs.Shapes.{Shape}
-use Rattle.ov_model.specs.Csv.{bad_field}
 use Rattle.ov_model.specs.declared.refusal.Refusal.{Refusal}
 use Rattle.ov_model.specs.declared.refusal.Refusal.TheVariants.{BadHeader, Width, BadField, NotText, LongFile, LongRow, NullKey}
 
@@ -24,7 +20,3 @@ refusal_of schema why.Memory = None
 
 abbrev pub StandsFor : Shape → CsvErr → Option Refusal → Type 0
 StandsFor schema why answer = IfSome (refusal_of schema why) (λ refusal. answer ≡ Some refusal)
-
--- why the fields of a record have no values: one is no text, or one spells no value of its column
-abbrev pub text_refusal : ℕ → List Column → List (List ℕ) → Option Refusal
-text_refusal nth columns fields = if not (list_all is_utf8 fields) then Some (NotText nth) else bad_field nth columns fields

@@ -1,15 +1,14 @@
 //! The fields of a record, and whether they are the names of the columns.
 
-ghost use Rattle.std.specs.Prelude.{◌≡◌, [], MatchOption, true, false, drop, nat_eq, slice_index_or};
+ghost use Rattle.std.specs.Prelude.{◌≡◌, [], MatchOption, true, false, nat_eq, slice_index_or};
 ghost use Rattle.std.specs.Cmp.Lexicographic.{pointwise};
 ghost use Rattle.std.specs.List.{list_all};
 ghost use Rattle.std.specs.Str.{is_utf8};
 ghost use Rattle.csv.specs.Records.{fields_of};
 ghost use Rattle.ov_value.specs.Shapes.{names};
 
-use csv::ByteRecord;
+use csv::{ByteRecord, StringRecord};
 use ov_value::Column;
-use std::str;
 
 // The field at a place, or no bytes where there is none.
 fn field(line: &ByteRecord, place: usize) -> &[u8]
@@ -21,27 +20,24 @@ fn field(line: &ByteRecord, place: usize) -> &[u8]
     }
 }
 
-/// The field at a place as a text, or `None` where it is not UTF-8.
-pub(crate) fn text_of(line: &ByteRecord, place: usize) -> Option<&str>
-    ensures { let bytes = slice_index_or (fields_of line.now) place [] in
-        MatchOption result (is_utf8 bytes ≡ false) (λ text. (text.now ≡ bytes) × (is_utf8 bytes ≡ true)) }
+/// The record as texts, without a copy, or `None` where a field is not UTF-8.
+pub(crate) fn texts_of(line: ByteRecord) -> Option<StringRecord>
+    ensures { MatchOption result (list_all is_utf8 (fields_of line) ≡ false) (λ texts. (fields_of texts ≡ fields_of line) × (list_all is_utf8 (fields_of line) ≡ true)) }
 {
-    match str::from_utf8(field(line, place)) {
-        Ok(text) => Some(text),
+    match StringRecord::from_byte_record(line) {
+        Ok(texts) => Some(texts),
         Err(_) => None,
     }
 }
 
-/// Whether each field from the place on is UTF-8.
-pub(crate) fn are_text(line: &ByteRecord, from: usize) -> bool
-    ensures { result ≡ list_all is_utf8 (drop from (fields_of line.now)) }
+/// The text at a place, or the empty text where there is none.
+pub(crate) fn text_at(texts: &StringRecord, place: usize) -> &str
+    ensures { result.now ≡ slice_index_or (fields_of texts.now) place [] }
 {
-    for place in from..line.len() {
-        if text_of(line, place).is_none() {
-            return false;
-        }
+    match texts.get(place) {
+        Some(text) => text,
+        None => "",
     }
-    true
 }
 
 /// Whether the fields are the names of the columns in order.

@@ -1,31 +1,33 @@
 //! From a record to a row.
 
-ghost use Rattle.std.specs.Prelude.{◌≡◌, IfOk, OnOk, IfErr, None, Some, if◌then◌else◌, drop, length, nat_eq};
+ghost use Rattle.std.specs.Prelude.{◌≡◌, IfOk, OnOk, IfErr, None, Some, true, length, nat_eq};
 ghost use Rattle.std.specs.List.{list_all, list_any};
 ghost use Rattle.std.specs.Str.{is_utf8};
 ghost use Rattle.csv.specs.Records.{fields_of};
-ghost use Rattle.ov_model.specs.Csv.{row_refusal, row_in, null_key};
+ghost use Rattle.ov_model.specs.Csv.{row_refusal, row_in, bad_field, null_key};
 ghost use Rattle.ov_model.specs.declared.refusal.Refusal.TheVariants as refusal;
 ghost use Rattle.ov_value.specs.Shapes.{Shape};
-ghost use Rattle.ov_csv.specs.Refusing.{StandsFor, text_refusal};
+ghost use Rattle.ov_csv.specs.Refusing.{StandsFor};
 
 use crate::csv_err::CsvErr;
 use crate::fields::read_field;
-use crate::names::{are_text, text_of};
-use csv::ByteRecord;
+use crate::names::{text_at, texts_of};
+use csv::{ByteRecord, StringRecord};
 use ov_value::{Column, Row, Schema, Value, row_len};
 use std::alloc::Global;
+use std::mem;
 
-/// The row that the record spells, which is the `row`th after the header, or the first refusal.
+/// The row that the record spells, which is the `row`th after the header, or the first refusal. The record's memory is left
+/// for the next one, its fields are not.
 pub(crate) fn read_row(
     alloc: Global,
     schema: &Schema,
     row: u64,
-    line: &ByteRecord,
+    line: &mut ByteRecord,
 ) -> Result<Row, CsvErr>
-    ensures none { OnOk result (row_refusal schema.now row (fields_of line.now) ≡ None) }
-    ensures ok { IfOk result (λ made. made ≡ row_in schema.now.columns (fields_of line.now)) }
-    ensures err { IfErr result (λ why. StandsFor schema.now why (row_refusal schema.now row (fields_of line.now))) }
+    ensures none { OnOk result (row_refusal schema.now row (fields_of line.old) ≡ None) }
+    ensures ok { IfOk result (λ made. made ≡ row_in schema.now.columns (fields_of line.old)) }
+    ensures err { IfErr result (λ why. StandsFor schema.now why (row_refusal schema.now row (fields_of line.old))) }
 {
     if line.len() != schema.columns().len() {
         return Err(CsvErr::Width {
@@ -33,7 +35,24 @@ pub(crate) fn read_row(
             found: line.len() as u64,
         });
     }
-    let values = read_values(alloc, schema, row, line)?;
+    // One test of all bytes of a record is faster than one of each field.
+    let Some(texts) = texts_of(mem::replace(line, ByteRecord::new(alloc))) else {
+        return Err(CsvErr::NotText { row });
+    };
+    let made = row_of(alloc, schema, row, &texts);
+    *line = texts.into_byte_record();
+    made
+}
+
+// The row of the texts, one a column, or the refusal.
+fn row_of(alloc: Global, schema: &Schema, row: u64, texts: &StringRecord) -> Result<Row, CsvErr>
+    requires width { length (fields_of texts.now) ≡ length schema.now.columns }
+    requires text { list_all is_utf8 (fields_of texts.now) ≡ true }
+    ensures none { OnOk result (row_refusal schema.now row (fields_of texts.now) ≡ None) }
+    ensures ok { IfOk result (λ made. made ≡ row_in schema.now.columns (fields_of texts.now)) }
+    ensures err { IfErr result (λ why. StandsFor schema.now why (row_refusal schema.now row (fields_of texts.now))) }
+{
+    let values = read_values(alloc, schema, row, texts)?;
     refuse_null_key(alloc, schema, row, values.as_slice())?;
     let made = Row::new(values);
     if row_len(&made) > 65_536 {
@@ -42,46 +61,33 @@ pub(crate) fn read_row(
     Ok(made)
 }
 
-// The values of the fields, or the refusal: a field that is no text, wherever it stands, comes before one that spells none.
+// The values of the texts, or the refusal of the first that spells none.
 fn read_values(
     alloc: Global,
     schema: &Schema,
     row: u64,
-    line: &ByteRecord,
+    texts: &StringRecord,
 ) -> Result<Vec<Value>, CsvErr>
-    requires { length (fields_of line.now) ≡ length schema.now.columns }
-    ensures none { OnOk result (text_refusal row schema.now.columns (fields_of line.now) ≡ None) }
-    ensures ok { IfOk result (λ values. values.items ≡ row_in schema.now.columns (fields_of line.now)) }
-    ensures err { IfErr result (λ why. StandsFor schema.now why (text_refusal row schema.now.columns (fields_of line.now))) }
+    requires { length (fields_of texts.now) ≡ length schema.now.columns }
+    ensures none { OnOk result (bad_field row schema.now.columns (fields_of texts.now) ≡ None) }
+    ensures ok { IfOk result (λ values. values.items ≡ row_in schema.now.columns (fields_of texts.now)) }
+    ensures err { IfErr result (λ why. StandsFor schema.now why (bad_field row schema.now.columns (fields_of texts.now))) }
 {
     let columns = schema.columns();
     let mut values = Vec::with_capacity(alloc, columns.len())?;
     for (place, column) in columns.iter().enumerate() {
-        let Some(text) = text_of(line, place) else {
-            return Err(CsvErr::NotText { row });
-        };
-        match read_field(alloc, column.kind, text)? {
+        match read_field(alloc, column.kind, text_at(texts, place))? {
             Some(value) => values.push(value)?,
-            None => return Err(refused_field(alloc, row, column, line, place)),
+            None => return Err(refused_field(alloc, row, column)),
         }
     }
     Ok(values)
 }
 
-// The refusal of the field at the place, which spells no value of its column, where those before it are sound.
-fn refused_field(
-    alloc: Global,
-    row: u64,
-    column: &Column,
-    line: &ByteRecord,
-    place: usize,
-) -> CsvErr
-    ensures { (schema : Shape) → StandsFor schema result
-        (if list_all is_utf8 (drop place (fields_of line.now)) then Some (refusal.BadField row column.now.name column.now.kind) else Some (refusal.NotText row)) }
+// The refusal of a field that spells no value of its column.
+fn refused_field(alloc: Global, row: u64, column: &Column) -> CsvErr
+    ensures { (schema : Shape) → StandsFor schema result (Some (refusal.BadField row column.now.name column.now.kind)) }
 {
-    if !are_text(line, place) {
-        return CsvErr::NotText { row };
-    }
     match column.name.copy(alloc) {
         Ok(name) => CsvErr::BadField {
             row,

@@ -21,6 +21,3 @@ pub use laws::one_event;
 pub use reading::read_event;
 pub use whole::{RawPart, RawPlan, RawTarget, RawVersion, Whole};
 pub use writing::bytes_of;
-
-#[cfg(test)]
-mod tests;

@@ -109,6 +109,9 @@ stops schema s0 s1 segment c read (Damaged page) gone refuses told =
     )
 
 -- their rids
+rids_more : (rids more : List ℕ) (read : List Record) (r : Record) → rids ≡ rids_of read → more ≡ rids ++ r.rid ∷ [] → more ≡ rids_of (read ++ r ∷ [])
+rids_more rids more read r are is = is ∙ ap (λ (l : List ℕ). l ++ r.rid ∷ []) are ∙ sym (map-append (λ (x : Record). x.rid) read (r ∷ []))
+
 pub record ReadsRids (schema : Shape) (before now : State) (segment : Extent) (c : Cursor) (rids : List ℕ) : Type 0 where
   pub read : List Record
   pub gone : HasGone schema before now segment c read
@@ -122,7 +125,7 @@ pub rids_go_on : (schema : Shape) (s0 s1 s2 : State) (segment : Extent) (c d : C
 rids_go_on schema s0 s1 s2 segment c d rids more r h looked fetched place follows finds is = record {
   read = h.read ++ r ∷ [];
   gone = goes_on schema s0 s1 s2 segment c d h.read r h.gone looked fetched place follows finds;
-  rids_are = is ∙ ap (λ (l : List ℕ). l ++ r.rid ∷ []) h.rids_are ∙ sym (map-append (λ (x : Record). x.rid) h.read (r ∷ []));
+  rids_are = rids_more rids more h.read r h.rids_are is;
 }
 
 pub rids_end : (schema : Shape) (s0 s1 : State) (segment : Extent) (c d : Cursor) (rids : List ℕ) → ReadsRids schema s0 s1 segment c rids → (s1.tells ≡ true → Finds schema (page_bytes s1) c None d) → s0.tells ≡ true
@@ -130,13 +133,15 @@ pub rids_end : (schema : Shape) (s0 s1 : State) (segment : Extent) (c d : Cursor
 rids_end schema s0 s1 segment c d rids h finds told = record { records = h.read; stands = ends schema s0 s1 segment c d h.read h.gone finds told; rids_are = h.rids_are }
 
 -- the wanted ones
-pub record KeepsWanted (schema : Shape) (before now : State) (segment : Extent) (c : Cursor) (wanted : List ℕ) (old kept : List Record) : Type 0 where
+pub record KeepsWanted (schema : Shape) (before now : State) (segment : Extent) (c : Cursor) (wanted : List ℕ) (old kept : List Record) (rids : List ℕ) : Type 0 where
   pub read : List Record
   pub gone : HasGone schema before now segment c read
   pub kept_are : kept ≡ old ++ wanted_of wanted read
+  pub rids_are : rids ≡ rids_of read
 
-pub keeping_begins : (schema : Shape) (s : State) (segment : Extent) (c : Cursor) (wanted : List ℕ) (old : List Record) → c ≡ front_of segment → segment.bytes < 2 ^ 32 → KeepsWanted schema s s segment c wanted old old
-keeping_begins schema s segment c wanted old is sized = record { read = []; gone = begins schema s segment c is sized; kept_are = sym (append-nil old) }
+pub keeping_begins : (schema : Shape) (s : State) (segment : Extent) (c : Cursor) (wanted : List ℕ) (old : List Record) (rids : List ℕ) → c ≡ front_of segment → segment.bytes < 2 ^ 32 → rids ≡ []
+    → KeepsWanted schema s s segment c wanted old old rids
+keeping_begins schema s segment c wanted old rids is sized none = record { read = []; gone = begins schema s segment c is sized; kept_are = sym (append-nil old); rids_are = none }
 
 kept_one : (wanted : List ℕ) (r : Record) → has wanted r.rid ≡ true → wanted_of wanted (r ∷ []) ≡ r ∷ []
 kept_one wanted r h = rw h refl
@@ -144,30 +149,32 @@ kept_one wanted r h = rw h refl
 kept_none : (wanted : List ℕ) (r : Record) → has wanted r.rid ≡ false → wanted_of wanted (r ∷ []) ≡ []
 kept_none wanted r h = rw h refl
 
-pub keeps_one : (schema : Shape) (s0 s1 s2 : State) (segment : Extent) (c d : Cursor) (wanted : List ℕ) (old kept more : List Record) (r : Record) → KeepsWanted schema s0 s1 segment c wanted old kept → Looked s1 s2
-    → s2.fetched + c.at ≤ s1.fetched + d.at → d.extent ≡ c.extent → Follows schema c r d → (s1.tells ≡ true → Finds schema (page_bytes s1) c (Some r) d) → has wanted r.rid ≡ true → more ≡ kept ++ r ∷ []
-    → KeepsWanted schema s0 s2 segment d wanted old more
-keeps_one schema s0 s1 s2 segment c d wanted old kept more r h looked fetched place follows finds in_ is = record {
+pub keeps_one : (schema : Shape) (s0 s1 s2 : State) (segment : Extent) (c d : Cursor) (wanted : List ℕ) (old kept more : List Record) (rids now : List ℕ) (r : Record) → KeepsWanted schema s0 s1 segment c wanted old kept rids → Looked s1 s2
+    → s2.fetched + c.at ≤ s1.fetched + d.at → d.extent ≡ c.extent → Follows schema c r d → (s1.tells ≡ true → Finds schema (page_bytes s1) c (Some r) d) → has wanted r.rid ≡ true → more ≡ kept ++ r ∷ [] → now ≡ rids ++ r.rid ∷ []
+    → KeepsWanted schema s0 s2 segment d wanted old more now
+keeps_one schema s0 s1 s2 segment c d wanted old kept more rids now r h looked fetched place follows finds in_ is pushed = record {
   read = h.read ++ r ∷ [];
   gone = goes_on schema s0 s1 s2 segment c d h.read r h.gone looked fetched place follows finds;
+  rids_are = rids_more rids now h.read r h.rids_are pushed;
   kept_are =
       is ∙ ap (λ (l : List Record). l ++ r ∷ []) h.kept_are ∙ append_assoc old (wanted_of wanted h.read) (r ∷ [])
       ∙ ap (λ (l : List Record). old ++ (wanted_of wanted h.read ++ l)) (sym (kept_one wanted r in_))
       ∙ ap (λ (l : List Record). old ++ l) (sym (filter-append (λ (x : Record). has wanted x.rid) h.read (r ∷ [])));
 }
 
-pub keeps_none : (schema : Shape) (s0 s1 s2 : State) (segment : Extent) (c d : Cursor) (wanted : List ℕ) (old kept : List Record) (r : Record) → KeepsWanted schema s0 s1 segment c wanted old kept → Looked s1 s2
-    → s2.fetched + c.at ≤ s1.fetched + d.at → d.extent ≡ c.extent → Follows schema c r d → (s1.tells ≡ true → Finds schema (page_bytes s1) c (Some r) d) → has wanted r.rid ≡ false
-    → KeepsWanted schema s0 s2 segment d wanted old kept
-keeps_none schema s0 s1 s2 segment c d wanted old kept r h looked fetched place follows finds out = record {
+pub keeps_none : (schema : Shape) (s0 s1 s2 : State) (segment : Extent) (c d : Cursor) (wanted : List ℕ) (old kept : List Record) (rids now : List ℕ) (r : Record) → KeepsWanted schema s0 s1 segment c wanted old kept rids → Looked s1 s2
+    → s2.fetched + c.at ≤ s1.fetched + d.at → d.extent ≡ c.extent → Follows schema c r d → (s1.tells ≡ true → Finds schema (page_bytes s1) c (Some r) d) → has wanted r.rid ≡ false → now ≡ rids ++ r.rid ∷ []
+    → KeepsWanted schema s0 s2 segment d wanted old kept now
+keeps_none schema s0 s1 s2 segment c d wanted old kept rids now r h looked fetched place follows finds out pushed = record {
   read = h.read ++ r ∷ [];
   gone = goes_on schema s0 s1 s2 segment c d h.read r h.gone looked fetched place follows finds;
+  rids_are = rids_more rids now h.read r h.rids_are pushed;
   kept_are =
       h.kept_are ∙ ap (λ (l : List Record). old ++ l)
       (sym (filter-append (λ (x : Record). has wanted x.rid) h.read (r ∷ []) ∙ ap (λ (l : List Record). wanted_of wanted h.read ++ l) (kept_none wanted r out) ∙ append-nil (wanted_of wanted h.read)));
 }
 
-pub keeping_ends : (schema : Shape) (s0 s1 : State) (segment : Extent) (c d : Cursor) (wanted : List ℕ) (old kept : List Record) → KeepsWanted schema s0 s1 segment c wanted old kept
-    → (s1.tells ≡ true → Finds schema (page_bytes s1) c None d) → HasKept schema s0 segment wanted old kept
-keeping_ends schema s0 s1 segment c d wanted old kept h finds =
-    record { read = h.read; are = h.gone.are; kept_are = h.kept_are; told = λ told. ends schema s0 s1 segment c d h.read h.gone finds told }
+pub keeping_ends : (schema : Shape) (s0 s1 : State) (segment : Extent) (c d : Cursor) (wanted : List ℕ) (old kept : List Record) (rids members : List ℕ) → KeepsWanted schema s0 s1 segment c wanted old kept rids
+    → (s1.tells ≡ true → Finds schema (page_bytes s1) c None d) → members ≡ rids → HasKept schema s0 segment wanted old kept members
+keeping_ends schema s0 s1 segment c d wanted old kept rids members h finds same =
+    record { read = h.read; are = h.gone.are; kept_are = h.kept_are; rids_are = same ∙ h.rids_are; told = λ told. ends schema s0 s1 segment c d h.read h.gone finds told }

@@ -9,7 +9,7 @@ use Rattle.ov_segment.specs.declared.numbered.Record.{Record}
 use Rattle.ov_segment.specs.Segments.{IsNext, AreRecords}
 use Rattle.ov_fetch.specs.declared.errors.FetchErr.{FetchErr}
 use Rattle.ov_fetch.specs.declared.errors.FetchErr.TheVariants.{Host, Memory, Damaged}
-use Rattle.ov_fetch.specs.Extents.{page_bytes, IsSegment}
+use Rattle.ov_fetch.specs.Extents.{page_bytes, IsSegment, rids_of}
 use Rattle.ov_fetch.specs.Rows.{is_asked, joined, AreSegments, HasNoSegment}
 
 -- all rids that are asked for
@@ -24,11 +24,13 @@ IsRecord schema r = IsNext schema 0 r
 abbrev pub wanted_of : List ℕ → List Record → List Record
 wanted_of wanted records = filter (λ r. has wanted r.rid) records
 
--- the wanted ones of records that a segment may have came to those before; where the bytes are told, the segment has these
-pub record HasKept (schema : Shape) (before : State) (segment : Extent) (wanted : List ℕ) (old new : List Record) : Type 0 where
+-- the wanted ones of records that a segment may have came to those before, and these are the rids of all of them; where the
+-- bytes are told, the segment has these records
+pub record HasKept (schema : Shape) (before : State) (segment : Extent) (wanted : List ℕ) (old new : List Record) (rids : List ℕ) : Type 0 where
   pub read : List Record
   pub are : AreRecords schema 0 read
   pub kept_are : new ≡ old ++ wanted_of wanted read
+  pub rids_are : rids ≡ rids_of read
   pub told : before.tells ≡ true → IsSegment schema (page_bytes before) segment read
 
 -- the wanted records of all the segments

@@ -1,9 +1,10 @@
 -- The records of sets of rids out of segments.
 --     record_of records rid      the first of the records with this rid
 --     is_asked members rid      whether one of the sets has the rid
+--     HaveRids schema area segments sets      the segments stand whole, and these are the rids of each
 --     AreRows schema area segments members got      got are the records of all the sets, out of these segments
 --     IsDamage schema area segments lists members page      why there are none
-use Rattle.std.specs.Prelude.{◌≡◌, ◌⊎◌, ℕ, Bool, true, false, ◌==◌, List, [], ◌∷◌, Option, Some, None, IsSome, slice_get}
+use Rattle.std.specs.Prelude.{◌≡◌, ◌⊎◌, ℕ, Bool, true, false, ◌==◌, List, [], ◌∷◌, Option, Some, None, IsSome, slice_get, map}
 use Rattle.std.specs.List.{list_any, find, flat_map, Contains}
 use Rattle.ov_host.specs.declared.area.Extent.{Extent}
 use Rattle.ov_member.specs.Rids.{has}
@@ -11,7 +12,7 @@ use Rattle.ov_value.specs.Shapes.{Shape}
 use Rattle.ov_segment.specs.declared.numbered.Record.{Record}
 use Rattle.ov_fetch.specs.declared.errors.FetchErr.{FetchErr}
 use Rattle.ov_fetch.specs.declared.errors.FetchErr.TheVariants.{Host, Memory, Damaged}
-use Rattle.ov_fetch.specs.Extents.{IsSegment, IsNoSegment}
+use Rattle.ov_fetch.specs.Extents.{IsSegment, IsNoSegment, rids_of}
 
 abbrev pub record_of : List Record → ℕ → Option Record
 record_of records rid = find (λ r. r.rid == rid) records
@@ -29,6 +30,12 @@ AreSegments schema area [] [] = Unit {0}
 AreSegments schema area (segment ∷ segments) (records ∷ contents) =
     IsSegment schema area segment records × AreSegments schema area segments contents
 AreSegments schema area _ _ = ⊥
+
+-- the segments stand whole, and these are the rids of each
+pub record HaveRids (schema : Shape) (area : List ℕ) (segments : List Extent) (sets : List (List ℕ)) : Type 0 where
+  pub contents : List (List Record)
+  pub read : AreSegments schema area segments contents
+  pub sets_are : sets ≡ map rids_of contents
 
 -- Of all records these are those of the sets: each rid of the sets has its first record among all, which is there, and
 -- no other rid has one.

@@ -1,7 +1,7 @@
 //! Rows back from the pages of a store.
 //!
 //! [`list_of`] reads the list of a version, [`rids_of`] the rids of a segment, and [`rows_of`] the rows of sets of rids
-//! out of segments. Each names the first page of what is damaged; what the page area must hold stands in
+//! out of segments, which [`rows_and_rids_of`] gives with the rids of all that it read. Each names the first page of what is damaged; what the page area must hold stands in
 //! `specs/Extents.antt` and `specs/Rows.antt`.
 //!
 //! [`Scan`] is what a store gives of some versions: their records, each once, and where the rows of each version
@@ -21,11 +21,6 @@ mod union;
 pub use errors::FetchErr;
 pub use lists::list_of;
 pub use picks::{Pick, Picks, Vids};
-pub use rows::rows_of;
+pub use rows::{SegmentsRead, rows_and_rids_of, rows_of};
 pub use scan::Scan;
 pub use segments::rids_of;
-
-#[cfg(test)]
-mod memory_tests;
-#[cfg(test)]
-mod tests;

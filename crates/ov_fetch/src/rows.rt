@@ -5,11 +5,11 @@ ghost use Rattle.std.specs.List.{sum_by};
 ghost use Rattle.ov_host.specs.Host.{Rose};
 ghost use Rattle.ov_segment.specs.Segments.{AreRecords, Ascend};
 ghost use Rattle.ov_fetch.specs.Extents.{Looked, page_bytes, rids_of};
-ghost use Rattle.ov_fetch.specs.Rows.{AreRows, RefusesRows};
+ghost use Rattle.ov_fetch.specs.Rows.{AreRows, HaveRids, RefusesRows};
 
 use crate::errors::FetchErr;
 use crate::order::{drop_repeats, sort_by_rid};
-use crate::segments::{gather, members_of};
+use crate::segments::{Gathered, gather, members_of};
 use crate::union::{place_lacking, union_of};
 use ov_host::{Extent, Host};
 use ov_member::Members;
@@ -43,14 +43,50 @@ pub fn rows_of<H: Host>(
         (AreRows schema.now (page_bytes (H.state host.old)) segments.now members.now)
         (λ e. RefusesRows e schema.now (page_bytes (H.state host.old)) segments.now lists.now members.now) }
 {
+    Ok(rows_and_rids_of(alloc, host, schema, segments, lists, members)?.records)
+}
+
+/// What was read of segments.
+#[derive(Drop)]
+pub struct SegmentsRead {
+    /// The records that were asked for, each once, in the order of their rids.
+    pub records: Records,
+    /// The rids of all records of each segment, asked for or not.
+    pub rids: Vec<Members>,
+}
+
+/// The records that [`rows_of`] gives, and the rids of each segment, by one reading. The rids are kept as ranges.
+pub fn rows_and_rids_of<H: Host>(
+    alloc: Global,
+    host: &mut H,
+    schema: &Schema,
+    segments: &[Extent],
+    lists: &[Extent],
+    members: &[Members],
+) -> Result<SegmentsRead, FetchErr>
+    requires { length lists.now ≡ length members.now }
+    ensures looked { Looked (H.state host.old) (H.state host.new) }
+    ensures cause { IsErrOf result FetchErr.Host → Rose (H.state host.old).faults (H.state host.new).faults }
+    ensures fetched { (H.state host.new).fetched ≤ (H.state host.old).fetched + sum_by (λ e. e.bytes) segments.now }
+    ensures records { IfOk result (λ read. AreRecords schema.now 0 read.records) }
+    ensures rids { (H.state host.old).tells ≡ true
+        → IfOk result (λ read. HaveRids schema.now (page_bytes (H.state host.old)) segments.now read.rids.items) }
+    ensures answer { (H.state host.old).tells ≡ true → MatchResult result
+        (λ read. AreRows schema.now (page_bytes (H.state host.old)) segments.now members.now read.records)
+        (λ e. RefusesRows e schema.now (page_bytes (H.state host.old)) segments.now lists.now members.now) }
+{
     let wanted = union_of(alloc, members)?;
-    let mut records = gather(alloc, host, schema, segments, &wanted)?;
+    let Gathered { kept, rids } = gather(alloc, host, schema, segments, &wanted)?;
+    let mut records = kept;
     sort_by_rid(&mut records)?;
     drop_repeats(&mut records);
     let found = rids_in(alloc, &records)?;
     let missing = wanted.without(alloc, &found)?;
     match place_lacking(members, &missing) {
-        None => Ok(Records::new(records)),
+        None => Ok(SegmentsRead {
+            records: Records::new(records),
+            rids,
+        }),
         Some(place) => Err(FetchErr::Damaged {
             page: lists[place].page,
         }),

@@ -1,12 +1,13 @@
 //! The records of segments, from their extents.
 
-ghost use Rattle.std.specs.Prelude.{◌≡◌, ◌+◌, ◌≤◌, true, [], length, vec_len, IfOk, OnOk, IfErr, IsErrOf, MatchResult};
+ghost use Rattle.std.specs.Prelude.{◌≡◌, ◌+◌, ◌≤◌, true, [], length, vec_len, IfOk, IfErr, IsErrOf, MatchResult};
 ghost use Rattle.std.specs.List.{sum_by, AllByRecursion};
 ghost use Rattle.ov_host.specs.Host.{Rose};
 ghost use Rattle.ov_member.specs.Rids.{AreRids};
 ghost use Rattle.ov_segment.specs.Segments.{Ascend};
 ghost use Rattle.ov_fetch.specs.Extents.{Looked, page_bytes, HasRids, RefusesSegment};
 ghost use Rattle.ov_fetch.specs.Gathering.{IsRecord, HasKept, AreWanted, RefusesSegments};
+ghost use Rattle.ov_fetch.specs.Rows.{HaveRids};
 
 use crate::cursor::{Cursor, PIECE_BYTES};
 use crate::errors::FetchErr;
@@ -73,31 +74,42 @@ pub(crate) fn members_of(alloc: Global, rids: &[u32]) -> Result<Members, AllocEr
     }
 }
 
-/// The records of the segments whose rids are wanted, one segment after the other. Each segment is read once.
+/// What is kept of segments: the records that were wanted, and the rids of each segment.
+#[derive(Drop)]
+pub(crate) struct Gathered {
+    pub kept: Vec<Record>,
+    pub rids: Vec<Members>,
+}
+
+/// The records of the segments whose rids are wanted, one segment after the other, and the rids of each of the segments.
+/// Each segment is read once.
 pub(crate) fn gather<H: Host>(
     alloc: Global,
     host: &mut H,
     schema: &Schema,
     segments: &[Extent],
     wanted: &Members,
-) -> Result<Vec<Record>, FetchErr>
+) -> Result<Gathered, FetchErr>
     ensures looked { Looked (H.state host.old) (H.state host.new) }
     ensures cause { IsErrOf result FetchErr.Host → Rose (H.state host.old).faults (H.state host.new).faults }
     ensures fetched { (H.state host.new).fetched ≤ (H.state host.old).fetched + sum_by (λ e. e.bytes) segments.now }
-    ensures records { IfOk result (λ kept. AllByRecursion (IsRecord schema.now) kept.items) }
+    ensures records { IfOk result (λ found. AllByRecursion (IsRecord schema.now) found.kept.items) }
+    ensures rids { (H.state host.old).tells ≡ true
+        → IfOk result (λ found. HaveRids schema.now (page_bytes (H.state host.old)) segments.now found.rids.items) }
     ensures answer { (H.state host.old).tells ≡ true → MatchResult result
-        (λ kept. AreWanted schema.now (page_bytes (H.state host.old)) segments.now wanted.now kept.items)
+        (λ found. AreWanted schema.now (page_bytes (H.state host.old)) segments.now wanted.now found.kept.items)
         (λ e. RefusesSegments e schema.now (page_bytes (H.state host.old)) segments.now) }
 {
     let mut kept = Vec::new(alloc);
+    let mut rids = Vec::with_capacity(alloc, segments.len())?;
     let mut piece = room(alloc, PIECE_BYTES)?;
     for segment in segments {
-        keep_wanted(alloc, host, schema, *segment, wanted, &mut piece, &mut kept)?;
+        rids.push(keep_wanted(alloc, host, schema, *segment, wanted, &mut piece, &mut kept)?)?;
     }
-    Ok(kept)
+    Ok(Gathered { kept, rids })
 }
 
-// Puts the wanted records of one segment behind those kept.
+// Puts the wanted records of one segment behind those kept, and gives the rids of all of its records.
 fn keep_wanted<H: Host>(
     alloc: Global,
     host: &mut H,
@@ -106,20 +118,22 @@ fn keep_wanted<H: Host>(
     wanted: &Members,
     piece: &mut [u8],
     kept: &mut Vec<Record>,
-) -> Result<(), FetchErr>
+) -> Result<Members, FetchErr>
     requires { length piece.old ≡ 61440 }
     ensures looked { Looked (H.state host.old) (H.state host.new) }
     ensures cause { IsErrOf result FetchErr.Host → Rose (H.state host.old).faults (H.state host.new).faults }
     ensures fetched { (H.state host.new).fetched ≤ (H.state host.old).fetched + segment.bytes }
-    ensures kept { OnOk result (HasKept schema.now (H.state host.old) segment wanted.now kept.old.items kept.new.items) }
+    ensures kept { IfOk result (HasKept schema.now (H.state host.old) segment wanted.now kept.old.items kept.new.items) }
     ensures err { (H.state host.old).tells ≡ true
         → IfErr result (λ e. RefusesSegment e schema.now (page_bytes (H.state host.old)) segment) }
 {
     let mut cursor = Cursor::new(alloc, segment)?;
+    let mut rids = Vec::new(alloc);
     while let Some(record) = cursor.next(host, schema, piece)? {
+        rids.push(record.rid)?;
         if wanted.contains(record.rid) {
             kept.push(record)?;
         }
     }
-    Ok(())
+    Ok(members_of(alloc, &rids)?)
 }

@@ -13,6 +13,3 @@ mod nodes;
 pub use graph::Graph;
 pub use laws::heaviest_is_kept;
 pub use nodes::{Node, Tree};
-
-#[cfg(test)]
-mod tests;

@@ -12,6 +12,3 @@ mod token;
 pub use laws::{one_list_of_tokens, tokens_or_a_bad_byte};
 pub use lex::tokens;
 pub use token::{LexErr, Token, TokenKind};
-
-#[cfg(test)]
-mod tests;

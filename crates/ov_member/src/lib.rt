@@ -13,6 +13,3 @@ pub use laws::{one_reading, one_spelling, parts_of_set, same_set};
 pub use list_bytes::ListBytes;
 pub use lists::read_list;
 pub use members::{LAST_RID, Members};
-
-#[cfg(test)]
-mod tests;

@@ -24,6 +24,3 @@ pub use laws::{
 };
 pub use source::MemSource;
 pub use stage::MemStage;
-
-#[cfg(test)]
-mod tests;

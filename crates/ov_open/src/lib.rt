@@ -13,6 +13,3 @@ mod opening;
 pub use errors::OpenErr;
 pub use extents::live;
 pub use opening::open;
-
-#[cfg(test)]
-mod tests;

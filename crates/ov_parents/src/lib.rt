@@ -1,4 +1,5 @@
-//! The records of a commit's parents, out of the pages, tested against the catalog's numbers and against each other.
+//! The records of a commit's parents, out of the pages, tested against the catalog's numbers and against each other, and the
+//! rids of the partitions that were read for them.
 //!
 //! Which records a parent has, and when there are none, stands in `specs/Parents.antt`.
 #![tactic(auto)]
@@ -9,7 +10,7 @@ mod repeating;
 mod taking;
 
 pub use counting::records_are_counted;
-pub use reading::parents_of;
+pub use reading::{ParentsRead, parents_of};
 
 #[cfg(test)]
 mod tests;

@@ -1,4 +1,4 @@
-// The records of versions, of which none has a rid with another row than an earlier one.
+// The records of versions, of which none has a rid with another row than an earlier one, and what their partitions hold.
 
 ghost use Rattle.std.specs.Prelude.{◌≡◌, ◌≤◌, ◌+◌, ℕ, true, All, IfOk, IsErrOf, MatchResult};
 ghost use Rattle.std.specs.List.{AllZip};
@@ -11,6 +11,7 @@ ghost use Rattle.ov_records.specs.Records.{InKeyOrder};
 ghost use Rattle.ov_agree.specs.Agreeing.{EachAgrees, ParentsAgree};
 ghost use Rattle.ov_versions.specs.Agreement.{IsThere, is_served, list_of};
 ghost use Rattle.ov_versions.specs.Damages.{RefusesScan};
+ghost use Rattle.ov_versions.specs.Partitions.{AreHeld};
 ghost use Rattle.ov_versions.specs.Sizes.{bytes_for};
 ghost use Rattle.ov_parents.specs.Parents.{IsCounted, IsParent, RefusesParents};
 
@@ -20,10 +21,20 @@ use ov_catalog::Cvd;
 use ov_fetch::FetchErr;
 use ov_host::Host;
 use ov_segment::Records;
-use ov_versions::scan_versions;
+use ov_versions::{PartRids, VersionsRead, read_versions};
 use std::alloc::Global;
 
-/// The records of these versions, each version's in key order. Each version is asked for once and is in a partition.
+/// What was read of a commit's parents.
+#[derive(Drop)]
+pub struct ParentsRead {
+    /// The records of each parent, in key order.
+    pub records: Vec<Records>,
+    /// For each partition of the dataset, in their order, the rids of each of its segments, where it serves a parent.
+    pub held: Vec<PartRids>,
+}
+
+/// The records of these versions, each version's in key order, and the rids that their partitions hold. Each version is
+/// asked for once and is in a partition.
 ///
 /// `Damaged` where a scan of the versions finds a damage, or else where some rid has different rows among their records.
 /// The page is that of the damage, or the first one of the list of the first version that has a rid with another row
@@ -36,7 +47,7 @@ pub fn parents_of<H: Host>(
     host: &mut H,
     d: &Cvd,
     vids: &[u32],
-) -> Result<Vec<Records>, FetchErr>
+) -> Result<ParentsRead, FetchErr>
     requires there { All (IsThere (set_in d.now)) vids.now }
     requires once { (vid : ℕ) → times vids.now vid ≤ 1 }
     requires placed { All (λ vid. is_served (set_in d.now) vid ≡ true) vids.now }
@@ -46,15 +57,16 @@ pub fn parents_of<H: Host>(
     ensures fetched { (H.state host.new).fetched ≤ (H.state host.old).fetched + bytes_for (set_in d.now) vids.now }
 
     // On every host the records agree with the numbers and with each other, stand in key order and fit the schema.
-    ensures agree { IfOk result (λ parents. ParentsAgree (set_in d.now) vids.now parents.items) }
-    ensures order { IfOk result (λ parents. All (InKeyOrder d.now.schema) parents.items) }
-    ensures fit { IfOk result (λ parents. All (AllFit d.now.schema) parents.items) }
+    ensures agree { IfOk result (λ read. ParentsAgree (set_in d.now) vids.now read.records.items) }
+    ensures order { IfOk result (λ read. All (InKeyOrder d.now.schema) read.records.items) }
+    ensures fit { IfOk result (λ read. All (AllFit d.now.schema) read.records.items) }
+    ensures held { IfOk result (λ read. AreHeld (H.state host.old).tells (page_bytes (H.state host.old)) (set_in d.now) vids.now read.held.items) }
     ensures answer { (H.state host.old).tells ≡ true → MatchResult result
-        (λ parents. AllZip (IsParent (page_bytes (H.state host.old)) (set_in d.now)) vids.now parents.items)
+        (λ read. AllZip (IsParent (page_bytes (H.state host.old)) (set_in d.now)) vids.now read.records.items)
         (λ e. RefusesParents e (page_bytes (H.state host.old)) (set_in d.now) vids.now) }
 {
     let parents = read_parents(alloc, host, d, vids)?;
-    if let Some(place) = first_disagreeing(alloc, &parents)? {
+    if let Some(place) = first_disagreeing(alloc, &parents.records)? {
         let page = list_page(d, vids[place]);
         return Err(FetchErr::Damaged { page });
     }
@@ -75,7 +87,7 @@ fn read_parents<H: Host>(
     host: &mut H,
     d: &Cvd,
     vids: &[u32],
-) -> Result<Vec<Records>, FetchErr>
+) -> Result<ParentsRead, FetchErr>
     requires there { All (IsThere (set_in d.now)) vids.now }
     requires once { (vid : ℕ) → times vids.now vid ≤ 1 }
     requires placed { All (λ vid. is_served (set_in d.now) vid ≡ true) vids.now }
@@ -83,14 +95,16 @@ fn read_parents<H: Host>(
     ensures looked { Looked (H.state host.old) (H.state host.new) }
     ensures cause { IsErrOf result FetchErr.Host → Rose (H.state host.old).faults (H.state host.new).faults }
     ensures fetched { (H.state host.new).fetched ≤ (H.state host.old).fetched + bytes_for (set_in d.now) vids.now }
-    ensures each { IfOk result (λ parents. EachAgrees (set_in d.now) vids.now parents.items) }
-    ensures order { IfOk result (λ parents. All (InKeyOrder d.now.schema) parents.items) }
-    ensures fit { IfOk result (λ parents. All (AllFit d.now.schema) parents.items) }
+    ensures each { IfOk result (λ read. EachAgrees (set_in d.now) vids.now read.records.items) }
+    ensures order { IfOk result (λ read. All (InKeyOrder d.now.schema) read.records.items) }
+    ensures fit { IfOk result (λ read. All (AllFit d.now.schema) read.records.items) }
+    ensures held { IfOk result (λ read. AreHeld (H.state host.old).tells (page_bytes (H.state host.old)) (set_in d.now) vids.now read.held.items) }
     ensures answer { (H.state host.old).tells ≡ true → MatchResult result
-        (λ parents. AllZip (IsParent (page_bytes (H.state host.old)) (set_in d.now)) vids.now parents.items)
+        (λ read. AllZip (IsParent (page_bytes (H.state host.old)) (set_in d.now)) vids.now read.records.items)
         (λ e. RefusesScan e (page_bytes (H.state host.old)) (set_in d.now) vids.now) }
 {
     let wanted = Vec::from_slice(alloc, vids)?;
-    let scan = scan_versions(alloc, host, d, wanted)?;
-    take_parents(alloc, d, vids, &scan)
+    let VersionsRead { scan, held } = read_versions(alloc, host, d, wanted)?;
+    let records = take_parents(alloc, d, vids, &scan)?;
+    Ok(ParentsRead { records, held })
 }

@@ -10,6 +10,7 @@ use ov_event::Items;
 use ov_fetch::FetchErr;
 use ov_host::Extent;
 use ov_layout::Layout;
+use ov_member::Members;
 use ov_memhost::MemHost;
 use ov_segment::Records;
 use ov_value::{Column, Kind, Schema, Txt};
@@ -138,7 +139,7 @@ fn two_parents(
         return Err(FetchErr::Memory);
     }
     let mut host = host_of(alloc, pages);
-    parents_of(alloc, &mut host, d, &[one, other])
+    Ok(parents_of(alloc, &mut host, d, &[one, other])?.records)
 }
 
 fn rids(alloc: Global, parents: &[Records], place: usize) -> Result<Vec<u32>, Fail> {
@@ -191,6 +192,36 @@ fn the_later_parent_that_disagrees_is_named(rt: HostRuntime) -> Result<(), Fail>
     Ok(())
 }
 
+fn count(sets: &[Members]) -> u32 {
+    let mut count = 0u32;
+    for rids in sets {
+        count = count.saturating_add(rids.len());
+    }
+    count
+}
+
+// How many rids were read of each partition where this version is the only parent.
+fn held(alloc: Global, d: &Cvd, vid: u32) -> Result<Vec<u32>, Fail> {
+    let mut counts = Vec::new(alloc);
+    if !has_version(d, vid) || !is_counted(d) {
+        return Ok(counts);
+    }
+    let mut host = host_of(alloc, area(alloc, &[])?);
+    for part in parents_of(alloc, &mut host, d, &[vid])?.held.as_slice() {
+        counts.push(count(part.as_slice()))?;
+    }
+    Ok(counts)
+}
+
+#[test]
+fn a_partition_that_serves_no_parent_is_not_read(rt: HostRuntime) -> Result<(), Fail> {
+    let alloc = rt.alloc();
+    let d = people(alloc)?;
+    assert_eq!(rt; held(alloc, &d, 1)?.as_slice(), [2, 0].as_slice());
+    assert_eq!(rt; held(alloc, &d, 2)?.as_slice(), [0, 3].as_slice());
+    Ok(())
+}
+
 // A row that only one version has may differ from what it was: no other parent says otherwise.
 #[test]
 fn other_rows_may_differ(rt: HostRuntime) -> Result<(), Fail> {
@@ -207,7 +238,7 @@ fn no_version_has_no_parent(rt: HostRuntime) -> Result<(), Fail> {
     let d = people(alloc)?;
     let mut host = host_of(alloc, Vec::new(alloc));
     if is_counted(&d) {
-        assert_eq!(rt; parents_of(alloc, &mut host, &d, &[])?.len(), 0);
+        assert_eq!(rt; parents_of(alloc, &mut host, &d, &[])?.records.len(), 0);
         assert_eq!(rt; host.calls(), 0);
     }
     Ok(())

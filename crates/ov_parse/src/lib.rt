@@ -18,6 +18,3 @@ mod term;
 
 pub use laws::{a_text_asks_one_thing, one_query};
 pub use parsing::{ParseErr, parse};
-
-#[cfg(test)]
-mod tests;

@@ -31,6 +31,4 @@ pub use sizes::{cost, stored};
 pub use small::{is_small, is_small_plan, serve_few};
 pub use split::plain_split;
 pub use steps::{copied_more, flipped, is_complete, missing, plan_steps};
-
-#[cfg(test)]
-mod tests;
+pub use trees::depth_at;

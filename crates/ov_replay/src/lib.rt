@@ -4,6 +4,3 @@
 mod replaying;
 
 pub use replaying::{ReplayErr, replay};
-
-#[cfg(test)]
-mod tests;

@@ -13,6 +13,3 @@ pub use ov_model::{
     BudgetLine, CvdLine, LogLine, PartLine, PlanLine, Refusal, Reply, Seq, TableLine,
 };
 pub use writing::{is_error, reply};
-
-#[cfg(test)]
-mod tests;

@@ -14,6 +14,3 @@ mod versions;
 pub use refused::rows_are_refused_as_in_the_model;
 pub use rows_err::RowsErr;
 pub use versions::version_rows;
-
-#[cfg(test)]
-mod tests;

@@ -168,6 +168,4 @@ pub part_spared : (w : World) (area : List ℕ) (s : Numbers) (d : Dataset) (par
     → RefusesPart e s.schema area part.segments part.records s.records → IsSpared e
 part_spared w area s d part Host of_world is why = tt
 part_spared w area s d part Memory of_world is why = tt
-part_spared w area s d part (Damaged page) of_world is (inl bad) =
-    segments_stand s.schema area part.segments (contents_of d part.id) page (read w area s d part of_world is) bad
-part_spared w area s d part (Damaged page) of_world is (inr bad) = no_part_damage w area s d part of_world is bad.1
+part_spared w area s d part (Damaged page) of_world is bad = no_part_damage w area s d part of_world is bad.1

@@ -17,6 +17,3 @@ pub use laws::{
 };
 pub use run::Run;
 pub use step::add;
-
-#[cfg(test)]
-mod tests;

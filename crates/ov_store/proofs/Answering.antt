@@ -1,5 +1,5 @@
 -- Why a call isn't done, out of why its parts aren't.
-use Rattle.std.proofs.Common.{◌≡◌, Some, None, refl}
+use Rattle.std.proofs.Common.{◌≡◌, None}
 use Rattle.std.specs.Prelude.{Option}
 use Rattle.ov_host.specs.Host.{State}
 use Rattle.ov_core.specs.declared.brought.Brought.{Brought}

@@ -3,7 +3,7 @@ use Rattle.std.proofs.Common.{Bor, ◌≡◌, ◌==◌, ◌||◌, ◌<◌, ◌�
 use Rattle.std.specs.Prelude.{Option, Some, None, find, is_some, nat_le, option_map, option_copied, if◌then◌else◌}
 use Rattle.std.specs.List.{list_any}
 use Rattle.std.specs.Option.{option_or}
-use Rattle.std.proofs.lemmas.Bool.{le-leb, lt-leb, leb-false, ne_eqb}
+use Rattle.std.proofs.lemmas.Bool.{le-leb, lt-leb, ne_eqb}
 use Rattle.ov_catalog.specs.Applying.{is_named}
 use Rattle.ov_catalog.specs.Numbers.{SetNumbers, Numbers}
 use Rattle.ov_store.specs.declared.errors.StoreErr.{StoreErr}

@@ -1,6 +1,6 @@
 -- A commit, from what was read.
-use Rattle.std.proofs.Common.{◌≡◌, ◌∙◌, ◌+◌, ◌<◌, ◌≤◌, ◌^◌, ◌++◌, ℕ, Bool, true, false, nat_le, List, [], ◌∷◌, length, map, min, refl, sym, ap, subst, inl, inr, arith}
-use Rattle.std.specs.Prelude.{◌/◌, ◌-◌, IsUtf8, Option, Some, None, slice_get, if◌then◌else◌}
+use Rattle.std.proofs.Common.{◌≡◌, ◌∙◌, ◌+◌, ◌<◌, ◌≤◌, ◌^◌, ◌++◌, ℕ, Bool, true, false, nat_le, List, [], ◌∷◌, length, map, refl, sym, ap, subst, inl, inr, arith}
+use Rattle.std.specs.Prelude.{IsUtf8, Option, Some, None}
 use Rattle.std.specs.List.{All, AllZip}
 use Rattle.std.specs.Option.{option_map, option_or}
 use Rattle.std.proofs.lemmas.List.{length-append}
@@ -11,10 +11,10 @@ use Rattle.ov_segment.specs.declared.numbered.Record.{Record}
 use Rattle.ov_model.specs.Assigned.{stored, stored_parents}
 use Rattle.ov_model.specs.Book.{Row, Version}
 use Rattle.ov_model.specs.Merge.{in_key_order}
-use Rattle.ov_model.specs.Moves.{Commit, version_of}
+use Rattle.ov_model.specs.Moves.{Commit, numbered, version_of}
 use Rattle.ov_model.specs.Placed.{AreThere}
 use Rattle.ov_model.specs.Records.{fresh_in, of_version, order_of, records_of, recs}
-use Rattle.ov_model.specs.World.{Dataset, World}
+use Rattle.ov_model.specs.World.{Dataset, World, first_set}
 use Rattle.ov_catalog.specs.Raw.{event_in}
 use Rattle.ov_catalog.specs.Reached.{AreParents, AreRows, CommitFits, Fits, IfThere}
 use Rattle.ov_catalog.specs.Stands.{asked_event}
@@ -26,7 +26,6 @@ use Rattle.ov_fetch.specs.Extents.{Looked, page_bytes}
 use Rattle.ov_rows.specs.Refusing.{rows_off}
 use Rattle.ov_rows.specs.declared.rows_err.RowsErr.{RowsErr}
 use Rattle.ov_rows.specs.declared.rows_err.RowsErr.TheVariants as rows_err
-use Rattle.ov_agree.specs.Differing.{IsFirstDisagreeing}
 use Rattle.ov_agree.proofs.Kept.{none_disagrees}
 use Rattle.ov_agree.proofs.Rids.{length-assigned}
 use Rattle.ov_agree.proofs.Same.{versions_agree}
@@ -36,11 +35,11 @@ use Rattle.ov_sights.specs.Sights.{HasNumbers}
 use Rattle.ov_sights.proofs.Scanned.{is_stored}
 use Rattle.ov_sights.proofs.Counted.{numbers}
 use Rattle.ov_sights.proofs.Served.{no_damage}
-use Rattle.ov_parents.specs.Parents.{AreDiffering, IsParent, RefusesParents}
+use Rattle.ov_parents.specs.Parents.{IsParent, RefusesParents}
 use Rattle.ov_committing.specs.declared.errors.CommitErr.{CommitErr}
 use Rattle.ov_committing.specs.declared.errors.CommitErr.TheVariants as commit
 use Rattle.ov_committing.specs.Asked.{Asked, rids_of}
-use Rattle.ov_committing.specs.Commits.{IsCommitOf, IsTooLong, Refuses}
+use Rattle.ov_committing.specs.Commits.{IsCommitOf, Refuses}
 use Rattle.ov_committing.specs.Joined.{IsReadOf, RefusesJoined, joined_of}
 use Rattle.ov_committing.specs.OfWorld.{IsAnswered, IsSpared, records_with}
 use Rattle.ov_core.specs.Brought.{content}
@@ -48,7 +47,7 @@ use Rattle.ov_core.specs.Held.{Held}
 use Rattle.ov_core.specs.Rooms.{pages_for}
 use Rattle.ov_store.specs.declared.errors.StoreErr.{StoreErr}
 use Rattle.ov_store.specs.declared.errors.StoreErr.TheVariants as why
-use Rattle.ov_store.specs.Committing.{AreRead, HasTooMany, IfSet, IsDamagedAt, IsSparedBy, IsSparedOff, IsTooLongFor, IsUncommitted, IsUnready, Set, Wish, asked_of, commit_move, commit_off, fresh_in_world, to_off}
+use Rattle.ov_store.specs.Committing.{AreRead, HasTooMany, IfSet, IsDamagedAt, IsSparedBy, IsSparedYet, IsTooLongFor, IsUncommitted, IsUnready, Set, Wish, asked_of, commit_move, commit_off, fresh_in_world, to_off}
 use Rattle.ov_store.specs.Errors.{of_commit, of_fetch, of_rows}
 use Rattle.ov_store.specs.Refusals.{off_if, vids_off}
 use Rattle.ov_store.specs.Scanning.{IsUndamaged, set_in}
@@ -95,12 +94,12 @@ refused_uncommitted held name wish s why.TooManyCvds is = (is, refl)
 refused_uncommitted held name wish s why.NoNumbers is = (is, refl)
 refused_uncommitted held name wish s (why.FormatOne row) is = (is, refl)
 
-refused_spared : (off : Option StoreErr) (d : Dataset) (wish : Wish) (e : StoreErr) → (off ≡ Some why.TooManyRecords → ⊥) → IsRefused off e → IsSparedOff d wish e
+refused_spared : (off : Option StoreErr) (d : Dataset) (wish : Wish) (e : StoreErr) → (off ≡ Some why.TooManyRecords → ⊥) → IsRefused off e → IsSparedYet d wish e
 refused_spared off d wish why.Host none is = tt
 refused_spared off d wish why.Memory none is = tt
 refused_spared off d wish (why.Damaged area at) none is = absurd is
-refused_spared off d wish (why.Full pages) none is = tt
-refused_spared off d wish why.JournalFull none is = tt
+refused_spared off d wish (why.Full pages) none is = absurd is
+refused_spared off d wish why.JournalFull none is = absurd is
 refused_spared off d wish why.TooManyRecords none is = absurd (none is)
 refused_spared off d wish why.NoCvd none is = tt
 refused_spared off d wish why.CvdExists none is = tt
@@ -113,7 +112,7 @@ refused_spared off d wish why.TooManyCvds none is = tt
 refused_spared off d wish why.NoNumbers none is = tt
 refused_spared off d wish (why.FormatOne row) none is = tt
 
-pub commit_spared : (held : Held) (name : List ℕ) (d : Dataset) (wish : Wish) (e : StoreErr) → IsRefused (commit_off held name wish.vids wish.rows) e → IsSparedOff d wish e
+pub commit_spared : (held : Held) (name : List ℕ) (d : Dataset) (wish : Wish) (e : StoreErr) → IsRefused (commit_off held name wish.vids wish.rows) e → IsSparedYet d wish e
 commit_spared held name d wish e is =
     refused_spared (commit_off held name wish.vids wish.rows) d wish e (never_many held.journal.format (set_in held.numbers name) wish.vids wish.rows) is
 
@@ -145,49 +144,33 @@ module _ (w : World) (area : List ℕ) (s : Numbers) (d : Dataset) (of_world : I
       (versions_agree d.cvd.versions vids differ.parents (parents_stored vids differ.parents there differ.read)) differ.first
       in cc
 
--- ---- what a look at the host tells
+-- ---- why a version isn't ready
 
-module _ (s t : State) (looked : Looked s t) where
-  area_same : s.tells ≡ true → page_bytes t ≡ page_bytes s
-  area_same told = ap (λ tape. tape.disk.pages.bytes) (looked.tape told)
-
-  pub commit_moved : (a : Asked) (e : raw.Event) (list segment : List ℕ) → IsCommitOf a t.tells (page_bytes t) e list segment → IsCommitOf a s.tells (page_bytes s) e list segment
-  commit_moved a e list segment is = record {
-    held = is.held;
-    agrees = is.agrees;
-    own = is.own;
-    read = λ told. subst (λ area. IsReadOf a.set area (joined_of a) is.held) (area_same told) (is.read (looked.told ∙ told));
-    event_is = is.event_is;
-    list_is = is.list_is;
-    segment_is = is.segment_is;
-  }
-
-  pub refuses_unready : (held : Held) (name : List ℕ) (set : Set) (wish : Wish) (u : State) (parents : List (List Record)) (e : CommitErr) → set_in held.numbers name ≡ Some set
-      → commit_off held name wish.vids wish.rows ≡ None → AreRead set wish s parents → length (asked_of set wish parents).rows ≤ 1000000
-      → (e ≡ commit.Host → Rose s.faults u.faults) → Refuses e (asked_of set wish parents) t.tells (page_bytes t) → IsUnready held name wish s u (of_commit e)
-  refuses_unready held name set wish u parents commit.Host found off are few rose is = rose refl
-  refuses_unready held name set wish u parents commit.Memory found off are few rose is = tt
-  refuses_unready held name set wish u parents (commit.Damaged page) found off are few rose is = (
-    refl,
-    off,
-    subst (IfSet (λ x. IsDamagedAt x wish s page)) (sym found)
-        (λ told. inr (parents, are, subst (λ area. RefusesJoined (fetch.Damaged page) set area (joined_of (asked_of set wish parents))) (area_same told) (is (looked.told ∙ told)))),
-  )
-  refuses_unready held name set wish u parents commit.TooManyRecords found off are few rose is =
-      (off, subst (IfSet (λ x. HasTooMany x wish s)) (sym found) (record { parents = parents; are = are; many = is }))
-  refuses_unready held name set wish u parents (commit.TooLong list_pages segment_pages) found off are few rose is =
-      let a : Asked = asked_of set wish parents
-      in let rids : length (rids_of a) ≡ length a.rows = length-assigned a.rows (lists_of parents) (set.records + 1)
-      in (
-        off,
-        subst (IfSet (λ x. IsTooLongFor x wish s list_pages segment_pages)) (sym found) (record {
-          parents = parents;
-          are = are;
-          long = record { event = is.event; list = is.list; segment = is.segment; commit = commit_moved a is.event is.list is.segment is.commit; long = is.long };
-        }),
-        list_short (rids_of a) list_pages (omega (arith, few, rids)) (is.long.0 ∙ ap pages_for is.commit.list_is),
-        is.long.2,
-      )
+pub refuses_unready : (s : State) (held : Held) (name : List ℕ) (set : Set) (wish : Wish) (u : State) (parents : List (List Record)) (e : CommitErr) → set_in held.numbers name ≡ Some set
+    → commit_off held name wish.vids wish.rows ≡ None → AreRead set wish s parents → length (asked_of set wish parents).rows ≤ 1000000
+    → Refuses e (asked_of set wish parents) s.tells (page_bytes s) → IsUnready held name wish s u (of_commit e)
+refuses_unready s held name set wish u parents commit.Memory found off are few is = tt
+refuses_unready s held name set wish u parents (commit.Damaged page) found off are few is = (
+  refl,
+  off,
+  subst (IfSet (λ x. IsDamagedAt x wish s page)) (sym found)
+      (λ told. inr (parents, are, is told)),
+)
+refuses_unready s held name set wish u parents commit.TooManyRecords found off are few is =
+    (off, subst (IfSet (λ x. HasTooMany x wish s)) (sym found) (record { parents = parents; are = are; many = is }))
+refuses_unready s held name set wish u parents (commit.TooLong list_pages segment_pages) found off are few is =
+    let a : Asked = asked_of set wish parents
+    in let rids : length (rids_of a) ≡ length a.rows = length-assigned a.rows (lists_of parents) (set.records + 1)
+    in (
+      off,
+      subst (IfSet (λ x. IsTooLongFor x wish s list_pages segment_pages)) (sym found) (record {
+        parents = parents;
+        are = are;
+        long = is;
+      }),
+      list_short (rids_of a) list_pages (omega (arith, few, rids)) (is.long.0 ∙ ap pages_for is.commit.list_is),
+      is.long.2,
+    )
 
 -- ---- at a World
 
@@ -198,6 +181,15 @@ records_more d v =
     in ap length (order_of_more d.cvd.versions v)
     ∙ length-append (order_of d.cvd.versions) (fresh_in (records_of v (recs d.cvd.versions [])) (1 + length (recs d.cvd.versions [])))
     ∙ ap (λ (n : ℕ). length (order_of d.cvd.versions) + length (fresh_in (records_of v (recs d.cvd.versions [])) n)) at
+
+-- a version that fits has the records for it
+pub fits_few : (w : World) (area : List ℕ) (s : Numbers) (d : Dataset) (of_world : IsSetOf w d area s) (wish : Wish) → Fits (commit_move d wish.vids wish.message wish.rows) w
+    → length (order_of d.cvd.versions) + fresh_in_world d wish ≤ 2 ^ 31
+fits_few w area s d of_world wish fits =
+    let v : Version = version_of wish.vids wish.message (in_key_order d.cvd.schema wish.rows)
+    in let among : first_set (numbered d.cvd.number) w.sets ≡ Some d = ap (λ n. first_set (numbered n) w.sets) (sym (numbers w area s d of_world).number) ∙ of_world.among
+    in let there : CommitFits d v = subst (λ o. IfThere (λ x. CommitFits x v) o) among fits
+    in omega (arith, there.records, records_more d v)
 
 module _ (w : World) (area : List ℕ) (s : Numbers) (d : Dataset) (of_world : IsSetOf w d area s) (wish : Wish) (made : List Row) (parents : List (List Record))
     (sorted : made ≡ in_key_order s.schema wish.rows) where
@@ -213,21 +205,21 @@ module _ (w : World) (area : List ℕ) (s : Numbers) (d : Dataset) (of_world : I
   move_is : Commit s.number wish.vids wish.message [] made ≡ commit_move d wish.vids wish.message wish.rows
   move_is = λ i. Commit (numbered_as.number i) wish.vids wish.message [] (made_is i)
 
-  module _ (e : raw.Event) (fresh : ℕ) (list segment : List ℕ) (answered : IsAnswered asked w d e fresh list segment) where
-    pub commit_fits : AreParents (length s.versions) wish.vids → IsUtf8 wish.message → length wish.message ≤ 1024 → length s.versions < 65535 → AreRows s.schema made
-        → Fits (commit_move d wish.vids wish.message wish.rows) w
-    commit_fits are text short few rows =
-        subst (λ m. Fits m w) move_is
-        (subst (IfThere (λ x. CommitFits x (version_of wish.vids wish.message made))) (sym of_world.among)
-        (record {
-          parents = subst (λ n. AreParents n wish.vids) numbered_as.versions are;
-          text = text;
-          short = short;
-          few = subst (λ (n : ℕ). n < 65535) numbered_as.versions few;
-          rows = subst (λ schema. AreRows schema made) numbered_as.schema rows;
-          records = answered.room;
-        }))
+  pub commit_fits : records_with asked d ≤ 2 ^ 31 → AreParents (length s.versions) wish.vids → IsUtf8 wish.message → length wish.message ≤ 1024 → length s.versions < 65535
+      → AreRows s.schema made → Fits (commit_move d wish.vids wish.message wish.rows) w
+  commit_fits room are text short few rows =
+      subst (λ m. Fits m w) move_is
+      (subst (IfThere (λ x. CommitFits x (version_of wish.vids wish.message made))) (sym of_world.among)
+      (record {
+        parents = subst (λ n. AreParents n wish.vids) numbered_as.versions are;
+        text = text;
+        short = short;
+        few = subst (λ (n : ℕ). n < 65535) numbered_as.versions few;
+        rows = subst (λ schema. AreRows schema made) numbered_as.schema rows;
+        records = room;
+      }))
 
+  module _ (e : raw.Event) (fresh : ℕ) (list segment : List ℕ) (answered : IsAnswered asked w d e fresh list segment) where
     pub commit_says : content (event_in e) list segment ≡ asked_event (commit_move d wish.vids wish.message wish.rows) w
     commit_says = answered.says ∙ ap (λ m. asked_event m w) move_is
 
@@ -235,13 +227,18 @@ module _ (w : World) (area : List ℕ) (s : Numbers) (d : Dataset) (of_world : I
     commit_fresh = answered.fresh_is
         ∙ ap (λ (rows : List Row). length (fresh_in (records_of (version_of wish.vids wish.message rows) (recs d.cvd.versions [])) (length d.cvd.versions + 1))) made_is
 
-  pub spared_by : (e : CommitErr) → IsSpared e asked d → IsSparedBy d wish (of_commit e)
-  spared_by commit.Host is = tt
-  spared_by commit.Memory is = tt
-  spared_by (commit.Damaged page) is = absurd is
-  spared_by commit.TooManyRecords is =
+  pub spared_by : (records_with asked d ≤ 2 ^ 31 → Fits (commit_move d wish.vids wish.message wish.rows) w) → (e : CommitErr) → IsSpared e asked w d → IsSparedBy w d wish (of_commit e)
+  spared_by fits commit.Memory is = tt
+  spared_by fits (commit.Damaged page) is = absurd is
+  spared_by fits commit.TooManyRecords is =
       let more : records_with asked d ≡ length (order_of d.cvd.versions) + fresh_in_world d wish
       = ap (λ (rows : List Row). length (order_of (d.cvd.versions ++ version_of wish.vids wish.message rows ∷ []))) made_is
       ∙ records_more d (version_of wish.vids wish.message (in_key_order d.cvd.schema wish.rows))
       in omega (arith, is, more)
-  spared_by (commit.TooLong list_pages segment_pages) is = tt
+  spared_by fits (commit.TooLong list_pages segment_pages) is = (
+    fits is.room,
+    record {
+      written = record { event = is.event; list = is.list; segment = is.segment; says = is.says ∙ ap (λ m. asked_event m w) move_is; sized = is.sized; runs = inl is.runs };
+      long = is.long;
+    },
+  )

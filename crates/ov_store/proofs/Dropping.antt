@@ -1,6 +1,6 @@
 -- A dataset that goes.
-use Rattle.std.proofs.Common.{◌≡◌, ◌==◌, ℕ, Bool, true, false, List, [], ◌∷◌, map, refl, sym, ◌∙◌, ap, subst, arith}
-use Rattle.std.specs.Prelude.{Option, Some, None, find, option_map, if◌then◌else◌}
+use Rattle.std.proofs.Common.{◌≡◌, ◌==◌, ℕ, Bool, true, false, List, [], ◌∷◌, map, refl, sym, ◌∙◌, ap, subst}
+use Rattle.std.specs.Prelude.{Option, Some, None, find, is_some, option_map, if◌then◌else◌}
 use Rattle.std.proofs.lemmas.Bool.{eq-eqb}
 use Rattle.ov_host.specs.Host.{State}
 use Rattle.ov_host.specs.declared.area.Extent.{Extent}
@@ -9,7 +9,7 @@ use Rattle.ov_model.specs.Moves.{Drop, numbered, moved}
 use Rattle.ov_model.specs.World.{Dataset, World, first_set, named, set_named}
 use Rattle.ov_catalog.specs.Applying.{first_off, is_named, of_live}
 use Rattle.ov_catalog.specs.Events as events
-use Rattle.ov_catalog.specs.Numbers.{SetNumbers, Numbers, each_set, each}
+use Rattle.ov_catalog.specs.Numbers.{SetNumbers, Numbers, each_set}
 use Rattle.ov_catalog.specs.Reached.{Fits, IfThere}
 use Rattle.ov_catalog.specs.Shown.{shown, shown_set}
 use Rattle.ov_catalog.specs.Stands.{Readings, seen, asked}
@@ -17,6 +17,7 @@ use Rattle.ov_image.specs.Pages.{readings_of}
 use Rattle.ov_core.specs.AtWorld.{IsAtWorld}
 use Rattle.ov_core.specs.Held.{Held}
 use Rattle.ov_store.specs.Dropping.{number_named, dropped, without}
+use Rattle.ov_store.specs.Worlds.{drop_of_set, drop_refusal}
 use Rattle.ov_store.proofs.Fitting.{sees}
 
 number_each : {L M S T : Type 0} (f : L → M) (g : S → T) (name : List ℕ) (sets : List (SetNumbers L S))
@@ -95,3 +96,19 @@ module _ (w : World) (held : Held) (s : State) (at : IsAtWorld w held s) (name :
 
   pub drop_is : moved (Drop cvd) w ≡ dropped name w
   drop_is = (both (set_named w name) refl numbers).1
+
+  -- it is there, is not refused, and has the number
+  pub drop_number : (is_some (set_named w name) ≡ true) × (drop_refusal w name ≡ None) × ((d : Dataset) → set_named w name ≡ Some d → cvd ≡ d.cvd.number)
+  drop_number = by (set_named w name) numbers
+    where
+      by : (o : Option Dataset) → option_map (λ d. d.cvd.number) o ≡ Some cvd
+          → (is_some o ≡ true) × (drop_of_set name o ≡ None) × ((d : Dataset) → o ≡ Some d → cvd ≡ d.cvd.number)
+      by None e = absurd cc
+      by (Some x) e = (refl, refl, λ d same. ap (λ o. elim o as (λ _. ℕ) [ None ↦ cvd | Some y ↦ y ]) (sym e ∙ ap (option_map (λ (y : Dataset). y.cvd.number)) same))
+
+pub drop_gone : (w : World) (held : Held) (s : State) (at : IsAtWorld w held s) (name : List ℕ) → number_named held.numbers name ≡ None → set_named w name ≡ None
+drop_gone w held s at name gone = by (set_named w name) (sym (number_seen (readings_of s.tape.disk.pages.bytes) held.numbers w name (sees w held s at)) ∙ gone)
+  where
+    by : (o : Option Dataset) → option_map (λ (d : Dataset). d.cvd.number) o ≡ None → o ≡ None
+    by None e = refl
+    by (Some d) e = absurd cc

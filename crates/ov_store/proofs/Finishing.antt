@@ -1,8 +1,8 @@
 -- A commit out of its parts.
-use Rattle.std.proofs.Common.{◌≡◌, ◌∙◌, ◌≤◌, ◌<◌, ◌+◌, ◌^◌, ℕ, true, List, length, refl, sym, ap, subst, arith}
+use Rattle.std.proofs.Common.{◌≡◌, ◌∙◌, ◌≤◌, ◌<◌, ℕ, true, List, length, refl, sym, ap, subst, arith}
 use Rattle.std.specs.Prelude.{Option, Some, None}
 use Rattle.std.specs.Option.{option_map}
-use Rattle.ov_host.specs.Host.{Rose, State}
+use Rattle.ov_host.specs.Host.{State}
 use Rattle.ov_host.specs.Tape.{Tape}
 use Rattle.ov_host.specs.declared.area.Extent.{Extent}
 use Rattle.ov_model.specs.Book.{Row}
@@ -11,7 +11,7 @@ use Rattle.ov_model.specs.World.{Dataset, World, set_named}
 use Rattle.ov_catalog.specs.Extents.{live}
 use Rattle.ov_image.specs.Pages.{readings_of}
 use Rattle.ov_core.specs.AtWorld.{IsAtWorld}
-use Rattle.ov_core.specs.Held.{GoesOn, Held}
+use Rattle.ov_core.specs.Held.{Held}
 use Rattle.ov_fetch.specs.Extents.{Looked}
 use Rattle.ov_committing.specs.Asked.{fresh_of}
 use Rattle.ov_writing.specs.Written.{IsLong}
@@ -20,7 +20,7 @@ use Rattle.ov_store.specs.declared.errors.StoreErr.TheVariants as why
 use Rattle.ov_store.specs.declared.unready.Unready.{Unready}
 use Rattle.ov_store.specs.declared.unready.Unready.TheVariants.{Off, TooLong}
 use Rattle.ov_store.specs.Changes.{Bringing, IsUnstored}
-use Rattle.ov_store.specs.Committing.{FindsNoRun, FindsNoRecord, IfSet, asked_of, IsCommitBy, IsSparedBy, IsSparedOff, IsTooLongFor, IsUncommitted, IsUnready, Set, Wish, commit_move, commit_off, committed, to_off, with_commit}
+use Rattle.ov_store.specs.Committing.{FindsNoRun, FindsNoRecord, IfSet, asked_of, IsCommitBy, IsSparedBy, IsSparedOff, IsSparedYet, IsTooLongFor, IsUncommitted, IsUnready, Set, Wish, commit_move, commit_off, committed, to_off, with_commit}
 use Rattle.ov_store.specs.Kept.{Kept, MayCall, Stays}
 use Rattle.ov_store.specs.Scanning.{set_in}
 use Rattle.ov_store.specs.Unready.{IsFewPages, IsNoRoom}
@@ -107,6 +107,24 @@ no_room_spared live list segment d wish why.TooManyCvds is = absurd is
 no_room_spared live list segment d wish why.NoNumbers is = absurd is
 no_room_spared live list segment d wish (why.FormatOne row) is = absurd is
 
+pub spared_yet : (d : Dataset) (wish : Wish) (e : StoreErr) → IsSparedYet d wish e → IsSparedOff d wish e
+spared_yet d wish why.Host is = is
+spared_yet d wish why.Memory is = is
+spared_yet d wish (why.Damaged area at) is = is
+spared_yet d wish (why.Full pages) is = absurd is
+spared_yet d wish why.JournalFull is = absurd is
+spared_yet d wish why.NoCvd is = is
+spared_yet d wish why.CvdExists is = is
+spared_yet d wish (why.NoVersion vid) is = is
+spared_yet d wish (why.RepeatedVersion vid) is = is
+spared_yet d wish (why.DuplicateKey row) is = is
+spared_yet d wish why.TooManyVersions is = is
+spared_yet d wish why.TooManyRecords is = is
+spared_yet d wish why.TooManyRows is = is
+spared_yet d wish why.TooManyCvds is = is
+spared_yet d wish why.NoNumbers is = is
+spared_yet d wish (why.FormatOne row) is = is
+
 module _ (held : Held) (name : List ℕ) (wish : Wish) (s t : State) (e : StoreErr) where
   abbrev ByOff : Unready → Type 0
   ByOff u = (refusal : StoreErr) → u ≡ Off refusal → e ≡ refusal
@@ -134,9 +152,9 @@ module _ (held : Held) (name : List ℕ) (wish : Wish) (s t : State) (e : StoreE
         full = subst (IsNoRoom (live held.numbers) it.long.list it.long.segment) full (by_long list_pages segment_pages it.long.list it.long.segment refl it.long.long);
       }) (set_in held.numbers name) is.1)
 
-  pub unready_spared : (d : Dataset) (u : Unready) → IsUnready held name wish s t u → ByOff u → ByLong u → IsSparedBy d wish u → IsSparedOff d wish e
-  unready_spared d (Off refusal) is by_off by_long spared = subst (IsSparedOff d wish) (sym (by_off refusal refl)) spared
-  unready_spared d (TooLong list_pages segment_pages) is by_off by_long spared =
+  pub unready_spared : (w : World) (d : Dataset) (u : Unready) → IsUnready held name wish s t u → ByOff u → ByLong u → IsSparedBy w d wish u → IsSparedOff d wish e
+  unready_spared w d (Off refusal) is by_off by_long spared = subst (IsSparedOff d wish) (sym (by_off refusal refl)) (spared_yet d wish refusal spared)
+  unready_spared w d (TooLong list_pages segment_pages) is by_off by_long spared =
       let long = long_in list_pages segment_pages (set_in held.numbers name) is.1
       in no_room_spared (live held.numbers) long.1.long.list long.1.long.segment d wish e
       (by_long list_pages segment_pages long.1.long.list long.1.long.segment refl long.1.long.long)

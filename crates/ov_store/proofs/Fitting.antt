@@ -1,5 +1,5 @@
 -- What fits the World that a store is at.
-use Rattle.std.proofs.Common.{◌≡◌, ◌==◌, ◌<◌, ◌≤◌, ℕ, Bool, true, false, List, length, refl, sym, ◌∙◌, ap, subst, arith}
+use Rattle.std.proofs.Common.{◌≡◌, ◌==◌, ◌<◌, ◌≤◌, ℕ, Bool, true, false, List, length, refl, sym, ◌∙◌, ap, subst}
 use Rattle.std.specs.Prelude.{Option, Some, None, IsTrue, is_some, nat_le}
 use Rattle.std.specs.Option.{option_or}
 use Rattle.std.specs.List.{All}
@@ -7,19 +7,15 @@ use Rattle.std.specs.List.Sorted.{IsPermutation}
 use Rattle.std.proofs.lemmas.Bool.{leb-false}
 use Rattle.std.proofs.lemmas.List.Sorted.{All-permutation}
 use Rattle.ov_host.specs.Host.{State}
-use Rattle.ov_host.specs.declared.area.Extent.{Extent}
 use Rattle.ov_value.specs.Naming.{is_name}
 use Rattle.ov_value.specs.Rows.{key_cmp}
 use Rattle.ov_value.specs.Shapes.{Shape, IsSound}
 use Rattle.ov_value.specs.Spelling.{IsRow}
 use Rattle.ov_model.specs.Lists.{Rises}
 use Rattle.ov_model.specs.Book.{Row}
-use Rattle.ov_model.specs.World.{Dataset, World, first_set, named}
-use Rattle.ov_catalog.specs.Numbers.{Numbers}
-use Rattle.ov_catalog.specs.Raw.{numbers_in}
+use Rattle.ov_model.specs.World.{World, first_set, named}
 use Rattle.ov_catalog.specs.Reached.{AreRows, InitFits}
-use Rattle.ov_catalog.specs.Shown.{shown}
-use Rattle.ov_catalog.specs.Stands.{Readings, seen, asked}
+use Rattle.ov_catalog.specs.Stands.{seen, asked}
 use Rattle.ov_image.specs.Pages.{readings_of}
 use Rattle.ov_core.specs.AtWorld.{IsAtWorld}
 use Rattle.ov_core.specs.Held.{Held}

@@ -13,3 +13,5 @@ pub mod Asking
 pub mod Commits
 pub mod Readying
 pub mod Finishing
+pub mod Deciding
+pub mod Lacking

@@ -1,13 +1,11 @@
 -- A store stays at its World while its host is only looked at.
-use Rattle.std.proofs.Common.{◌≡◌, ℕ, List, true, take, sym, ◌∙◌, ap, subst}
+use Rattle.std.proofs.Common.{◌≡◌, true, take, sym, ◌∙◌, subst}
 use Rattle.ov_host.specs.Disk.{as_read, settled}
 use Rattle.ov_host.specs.Host.{State}
-use Rattle.ov_host.specs.Stops.{Only}
 use Rattle.ov_host.specs.Tape.{Tape}
 use Rattle.ov_journal.specs.Bytes.{IsLive}
-use Rattle.ov_journal.specs.Held.{IsAt, kept_by}
+use Rattle.ov_journal.specs.Held.{kept_by}
 use Rattle.ov_journal.specs.Journal.{IsJournal}
-use Rattle.ov_step.specs.Puts.{PagesAtRest}
 use Rattle.ov_model.specs.World.{World}
 use Rattle.ov_image.specs.Images.{StandsBy}
 use Rattle.ov_fetch.specs.Extents.{Looked}

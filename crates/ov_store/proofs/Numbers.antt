@@ -1,10 +1,9 @@
 -- The datasets of numbers that events make have different numbers.
 use Rattle.std.proofs.Common.{◌≡◌, ◌≢◌, ◌==◌, ◌+◌, ◌<◌, ℕ, Bool, true, false, not, List, [], ◌∷◌, ◌++◌, map, refl, sym, ◌∙◌, ap, subst, inl, inr, arith}
-use Rattle.std.specs.Prelude.{Option, Some, None, find, filter, if◌then◌else◌}
+use Rattle.std.specs.Prelude.{Some, None, find, filter, if◌then◌else◌}
 use Rattle.std.proofs.lemmas.Bool.{eq-eqb, ne_eqb}
 use Rattle.ov_host.specs.declared.area.Extent.{Extent}
 use Rattle.ov_event.specs.declared.event.Event as raw
-use Rattle.ov_place.specs.declared.place_facts.Place.{Place}
 use Rattle.ov_model.specs.Lists.{IsIn}
 use Rattle.ov_catalog.specs.Applying.{is_named}
 use Rattle.ov_catalog.specs.Events.{Event, Init, Commit, Drop, Other, applied, change, new_set, numbered, replayed, version_of, with_version}

@@ -1,6 +1,6 @@
 -- Refusals by numbers are those of the World that has them.
 use Rattle.std.proofs.Common.{◌≡◌, ◌==◌, ◌||◌, ℕ, Bool, true, false, List, [], ◌∷◌, length, map, refl, sym, ◌∙◌, ap}
-use Rattle.std.specs.Prelude.{Option, Some, None, nat_le, nat_lt, is_some, if◌then◌else◌}
+use Rattle.std.specs.Prelude.{Option, Some, nat_le, nat_lt, is_some, if◌then◌else◌}
 use Rattle.std.specs.List.{list_any}
 use Rattle.std.specs.Option.{option_or}
 use Rattle.std.proofs.lemmas.List.{length-map}
@@ -47,7 +47,7 @@ refused_or : (name : List ℕ) (b : Bool) (off : StoreErr) (refusal : Refusal) (
 refused_or name true off refusal rest e = e
 refused_or name false off refusal rest e = refl
 
-refused_last : (name : List ℕ) (b : Bool) (off : StoreErr) (refusal : Refusal) → refusal_of name off ≡ Some refusal → refused name (off_if b off) ≡ if_so b refusal
+pub refused_last : (name : List ℕ) (b : Bool) (off : StoreErr) (refusal : Refusal) → refusal_of name off ≡ Some refusal → refused name (off_if b off) ≡ if_so b refusal
 refused_last name true off refusal e = e
 refused_last name false off refusal e = refl
 

@@ -1,9 +1,7 @@
 -- What is read of the World that a store is at.
-use Rattle.std.proofs.Common.{◌≡◌, ◌∙◌, ℕ, List, map, sym, ap, subst}
-use Rattle.std.specs.Prelude.{Option, Some, None}
-use Rattle.std.specs.List.{All, AllZip}
+use Rattle.std.proofs.Common.{◌≡◌, ◌∙◌, ℕ, List, sym, ap, subst}
+use Rattle.std.specs.Prelude.{Some, None}
 use Rattle.ov_host.specs.Host.{State}
-use Rattle.ov_model.specs.Records.{rows_at}
 use Rattle.ov_model.specs.World.{Dataset, World, set_named}
 use Rattle.ov_fetch.specs.declared.errors.FetchErr.{FetchErr}
 use Rattle.ov_fetch.specs.declared.errors.FetchErr.TheVariants as fetch

@@ -1,6 +1,6 @@
 -- What a stop leaves of a store that is at a World, before a call changes anything.
-use Rattle.std.proofs.Common.{◌≡◌, ℕ, List, sym, subst, inl, inr}
-use Rattle.ov_host.specs.Disk.{Image, Leaves, MayLeave, settled}
+use Rattle.std.proofs.Common.{◌≡◌, sym, subst, inl, inr}
+use Rattle.ov_host.specs.Disk.{Image, Leaves, MayLeave}
 use Rattle.ov_host.specs.Host.{State}
 use Rattle.ov_host.specs.Stops.{Only}
 use Rattle.ov_host.proofs.Stops.{only_start}
@@ -9,10 +9,11 @@ use Rattle.ov_journal.specs.Held.{kept_by}
 use Rattle.ov_journal.specs.Journal.{IsJournal}
 use Rattle.ov_model.specs.World.{World}
 use Rattle.ov_catalog.specs.Stands.{StandsFor}
-use Rattle.ov_image.specs.Images.{StandsAs, IsMade}
+use Rattle.ov_image.specs.Images.{StandsAs}
 use Rattle.ov_image.specs.Pages.{readings_of}
 use Rattle.ov_core.specs.AtWorld.{IsAtWorld, IsEither}
 use Rattle.ov_core.specs.Held.{Held}
+use Rattle.ov_open.specs.Opening.{IsWorld}
 
 module _ (w : World) (held : Held) (s : State) (at : IsAtWorld w held s) (c : Image) (left : MayLeave s.tape.disk c) where
   pages_same : c.pages ≡ s.tape.disk.pages.bytes
@@ -38,3 +39,7 @@ module _ (w : World) (held : Held) (s : State) (at : IsAtWorld w held s) (c : Im
 pub still : (w v : World) (held : Held) (s : State) → IsAtWorld w held s → Only s.tape s.tape (IsEither w v s.tape.disk.printed)
 still w v held s at =
     only_start s.tape (IsEither w v s.tape.disk.printed) (λ c left. record { stands = inl (stands_still w held s at c left); printed_is = left.printed })
+
+pub still_world : (w : World) (held : Held) (s : State) → IsAtWorld w held s → Only s.tape s.tape (IsWorld w s.tape.disk.printed)
+still_world w held s at =
+    only_start s.tape (IsWorld w s.tape.disk.printed) (λ c left. record { stands = stands_still w held s at c left; printed_is = left.printed })

@@ -1,30 +1,36 @@
 -- Why a call isn't done whose version isn't ready.
-use Rattle.std.proofs.Common.{◌≡◌, ◌<◌, ◌≤◌, ◌^◌, ◌+◌, ℕ, List, [], length, sym, ◌∙◌, ap, subst, refl, arith}
+use Rattle.std.proofs.Common.{inl, ◌≡◌, ◌<◌, ◌≤◌, ◌^◌, ◌+◌, ℕ, List, [], length, sym, ◌∙◌, ap, subst, refl, arith}
 use Rattle.std.specs.Prelude.{◌/◌, Option, None}
 use Rattle.ov_host.specs.Host.{State}
 use Rattle.ov_host.specs.declared.area.Extent.{Extent}
 use Rattle.ov_value.specs.Shapes.{Shape}
 use Rattle.ov_model.specs.Book.{Row}
 use Rattle.ov_model.specs.Merge.{in_key_order}
+use Rattle.ov_model.specs.Moves.{Init}
 use Rattle.ov_model.specs.Records.{counted}
+use Rattle.ov_model.specs.World.{World}
+use Rattle.ov_catalog.specs.Events as events
 use Rattle.ov_catalog.specs.Extents.{live}
+use Rattle.ov_catalog.specs.Reached.{AreRows}
+use Rattle.ov_catalog.specs.Stands.{asked_event}
 use Rattle.ov_core.specs.declared.errors.ChangeErr.{ChangeErr}
 use Rattle.ov_core.specs.declared.errors.ChangeErr.TheVariants as change
 use Rattle.ov_core.specs.Held.{Held}
 use Rattle.ov_core.specs.Rooms.{IsWhyNoRuns}
-use Rattle.ov_writing.specs.Written.{IsLong, IsWhy as IsUnwritten, list_written, segment_written}
+use Rattle.ov_writing.specs.Written.{IsLong, IsWhy as IsUnwritten, first_event, list_written, segment_written}
 use Rattle.ov_writing.specs.declared.write_err.WriteErr.{WriteErr}
 use Rattle.ov_writing.specs.declared.write_err.WriteErr.TheVariants as write
+use Rattle.ov_writing.proofs.Beginning.{first_list, first_segments}
 use Rattle.ov_writing.proofs.Counting.{counted_long}
 use Rattle.ov_writing.proofs.Listing.{IsSized, list_sized}
 use Rattle.ov_store.specs.declared.errors.StoreErr.{StoreErr}
 use Rattle.ov_store.specs.declared.errors.StoreErr.TheVariants as why
 use Rattle.ov_store.specs.declared.unready.Unready.{Unready}
 use Rattle.ov_store.specs.declared.unready.Unready.TheVariants.{Off, TooLong}
-use Rattle.ov_store.specs.Beginning.{first_of}
+use Rattle.ov_store.specs.Beginning.{first_move, first_of}
 use Rattle.ov_store.specs.Changes.{Bringing, IsWhy}
 use Rattle.ov_store.specs.Errors.{of_change, unready_of}
-use Rattle.ov_store.specs.Unready.{IsNoRoom, IsUnready}
+use Rattle.ov_store.specs.Unready.{IfTooLong, IsNoRoom, IsUnready}
 use Rattle.ov_store.proofs.Answering.{why_refused}
 
 -- a list has at most eight bytes a rid
@@ -39,6 +45,25 @@ first_unready off name schema rows made (write.TooLong list_pages segment_pages)
     = subst (λ (n : ℕ). IsLong list_pages segment_pages (list_written (counted 1 n)) (segment_written [] (counted 1 n) (in_key_order schema rows))) same
     (subst (λ (all : List Row). IsLong list_pages segment_pages (list_written (counted 1 (length made))) (segment_written [] (counted 1 (length made)) all)) is cause)
     in (none, long, list_short (counted 1 (length made)) list_pages (omega (arith, few, counted_long 1 (length made))) cause.0)
+
+-- what is too long is what the World asks for
+pub first_long : (w : World) (name : List ℕ) (schema : Shape) (rows made : List Row) (e : WriteErr) → made ≡ in_key_order schema rows → AreRows schema made
+    → IsUnwritten e [] (counted 1 (length made)) made → IfTooLong (first_move name schema rows) w (unready_of e)
+first_long w name schema rows made write.Memory is are cause = tt
+first_long w name schema rows made (write.TooLong list_pages segment_pages) is are cause =
+    let list : List ℕ = list_written (counted 1 (length made))
+    in let segment : List ℕ = segment_written [] (counted 1 (length made)) made
+    in record {
+      written = record {
+        event = first_event name schema made list segment;
+        list = list;
+        segment = segment;
+        says = (λ i. events.Init name schema (length made) (first_list schema made are i) (first_segments schema made are i)) ∙ ap (λ all. asked_event (Init name schema all) w) is;
+        sized = refl;
+        runs = inl tt;
+      };
+      long = cause;
+    }
 
 pub no_room : (es : List Extent) (list segment : List ℕ) (off : ChangeErr) → IsWhyNoRuns es list segment off → IsNoRoom es list segment (of_change off)
 no_room es list segment change.Host is = absurd is

@@ -3,7 +3,6 @@
 --     asked_of s vids message rows parents      the version that is asked for, where these are its parents' records
 --     IsCommitBy, IsCommitted      what a commit brings, from what was read; that it was made
 --     IsUncommitted      why it wasn't
---     reads_for s vids      how many bytes of pages it may read
 --     committed name wish w      the World with the version; as it is where no dataset has the name
 use Rattle.std.specs.Prelude.{◌≡◌, ◌<◌, ◌≤◌, ◌+◌, ◌^◌, ◌⊎◌, ℕ, true, false, nat_le, List, [], length, Option, Some, None}
 use Rattle.std.specs.List.{AllZip}
@@ -19,7 +18,8 @@ use Rattle.ov_model.specs.Moves.{Move, Commit, moved}
 use Rattle.ov_model.specs.Records.{order_of}
 use Rattle.ov_model.specs.World.{Dataset, World, set_named}
 use Rattle.ov_catalog.specs.Extents.{live}
-use Rattle.ov_catalog.specs.Numbers.{SetNumbers, Numbers}
+use Rattle.ov_catalog.specs.Numbers.{SetNumbers}
+use Rattle.ov_catalog.specs.Reached.{Fits}
 use Rattle.ov_core.specs.Held.{Held}
 use Rattle.ov_core.specs.Rooms.{IsFull, PassesJournal}
 use Rattle.ov_fetch.specs.declared.errors.FetchErr.TheVariants as fetch
@@ -30,7 +30,6 @@ use Rattle.ov_parents.specs.Parents.{IsParent, RefusesParents}
 use Rattle.ov_committing.specs.Asked.{Asked, fresh_of}
 use Rattle.ov_committing.specs.Commits.{IsCommitOf, IsTooLong}
 use Rattle.ov_committing.specs.Joined.{RefusesJoined, joined_of}
-use Rattle.ov_versions.specs.Sizes.{bytes_for, segment_bytes_for}
 use Rattle.ov_store.specs.declared.errors.StoreErr.{StoreErr}
 use Rattle.ov_store.specs.declared.errors.StoreErr.TheVariants as why
 use Rattle.ov_store.specs.declared.store.Committed.{Committed}
@@ -40,12 +39,17 @@ use Rattle.ov_store.specs.Changes.{Bringing, IsDone}
 use Rattle.ov_store.specs.Errors.{of_rows}
 use Rattle.ov_store.specs.Refusals.{off_if, vids_off}
 use Rattle.ov_store.specs.Scanning.{set_in}
+use Rattle.ov_store.specs.Unready.{AsksTooMuch}
 
 abbrev pub Set : Type 0
 Set = SetNumbers Extent Extent
 
 abbrev pub parents_off : Set → List ℕ → Option StoreErr
 parents_off s vids = option_or (vids_off (length s.versions) [] vids) (off_if (nat_le 65535 (length s.versions)) why.TooManyVersions)
+
+abbrev pub parents_off_in : Option Set → List ℕ → Option StoreErr
+parents_off_in None vids = Some why.NoCvd
+parents_off_in (Some s) vids = parents_off s vids
 
 abbrev pub to_off : ℕ → Option Set → List ℕ → List Row → Option StoreErr
 to_off format None vids rows = Some why.NoCvd
@@ -72,10 +76,6 @@ pub record AreRead (s : Set) (wish : Wish) (t : State) (parents : List (List Rec
   pub agree : ParentsAgree s wish.vids parents
   pub read : t.tells ≡ true → AllZip (IsParent (page_bytes t) s) wish.vids parents
 
--- the lists of the parents and the segments of their partitions, and the partition that is joined once more
-abbrev pub reads_for : Set → List ℕ → ℕ
-reads_for s vids = bytes_for s vids + segment_bytes_for s vids
-
 pub record IsCommitBy (s : Set) (wish : Wish) (t : State) (b : Bringing) (fresh : ℕ) : Type 0 where
   pub parents : List (List Record)
   pub are : AreRead s wish t parents
@@ -91,7 +91,7 @@ pub record IsCommitted (s : Set) (wish : Wish) (t : State) (old new : Held) (mad
 
 -- ---- why not
 
--- the parents, or the partition that is joined, are damaged
+-- a parent is damaged, or the partition that is joined doesn't agree
 abbrev pub IsDamagedAt : Set → Wish → State → ℕ → Type 0
 IsDamagedAt s wish t page = t.tells ≡ true → RefusesParents (fetch.Damaged page) (page_bytes t) s wish.vids
     ⊎ ((parents : List (List Record)) × AreRead s wish t parents
@@ -165,6 +165,14 @@ IsSparedOff d wish (why.Damaged area at) = ⊥
 IsSparedOff d wish why.TooManyRecords = 2 ^ 31 < length (order_of d.cvd.versions) + fresh_in_world d wish
 IsSparedOff d wish _ = Unit {0}
 
-abbrev pub IsSparedBy : Dataset → Wish → Unready → Type 0
-IsSparedBy d wish (unready.Off refusal) = IsSparedOff d wish refusal
-IsSparedBy d wish (unready.TooLong list_pages segment_pages) = Unit {0}
+-- and before anything is stored no room is wanting
+abbrev pub IsSparedYet : Dataset → Wish → StoreErr → Type 0
+IsSparedYet d wish (why.Full pages) = ⊥
+IsSparedYet d wish why.JournalFull = ⊥
+IsSparedYet d wish off = IsSparedOff d wish off
+
+-- what is too long is what the World asks for, and it refuses nothing of it
+abbrev pub IsSparedBy : World → Dataset → Wish → Unready → Type 0
+IsSparedBy w d wish (unready.Off refusal) = IsSparedYet d wish refusal
+IsSparedBy w d wish (unready.TooLong list_pages segment_pages) =
+    Fits (commit_move d wish.vids wish.message wish.rows) w × AsksTooMuch (commit_move d wish.vids wish.message wish.rows) w list_pages segment_pages

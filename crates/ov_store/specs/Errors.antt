@@ -42,7 +42,6 @@ of_fetch fetch.Memory = why.Memory
 of_fetch (fetch.Damaged page) = why.Damaged Pages page
 
 abbrev pub of_commit : CommitErr → Unready
-of_commit commit.Host = unready.Off why.Host
 of_commit commit.Memory = unready.Off why.Memory
 of_commit (commit.Damaged page) = unready.Off (why.Damaged Pages page)
 of_commit commit.TooManyRecords = unready.Off why.TooManyRecords

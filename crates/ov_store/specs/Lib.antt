@@ -8,3 +8,4 @@ pub mod Beginning
 pub mod Dropping
 pub mod Scanning
 pub mod Committing
+pub mod Worlds

@@ -13,12 +13,19 @@ ghost use Rattle.ov_catalog.specs.Sets.{set_in as numbers_of};
 ghost use Rattle.ov_core.specs.AtWorld.{IsAtNext, IsAtWorld, IsEither};
 ghost use Rattle.ov_core.specs.Brought.{Brings};
 ghost use Rattle.ov_fetch.specs.Extents.{Looked};
+ghost use Rattle.ov_versions.specs.Sizes.{bytes_for};
 ghost use Rattle.ov_store.specs.Beginning.{IsShort};
 ghost use Rattle.ov_store.specs.Changes.{IsReady, bringing_of};
-ghost use Rattle.ov_store.specs.Committing.{Set, IsCommitBy, IsCommitted, IsSparedBy, IsSparedOff, IsUncommitted, IsUnready, commit_move, commit_off, committed, fresh_in_world, reads_for};
+ghost use Rattle.ov_store.specs.Committing.{Set, IsCommitBy, IsCommitted, IsSparedBy, IsSparedOff, IsUncommitted, IsUnready, commit_move, commit_off, committed, fresh_in_world, parents_off_in};
 ghost use Rattle.ov_store.specs.Kept.{MayCall, Stays};
+ghost use Rattle.ov_store.specs.Listing.{IsListed};
 ghost use Rattle.ov_store.specs.Scanning.{set_in};
 ghost use Rattle.ov_store.specs.Unready.{IsFewPages, IsNoRoom, IsRefused};
+ghost use Rattle.ov_store.specs.Worlds.{HasSchema, IsByNumbers, IsLack, IsRefusedAs, and_made, parents_refusal, version_refusal};
+ghost use Rattle.ov_open.specs.Opening.{IsWorld};
+ghost use Rattle.ov_room.specs.Room.{Entry, IsWithin, Made};
+ghost use Rattle.ov_host.specs.Host.{State};
+ghost use Rattle.ov_model.specs.declared.refusal.Refusal.{Refusal};
 ghost use Rattle.ov_store.specs.declared.errors.StoreErr.{StoreErr as StoreErrValue};
 ghost use Rattle.ov_store.specs.declared.errors.StoreErr.TheVariants as off;
 ghost use Rattle.ov_store.specs.declared.unready.Unready.TheVariants as unready;
@@ -40,6 +47,13 @@ use ov_value::{Row, Txt};
 /// How many versions a dataset may have.
 const MOST_VERSIONS: usize = 65_535;
 
+/// A dataset, and those of its versions that are to be the parents of its next one.
+#[derive(Drop)]
+struct Parents<'a> {
+    d: &'a Cvd,
+    vids: Vec<u32>,
+}
+
 /// What a commit asks: a dataset, its versions that are the parents, and the rows in key order.
 struct Ask<'a> {
     d: &'a Cvd,
@@ -56,6 +70,37 @@ struct NextVersion {
 }
 
 impl Store {
+    // The dataset with this name and its versions that are listed, where it may have a version with these parents.
+    fn parents_in(&self, name: &str, parents: &[u64]) -> Result<Parents<'_>, StoreErr>
+        ensures found { IfOk result (λ p. set_in self.now.held.numbers name.now ≡ Some (numbers_of p.d.now)) }
+        ensures sound { IfOk result (λ p. IsSet p.d.now) }
+        ensures few { IfOk result (λ p. length p.d.now.versions.items < 65535) }
+        ensures listed { IfOk result (λ p. IsListed (length p.d.now.versions.items) parents.now p.vids.items) }
+        ensures why { IfErr result (IsRefused (parents_off_in (set_in self.now.held.numbers name.now) parents.now)) }
+    {
+        let Some(d) = self.core.catalog().cvd(name) else {
+            return Err(StoreErr::NoCvd);
+        };
+        let vids = listed(self.alloc, d.versions.len(), parents)?;
+        if d.versions.len() >= MOST_VERSIONS {
+            return Err(StoreErr::TooManyVersions);
+        }
+        Ok(Parents { d, vids })
+    }
+
+    /// The dataset with this name, where it may have a version with these parents: `NoCvd`; for each parent as it is listed
+    /// `NoVersion` and `RepeatedVersion`; `TooManyVersions`.
+    pub fn may_commit(&self, name: &str, parents: &[u64]) -> Result<&Cvd, StoreErr>
+        ensures found { IfOk result (λ d. set_in self.now.held.numbers name.now ≡ Some (numbers_of d.now)) }
+        ensures world { (w : World) (s : State) → IsAtWorld w self.now.held s → MatchResult result
+            (λ d. (parents_refusal w name.now parents.now ≡ None) × HasSchema d.now.schema (set_named w name.now))
+            (IsRefusedAs name.now (parents_refusal w name.now parents.now)) }
+        ensures why { IfErr result IsByNumbers }
+    {
+        let Parents { d, .. } = self.parents_in(name, parents)?;
+        Ok(d)
+    }
+
     // What a commit asks, where nothing of the catalog and its arguments refuses it.
     fn ask(&self, name: &str, parents: &[u64], rows: Vec<Row>) -> Result<Ask<'_>, StoreErr>
         requires fit { (s : Set) → set_in self.now.held.numbers name.now ≡ Some s → All (IsRow s.schema) rows.items }
@@ -72,13 +117,7 @@ impl Store {
         ensures count { IfOk result (λ ask. length ask.rows.items ≡ length rows.items) }
         ensures why { IfErr result (IsRefused (commit_off self.now.held name.now parents.now rows.items)) }
     {
-        let Some(d) = self.core.catalog().cvd(name) else {
-            return Err(StoreErr::NoCvd);
-        };
-        let vids = listed(self.alloc, d.versions.len(), parents)?;
-        if d.versions.len() >= MOST_VERSIONS {
-            return Err(StoreErr::TooManyVersions);
-        }
+        let Parents { d, vids } = self.parents_in(name, parents)?;
         let format = self.core.journal().format();
         let rows = version_rows(self.alloc, &d.schema, format, false, rows)?;
         Ok(Ask { d, vids, rows })
@@ -99,7 +138,7 @@ impl Store {
         requires message { length message.now ≤ 1024 }
         ensures looked { Looked (H.state host.old) (H.state host.new) }
         ensures fetched { (s : Set) → set_in self.now.held.numbers name.now ≡ Some s
-            → (H.state host.new).fetched ≤ (H.state host.old).fetched + reads_for s parents.now }
+            → (H.state host.new).fetched ≤ (H.state host.old).fetched + bytes_for s parents.now }
         ensures ready { IfOk result (λ next. IsReady next.brought self.now.held) }
         ensures allowed { OnOk result (commit_off self.now.held name.now parents.now rows.items ≡ None) }
         ensures by { (s : Set) → set_in self.now.held.numbers name.now ≡ Some s → IfOk result (λ next. IsCommitBy s
@@ -113,7 +152,7 @@ impl Store {
         ensures fresh { (w : World) (d : Dataset) → IsAtWorld w self.now.held (H.state host.old) → set_named w name.now ≡ Some d
             → IfOk result (λ next. next.fresh ≡ fresh_in_world d (record { vids = parents.now; message = message.now; rows = rows.items })) }
         ensures spared { (w : World) (d : Dataset) → IsAtWorld w self.now.held (H.state host.old) → set_named w name.now ≡ Some d
-            → IfErr result (IsSparedBy d (record { vids = parents.now; message = message.now; rows = rows.items })) }
+            → IfErr result (IsSparedBy w d (record { vids = parents.now; message = message.now; rows = rows.items })) }
     {
         let Ask { d, vids, rows } = self.ask(name, parents, rows)?;
         let _ = self.core.is_replayed();
@@ -122,11 +161,12 @@ impl Store {
         let vid = d.versions.len() as u32 + 1;
         let wanted = Wanted {
             vids: &vids,
-            parents: &read,
+            parents: &read.records,
+            held: &read.held,
             message,
             rows,
         };
-        let Commit { brought, fresh } = commit_of(self.alloc, host, d, wanted)?;
+        let Commit { brought, fresh } = commit_of(self.alloc, d, wanted)?;
         Ok(NextVersion {
             brought,
             vid,
@@ -154,11 +194,12 @@ impl Store {
     /// A row that some parent has takes that parent's record; the others get new records.
     ///
     /// Refusals in their order: `NoCvd`; for each parent as it is listed `NoVersion` and `RepeatedVersion`; `TooManyVersions`,
-    /// `TooManyRows`, `DuplicateKey`, `FormatOne`; `Damaged` where a parent, or the partition that the version joins, is damaged;
-    /// `TooManyRecords`, `Full`, `JournalFull`. All memory is taken before the first write.
+    /// `TooManyRows`, `DuplicateKey`, `FormatOne`; `Damaged` where a scan of the parents is damaged or two of them have other rows
+    /// for a rid; `TooManyRecords`; `Damaged` where the partition that the version joins doesn't bear out its numbers; `Full`,
+    /// `JournalFull`. All memory is taken before the first write.
     ///
-    /// A commit costs the pages of its parents' lists and of the segments of their partitions, with those of the partition that
-    /// it joins once more; the writes of its list, its segment and its record; and three syncs.
+    /// A commit costs the pages of its parents' lists and of the segments of their partitions, each read once; the writes of its
+    /// list, its segment and its record; and three syncs.
     pub fn commit<H: Host>(
         &mut self,
         host: &mut H,
@@ -174,8 +215,9 @@ impl Store {
         requires message { length message.now ≤ 1024 }
         ensures told { (H.state host.new).tells ≡ (H.state host.old).tells }
         ensures kept { (H.state host.new).keeps ≡ (H.state host.old).keeps }
+        ensures faults { (H.state host.old).faults ≤ (H.state host.new).faults }
         ensures fetched { (s : Set) → set_in self.old.held.numbers name.now ≡ Some s
-            → (H.state host.new).fetched ≤ (H.state host.old).fetched + reads_for s parents.now }
+            → (H.state host.new).fetched ≤ (H.state host.old).fetched + bytes_for s parents.now }
         ensures done { (s : Set) → set_in self.old.held.numbers name.now ≡ Some s → IfOk result (IsCommitted s
             (record { vids = parents.now; message = message.now; rows = rows.items }) (H.state host.old) self.old.held self.new.held) }
         ensures allowed { OnOk result (commit_off self.old.held name.now parents.now rows.items ≡ None) }
@@ -194,6 +236,18 @@ impl Store {
             → IfOk result (λ made. made.fresh ≡ fresh_in_world d (record { vids = parents.now; message = message.now; rows = rows.items })) }
         ensures spared { (w : World) (d : Dataset) → IsAtWorld w self.old.held (H.state host.old) → set_named w name.now ≡ Some d
             → IfErr result (IsSparedOff d (record { vids = parents.now; message = message.now; rows = rows.items })) }
+
+        // So a commit that the World refuses begins nothing, and is refused for that; and the room that is taken.
+        ensures refused { (w : World) (d : Dataset) → IsAtWorld w self.old.held (H.state host.old) → set_named w name.now ≡ Some d → MatchResult result
+            (λ made. version_refusal w d (record { vids = parents.now; message = message.now; rows = rows.items }) ≡ None)
+            (IsRefusedAs name.now (version_refusal w d (record { vids = parents.now; message = message.now; rows = rows.items }))) }
+        ensures still { (w : World) (d : Dataset) (refusal : Refusal) → IsAtWorld w self.old.held (H.state host.old) → set_named w name.now ≡ Some d
+            → version_refusal w d (record { vids = parents.now; message = message.now; rows = rows.items }) ≡ Some refusal
+            → Only (H.state host.old).tape (H.state host.new).tape (IsWorld w (H.state host.old).tape.disk.printed) }
+        ensures room { (w : World) (d : Dataset) (entry : Entry) (past : List Made) → IsAtWorld w self.old.held (H.state host.old)
+            → set_named w name.now ≡ Some d → IsWithin entry past self.old.held
+            → MatchResult result (λ made. IsWithin entry (and_made past (commit_move d parents.now message.now rows.items) w) self.new.held)
+            (IsLack entry past (commit_move d parents.now message.now rows.items) w) }
     {
         let count = rows.len();
         let next = match self.next(host, name, parents, rows, message) {

@@ -17,4 +17,8 @@ pub use laws::refusals_are_the_worlds;
 pub use store::{Committed, Store};
 
 #[cfg(test)]
+mod damage_tests;
+#[cfg(test)]
+mod history_tests;
+#[cfg(test)]
 mod tests;

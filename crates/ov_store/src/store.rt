@@ -1,11 +1,12 @@
 // The store.
 
-ghost use Rattle.std.specs.Prelude.{◌≡◌, ◌<◌, ◌≤◌, ◌&&◌, ℕ, List, not, true, false, None, IfOk, IfErr, IsTrue, OnOk, OnErr, IsErrOf, MatchResult, length, option_map, option_copied, find};
+ghost use Rattle.std.specs.Prelude.{◌≡◌, ◌<◌, ◌≤◌, ◌+◌, ◌&&◌, ℕ, List, not, true, false, Some, None, IfOk, IfErr, IsTrue, is_some, OnOk, OnErr, IsErrOf, MatchResult, length, option_map, option_copied, find};
 ghost use Rattle.std.specs.List.{All, list_any};
 ghost use Rattle.ov_host.specs.Disk.{AllSettled, as_read};
 ghost use Rattle.ov_host.specs.Host.{Rose, State};
 ghost use Rattle.ov_host.specs.Stops.{Only};
 ghost use Rattle.ov_image.specs.Images.{StandsAs};
+ghost use Rattle.ov_event.specs.Spelling.{spelling};
 ghost use Rattle.ov_journal.specs.Held.{Passes};
 ghost use Rattle.ov_journal.specs.Opened.{IsLeftByOpen};
 ghost use Rattle.ov_open.specs.Opening.{IsOpened, IsOutside, IsWorld};
@@ -13,8 +14,11 @@ ghost use Rattle.ov_open.specs.Refusing.{Refuses};
 ghost use Rattle.ov_value.specs.Naming.{is_name as is_a_name};
 ghost use Rattle.ov_value.specs.Shapes.{IsSound};
 ghost use Rattle.ov_value.specs.Spelling.{IsRow};
-ghost use Rattle.ov_model.specs.Moves.{Move, moved};
-ghost use Rattle.ov_model.specs.World.{World};
+ghost use Rattle.ov_model.specs.Act.{init_refusal};
+ghost use Rattle.ov_model.specs.Moves.{Move, Drop as DropMove, moved};
+ghost use Rattle.ov_model.specs.World.{Dataset, World, set_named};
+ghost use Rattle.ov_model.specs.declared.refusal.Refusal.{Refusal};
+ghost use Rattle.ov_room.specs.Room.{Entry, IsWithin, Made};
 ghost use Rattle.ov_core.specs.AtWorld.{IsAtNext, IsAtWorld, IsEither};
 ghost use Rattle.ov_core.specs.Brought.{Brings};
 ghost use Rattle.ov_store.specs.declared.errors.StoreErr.TheVariants as why;
@@ -24,7 +28,8 @@ ghost use Rattle.ov_store.specs.Dropping.{IsDropped, IsKept, dropped, number_nam
 ghost use Rattle.ov_store.specs.Errors.{is_host, of_change};
 ghost use Rattle.ov_store.specs.Kept.{MayCall, Stays};
 ghost use Rattle.ov_store.specs.Refusals.{new_off};
-ghost use Rattle.ov_store.specs.Unready.{IsFewPages, IsNoRoom, IsUnready};
+ghost use Rattle.ov_store.specs.Unready.{IfTooLong, IsFewPages, IsNoRoom, IsUnready};
+ghost use Rattle.ov_store.specs.Worlds.{IsLack, IsRefusedAs, and_made, begin_refusal, drop_refusal};
 ghost use Rattle.ov_store.specs.declared.errors.StoreErr.{StoreErr as StoreErrValue};
 ghost use Rattle.ov_store.specs.declared.unready.Unready.TheVariants as unready;
 ghost use Rattle.ov_writing.specs.Written.{IsLong};
@@ -114,13 +119,15 @@ impl Store {
         self.core.catalog()
     }
 
-    // Whether a dataset of this name may begin.
-    fn may_begin(&self, name: &Txt) -> Result<(), StoreErr>
+    /// Whether a dataset of this name may begin: `CvdExists`, `TooManyCvds`, `NoNumbers`.
+    pub fn may_begin(&self, name: &str) -> Result<(), StoreErr>
         ensures answer { MatchResult result (λ done. new_off self.now.held.numbers name.now ≡ None) (λ off. new_off self.now.held.numbers name.now ≡ Some off) }
         ensures numbers { OnOk result (self.now.held.numbers.next < 4294967295) }
+        ensures world { (w : World) (s : State) → IsAtWorld w self.now.held s → MatchResult result
+            (λ done. init_refusal w name.now ≡ None) (IsRefusedAs name.now (init_refusal w name.now)) }
     {
         let catalog = self.core.catalog();
-        if catalog.cvd(name.as_str()).is_some() {
+        if catalog.cvd(name).is_some() {
             return Err(StoreErr::CvdExists);
         }
         if catalog.cvds().len() >= MOST_CVDS {
@@ -158,6 +165,8 @@ impl Store {
             → Only (H.state host.old).tape (H.state host.new).tape (IsEither w (moved m w) (H.state host.old).tape.disk.printed) }
         ensures moves { (w : World) (m : Move) → IsAtWorld w self.old.held (H.state host.old) → Brings m w brought
             → OnOk result (IsAtNext (moved m w) self.new.held (H.state host.old) (H.state host.new)) }
+        ensures grows { (w : World) → IsAtWorld w self.old.held (H.state host.old)
+            → OnOk result (self.new.held.journal.end ≤ self.old.held.journal.end + 6 + length (spelling brought.event)) }
     {
         match self.core.add(self.alloc, host, brought) {
             Ok(()) => Ok(()),
@@ -194,8 +203,9 @@ impl Store {
         ensures is { IfOk result (λ b. bringing_of b ≡ first_of name.now schema.now rows.items) }
         ensures why { IfErr result (IsUnready (init_off self.now.held name.now schema.now rows.items) (first_of name.now schema.now rows.items)) }
         ensures brings { (w : World) (s : State) → IsAtWorld w self.now.held s → IfOk result (Brings (first_move name.now schema.now rows.items) w) }
+        ensures long { (w : World) → IfErr result (IfTooLong (first_move name.now schema.now rows.items) w) }
     {
-        self.may_begin(name)?;
+        self.may_begin(name.as_str())?;
         let format = self.core.journal().format();
         let rows = version_rows(self.alloc, schema, format, false, rows)?;
         Ok(first_version(self.alloc, name, schema, rows)?)
@@ -231,6 +241,16 @@ impl Store {
             (IsEither w (moved (first_move name.now schema rows.items) w) (H.state host.old).tape.disk.printed) }
         ensures moves { (w : World) → IsAtWorld w self.old.held (H.state host.old)
             → OnOk result (IsAtNext (moved (first_move name.now schema rows.items) w) self.new.held (H.state host.old) (H.state host.new)) }
+
+        // Where the store is at a World: why not; a call that the World refuses begins nothing; and the room that is taken.
+        ensures refused { (w : World) → IsAtWorld w self.old.held (H.state host.old) → MatchResult result
+            (λ made. begin_refusal w name.now schema rows.items ≡ None) (IsRefusedAs name.now (begin_refusal w name.now schema rows.items)) }
+        ensures still { (w : World) (refusal : Refusal) → IsAtWorld w self.old.held (H.state host.old)
+            → begin_refusal w name.now schema rows.items ≡ Some refusal
+            → Only (H.state host.old).tape (H.state host.new).tape (IsWorld w (H.state host.old).tape.disk.printed) }
+        ensures room { (w : World) (entry : Entry) (past : List Made) → IsAtWorld w self.old.held (H.state host.old) → IsWithin entry past self.old.held
+            → MatchResult result (λ made. IsWithin entry (and_made past (first_move name.now schema rows.items) w) self.new.held)
+            (IsLack entry past (first_move name.now schema rows.items) w) }
     {
         let count = rows.len();
         let brought = match self.first(name, &schema, rows) {
@@ -267,6 +287,11 @@ impl Store {
             → Only (H.state host.old).tape (H.state host.new).tape (IsEither w (dropped name.now w) (H.state host.old).tape.disk.printed) }
         ensures moves { (w : World) → IsAtWorld w self.old.held (H.state host.old)
             → OnOk result (IsAtNext (dropped name.now w) self.new.held (H.state host.old) (H.state host.new)) }
+        ensures refused { (w : World) → IsAtWorld w self.old.held (H.state host.old) → MatchResult result
+            (λ done. is_some (set_named w name.now) ≡ true) (IsRefusedAs name.now (drop_refusal w name.now)) }
+        ensures room { (w : World) (d : Dataset) (entry : Entry) (past : List Made) → IsAtWorld w self.old.held (H.state host.old)
+            → set_named w name.now ≡ Some d → IsWithin entry past self.old.held
+            → MatchResult result (λ done. IsWithin entry (and_made past (DropMove d.cvd.number) w) self.new.held) (IsLack entry past (DropMove d.cvd.number) w) }
     {
         let Some(cvd) = self.number_of(name) else {
             return Err(StoreErr::NoCvd);

@@ -13,17 +13,17 @@ use std::alloc::Global;
 use std::process::Abort;
 use std::test::Fail;
 
-const PEOPLE: &[u8] = b"id,name,score\n1,ann,10\n2,bob,20\n";
+pub const PEOPLE: &[u8] = b"id,name,score\n1,ann,10\n2,bob,20\n";
 
-const OTHERS: &[u8] = b"id,name,score\n3,cy,30\n7,\\N,\n";
+pub const OTHERS: &[u8] = b"id,name,score\n3,cy,30\n7,\\N,\n";
 
 // The second row has the key of the first.
 const TWICE: &[u8] = b"id,name,score\n2,bob,20\n2,bob,21\n";
 
-const NOBODY: &[u8] = b"id,name,score\n";
+pub const NOBODY: &[u8] = b"id,name,score\n";
 
 // The journal of a store whose one dataset is the people's: its list is on page 0, its segment on page 1.
-const JOURNAL: &[u8] =
+pub const JOURNAL: &[u8] =
     b"\xa5orpheus-cvd\xa5\0\0\0\x01\0\0\0\x26\0\0\0\x02\0\0\0\0\0\0\0\0\0\0\0\0\0\
 \xa5\0\0\0\x3c\x01\0\0\0\x06people\x03\0\0\0\x02id\x01\0\0\0\x04name\x02\0\0\0\x05score\x01\x01\0\0\0\0\x02\
 \0\0\0\0\0\0\0\x08\0\0\0\x01\0\0\0\x3e\0";
@@ -33,7 +33,7 @@ const LIST: &[u8] = b"\0\0\0\x01\0\0\0\x02";
 const SEGMENT: &[u8] = b"\0\0\0\x01\0\0\0\x17\0\0\0\0\0\0\0\x01\0\0\0\x03ann\0\0\0\0\0\0\0\x0a\
 \0\0\0\x02\0\0\0\x17\0\0\0\0\0\0\0\x02\0\0\0\x03bob\0\0\0\0\0\0\0\x14";
 
-const PAGE: usize = 4096;
+pub const PAGE: usize = 4096;
 
 fn schema_of(alloc: Global) -> Result<Schema, Fail> {
     let mut columns = Vec::new(alloc);
@@ -51,7 +51,7 @@ fn schema_of(alloc: Global) -> Result<Schema, Fail> {
 }
 
 // The store of a host. What its calls ask is tested before each.
-fn opened(alloc: Global, host: &mut MemHost) -> Result<Store, Fail> {
+pub fn opened(alloc: Global, host: &mut MemHost) -> Result<Store, Fail> {
     Ok(Store::open(alloc, host)?)
 }
 
@@ -63,7 +63,7 @@ fn may_call(store: &Store, host: &MemHost) -> bool
 }
 
 // Makes a dataset of the rows of a file.
-fn init(
+pub fn init(
     rt: &impl Abort,
     alloc: Global,
     store: &mut Store,
@@ -80,7 +80,7 @@ fn init(
 }
 
 // The text of a checkout of these versions.
-fn checkout(
+pub fn checkout(
     alloc: Global,
     store: &Store,
     host: &mut MemHost,
@@ -125,17 +125,17 @@ fn refusal_of(
     }
 }
 
-fn empty_host(alloc: Global) -> MemHost {
+pub fn empty_host(alloc: Global) -> MemHost {
     MemHost::new(alloc, Vec::new(alloc), Vec::new(alloc), Vec::new(alloc))
 }
 
 // What each dataset was made of.
-fn file_of(name: &str) -> &'static [u8] {
+pub fn file_of(name: &str) -> &'static [u8] {
     if name == "people" { PEOPLE } else { OTHERS }
 }
 
 // A host at rest with datasets of these names, of which the calls with these numbers fail.
-fn host_of(
+pub fn host_of(
     rt: &impl Abort,
     alloc: Global,
     names: &[&str],
@@ -152,7 +152,7 @@ fn host_of(
 }
 
 // Whether a checkout of these versions has this text.
-fn is_text(
+pub fn is_text(
     rt: &impl Abort,
     alloc: Global,
     store: &Store,
@@ -167,7 +167,7 @@ fn is_text(
 }
 
 // Whether these are the names of a store's datasets.
-fn are_named(store: &Store, names: &[&str]) -> bool {
+pub fn are_named(store: &Store, names: &[&str]) -> bool {
     let sets = store.catalog().cvds();
     sets.len() == names.len()
         && sets
@@ -199,7 +199,7 @@ fn pages_of_people(alloc: Global) -> Result<Vec<u8>, Fail> {
     Ok(pages)
 }
 
-const MADE: Committed = Committed {
+pub const MADE: Committed = Committed {
     vid: 1,
     rows: 2,
     fresh: 2,
@@ -428,10 +428,10 @@ const SECOND: &[u8] = b"id,name,score\n2,bob,21\n3,cy,30\n";
 
 const LATER_FIRST: &[u8] = b"id,name,score\n1,ann,10\n2,bob,21\n3,cy,30\n";
 
-const EARLIER_FIRST: &[u8] = b"id,name,score\n1,ann,10\n2,bob,20\n3,cy,30\n";
+pub const EARLIER_FIRST: &[u8] = b"id,name,score\n1,ann,10\n2,bob,20\n3,cy,30\n";
 
 // Commits the rows of a file.
-fn commit(
+pub fn commit(
     rt: &impl Abort,
     alloc: Global,
     store: &mut Store,
@@ -452,7 +452,7 @@ fn commit(
 }
 
 // How many versions a dataset has; none where there is no dataset.
-fn versions_of(store: &Store, name: &str) -> usize {
+pub fn versions_of(store: &Store, name: &str) -> usize {
     store.catalog().cvd(name).map_or(0, |d| d.versions.len())
 }
 
@@ -577,6 +577,39 @@ fn a_refused_commit_changes_nothing(rt: HostRuntime) -> Result<(), Fail> {
         let answer = commit(&rt, alloc, &mut store, &mut host, *name, *parents, *file)?;
         assert_eq!(rt; answer, Err(*off), "row {row}");
         assert!(rt; host.bytes(Area::Journal) == JOURNAL, "row {row}");
+    }
+    Ok(())
+}
+
+// Which names may begin beside the people.
+const BEGINNINGS: [(&str, Option<StoreErr>); 2] = [
+    ("others", None),
+    ("people", Some(StoreErr::CvdExists)),
+];
+
+// Which versions the people may have after their first one, whatever their rows.
+const PARENTS: [(&str, &[u64], Option<StoreErr>); 5] = [
+    ("people", &[1], None),
+    ("others", &[1], Some(StoreErr::NoCvd)),
+    ("people", &[0], Some(StoreErr::NoVersion { vid: 0 })),
+    ("people", &[1, 2], Some(StoreErr::NoVersion { vid: 2 })),
+    (
+        "people",
+        &[1, 1],
+        Some(StoreErr::RepeatedVersion { vid: 1 }),
+    ),
+];
+
+#[test]
+fn what_the_catalog_refuses_is_told_before_any_rows(rt: HostRuntime) -> Result<(), Fail> {
+    let alloc = rt.alloc();
+    let mut host = host_of(&rt, alloc, &["people"], Vec::new(alloc))?;
+    let store = opened(alloc, &mut host)?;
+    for (row, (name, off)) in BEGINNINGS.iter().enumerate() {
+        assert_eq!(rt; store.may_begin(*name).err(), *off, "row {row}");
+    }
+    for (row, (name, parents, off)) in PARENTS.iter().enumerate() {
+        assert_eq!(rt; store.may_commit(*name, *parents).err(), *off, "row {row}");
     }
     Ok(())
 }

@@ -66,7 +66,6 @@ impl From<CommitErr> for Unready {
 
     fn from(error: CommitErr) -> Unready {
         match error {
-            CommitErr::Host => Unready::Off(StoreErr::Host),
             CommitErr::Memory => Unready::Off(StoreErr::Memory),
             CommitErr::Damaged { page } => Unready::Off(StoreErr::Damaged {
                 area: Area::Pages,

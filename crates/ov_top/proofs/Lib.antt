@@ -1,9 +1,1 @@
-pub mod AllSome
-pub mod Fields
-pub mod KeyOrder
-pub mod LineForms
-pub mod Readers
-pub mod Rising
-pub mod Running
-pub mod Serving
-pub mod Tables
+pub mod Lined

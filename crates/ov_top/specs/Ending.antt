@@ -1,14 +1,39 @@
--- How a run ended: the cause of each status, and what was printed.
-use Rattle.std.specs.Prelude.{◌≡◌, ◌⊎◌, ◌+◌, ◌^◌, ℕ, true, false, List, [], length}
+-- How a run ended: the cause of each status, what was printed, and what a stop at any moment of it leaves.
+--     Cause status words old new      why the run ended so
+--     IsTold w old      the ends tell their bytes, nothing is pending, and the store's bytes stand for the World
+--     Plays status steps w old new      what was said and done, and what a stop left
+use Rattle.std.specs.Prelude.{◌≡◌, ◌≢◌, ◌≤◌, ◌<◌, ◌⊎◌, ◌+◌, ◌^◌, ◌++◌, ℕ, Bool, true, false, List, [], length, None, codes}
+use Rattle.ov_host.specs.declared.area.Area.TheVariants.{Pages}
+use Rattle.ov_host.specs.Disk.{AllSettled, Image, as_read}
 use Rattle.ov_host.specs.Host.{State, Rose}
 use Rattle.ov_host.specs.Source.{Script}
 use Rattle.ov_host.specs.Stage.{Staged}
-use Rattle.ov_first.specs.Held.{AreEmpty, IsNew}
+use Rattle.ov_host.specs.Tape.{clock, left_since}
+use Rattle.ov_event.specs.declared.event.Event.{Event}
+use Rattle.ov_journal.specs.Journal.{IsUnmade, Kept, end_of}
+use Rattle.ov_catalog.specs.Extents.{covers, live}
+use Rattle.ov_catalog.specs.Raw.{numbers_in}
+use Rattle.ov_image.specs.Images.{StandsAs, StandsBy}
+use Rattle.ov_core.specs.AtWorld.{IsAtWorld}
+use Rattle.ov_core.specs.Held.{Held}
+use Rattle.ov_course.specs.Licence.{Licensed}
+use Rattle.ov_course.specs.Serving.{has_error, session_of}
+use Rattle.ov_course.specs.Stops.{IsDue, printed_of}
+use Rattle.ov_model.specs.Act.{Session}
+use Rattle.ov_model.specs.Course.{Served, Space, course, play}
+use Rattle.ov_model.specs.Forms.{built_forms}
+use Rattle.ov_model.specs.Words.{lines_of}
+use Rattle.ov_model.specs.World.{World}
+use Rattle.ov_model.specs.declared.command.Command.{Command}
+use Rattle.ov_open.specs.declared.errors.OpenErr.{OpenErr}
+use Rattle.ov_open.specs.declared.errors.OpenErr.TheVariants as opening
+use Rattle.ov_open.specs.Refusing.{Refuses}
+use Rattle.ov_room.specs.Room.{Entry}
+use Rattle.ov_session.specs.Commands.{IsDamaged}
+use Rattle.ov_words.specs.Words.{options_of}
+use Rattle.ov_reader.specs.Reader.{ended_lines, taken_of}
 use Rattle.ov_top.specs.declared.status.Status.{Status}
 use Rattle.ov_top.specs.declared.status.Status.TheVariants.{Done, Refused, Usage, HostFault, InputFault, Memory, NotAStore, Damaged, Format, ScriptTooLong}
-use Rattle.ov_top.specs.Lines.{lines_of}
-use Rattle.ov_top.specs.Serving.{Played}
-use Rattle.ov_top.specs.Words.{are_words}
 
 -- all that contracts see of the three ends at one moment
 pub record Ends : Type 0 where
@@ -16,38 +41,109 @@ pub record Ends : Type 0 where
   pub script : Script
   pub stage : Staged
 
--- the words are of the form, and both areas were empty, where the host tells its bytes
-pub record Began (words : List (List ℕ)) (old : Ends) : Type 0 where
-  pub words_are : are_words words ≡ true
-  pub empty : old.host.tells ≡ true → AreEmpty old.host
+abbrev pub AreWords : List (List ℕ) → Type 0
+AreWords words = options_of words ≢ None
 
--- the script was read to its end, where the source tells its bytes
-pub record AtEnd (words : List (List ℕ)) (old new : Ends) : Type 0 where
-  pub words_are : are_words words ≡ true
-  pub empty : old.host.tells ≡ true → AreEmpty old.host
-  pub ended : old.script.tells ≡ true → new.script.left ≡ []
+-- ---- the cause of each status
 
--- The cause of each status. The areas' bytes are a cause only where the host tells them, the script's where the source does.
+-- opening refuses the bytes so, where the host tells them; nothing of the script was taken
+pub record IsUnopened (why : OpenErr) (old new : Ends) : Type 0 where
+  pub refuses : old.host.tells ≡ true → Refuses why old.host.tape.disk new.host.tape.disk
+  pub script_same : new.script ≡ old.script
+
+-- a command of the script read what is damaged, by what the store kept then
+pub record ReadsDamage (page : ℕ) (new : Ends) : Type 0 where
+  pub command : Command
+  pub held : Held
+  pub damaged : IsDamaged command held new.host page
+
+-- The areas' bytes are a cause only where the host tells them, the script's where the source does.
 abbrev pub Cause : Status → List (List ℕ) → Ends → Ends → Type 0
-Cause Done words old new = AtEnd words old new
-Cause Refused words old new = AtEnd words old new
-Cause Usage words old new = (are_words words ≡ false) × (new ≡ old)
-Cause HostFault words old new = (are_words words ≡ true) × Rose old.host.faults new.host.faults
-Cause InputFault words old new = Began words old × (Rose old.script.faults new.script.faults ⊎ Rose old.stage.faults new.stage.faults)
-Cause Memory words old new = Began words old
-Cause NotAStore words old new = (are_words words ≡ true) × (old.host.tells ≡ true → (AreEmpty old.host → ⊥) × (new.host.tape ≡ old.host.tape))
-Cause (Damaged area at) words old new = ⊥
-Cause (Format found) words old new = ⊥
-Cause ScriptTooLong words old new = Began words old × (old.script.tells ≡ true → length old.script.left ≡ length new.script.left + 2 ^ 32)
+Cause Done words old new = AreWords words × (old.script.tells ≡ true → new.script.left ≡ [])
+Cause Refused words old new = AreWords words × (old.script.tells ≡ true → new.script.left ≡ [])
+Cause Usage words old new = (options_of words ≡ None) × (new ≡ old)
+Cause HostFault words old new = AreWords words × Rose old.host.faults new.host.faults
+Cause InputFault words old new = AreWords words × (Rose old.script.faults new.script.faults ⊎ Rose old.stage.faults new.stage.faults)
+Cause Memory words old new = options_of words ≡ None → new ≡ old
+Cause NotAStore words old new = AreWords words × IsUnopened opening.NotAStore old new
+Cause (Damaged area at) words old new = AreWords words × (IsUnopened (opening.Damaged area at) old new ⊎ ((area ≡ Pages) × ReadsDamage at new))
+Cause (Format found) words old new = AreWords words × IsUnopened (opening.Format found) old new
+Cause ScriptTooLong words old new = AreWords words × (old.script.tells ≡ true → length old.script.left ≡ length new.script.left + 2 ^ 32)
 
--- the ends tell their bytes, both areas are empty, and nothing is pending
-pub record AllTold (old : Ends) : Type 0 where
-  pub host : IsNew old.host
+-- ---- what was said and done
+
+pub record IsTold (w : World) (old : Ends) : Type 0 where
+  pub host : old.host.tells ≡ true
+  pub settled : AllSettled old.host.tape.disk
+  pub stands : StandsAs w (as_read old.host.tape.disk)
   pub script : old.script.tells ≡ true
   pub stage : old.stage.tells ≡ true
 
--- where the script was read to its end, its replies are printed, and the store holds what they say
-abbrev pub Plays : Status → Ends → Ends → Type 0
-Plays Done old new = Played old.stage.files (lines_of old.script.left) false old.host new.host
-Plays Refused old new = Played old.stage.files (lines_of old.script.left) true old.host new.host
-Plays _ old new = Unit {0}
+-- No page of a live extent is at or past `pages`, and the journal's first closed gate isn't past `end`; it will be at 38 where
+-- no journal was made yet.
+pub record IsEntry (entry : Entry) (c : Image) : Type 0 where
+  pub pages : (kept : Kept) (events : List Event) (w : World) → StandsBy kept events w c
+      → (page : ℕ) → 1 ≤ covers (live (numbers_in events)) page → page < entry.pages
+  pub end_ : (kept : Kept) (events : List Event) (w : World) → StandsBy kept events w c → end_of kept ≤ entry.end
+  pub unmade : IsUnmade c.journal → 38 ≤ entry.end
+
+-- a run begins as this user
+abbrev pub session_at : Ends → Session
+session_at ends = session_of ends.stage.files (codes "admin")
+
+-- the course of the script under some answers for room
+abbrev pub course_of : ℕ → World → Ends → Space → Served
+course_of steps w old space = course built_forms steps w (session_at old) (lines_of old.script.left) space
+
+-- There are answers for room, each refusal among them licensed, so that all that a stop at some moment since the entry may have
+-- left is found in the course: of the replies a prefix was printed, and the moves that are due before them took place, and
+-- perhaps those due before the next one.
+pub record Stops (steps : ℕ) (w : World) (old new : Ends) : Type 0 where
+  pub space : Space
+  pub licensed : (entry : Entry) → IsEntry entry (as_read old.host.tape.disk)
+      → Licensed entry [] built_forms steps w (session_at old) (lines_of old.script.left) space
+  pub stops : (c : Image) → left_since new.host.tape (clock old.host.tape) c → IsDue w (printed_of old.host) (course_of steps w old space).items c
+
+-- the lines whose line feed was taken from the source, and their course
+abbrev pub lines_taken : Ends → Ends → List (List ℕ)
+lines_taken old new = ended_lines (taken_of old.script new.script)
+
+abbrev pub course_taken : ℕ → World → Ends → Ends → Space → Served
+course_taken steps w old new space = course built_forms steps w (session_at old) (lines_taken old new) space
+
+-- And where only the reading of the script ended, just the lines whose line feed was taken were served: their replies are printed
+-- whole, nothing is pending, and the bytes stand for the World after them and their steps.
+pub record PlayedTaken (steps : ℕ) (w : World) (old new : Ends) : Type 0 where
+  pub space : Space
+  pub licensed : (entry : Entry) → IsEntry entry (as_read old.host.tape.disk)
+      → Licensed entry [] built_forms steps w (session_at old) (lines_of old.script.left) space
+  pub stops : (c : Image) → left_since new.host.tape (clock old.host.tape) c → IsDue w (printed_of old.host) (course_of steps w old space).items c
+  pub printed : printed_of new.host ≡ printed_of old.host ++ play (course_taken steps w old new space).items
+  pub settled : AllSettled new.host.tape.disk
+  pub stands : StandsAs (course_taken steps w old new space).world (as_read new.host.tape.disk)
+  pub files : session_at new ≡ (course_taken steps w old new space).session
+
+-- and where the script was read to its end, the replies of the course are printed, nothing is pending, and the bytes stand for
+-- its last World; the flag says whether a reply is an error
+pub record Played (steps : ℕ) (w : World) (failed : Bool) (old new : Ends) : Type 0 where
+  pub space : Space
+  pub licensed : (entry : Entry) → IsEntry entry (as_read old.host.tape.disk)
+      → Licensed entry [] built_forms steps w (session_at old) (lines_of old.script.left) space
+  pub stops : (c : Image) → left_since new.host.tape (clock old.host.tape) c → IsDue w (printed_of old.host) (course_of steps w old space).items c
+  pub printed : printed_of new.host ≡ printed_of old.host ++ play (course_of steps w old space).items
+  pub settled : AllSettled new.host.tape.disk
+  pub stands : StandsAs (course_of steps w old space).world (as_read new.host.tape.disk)
+  pub files : session_at new ≡ (course_of steps w old space).session
+  pub failed_is : failed ≡ has_error (course_of steps w old space).items
+
+abbrev pub Plays : Status → ℕ → World → Ends → Ends → Type 0
+Plays Done steps w old new = Played steps w false old new
+Plays Refused steps w old new = Played steps w true old new
+Plays HostFault steps w old new = Stops steps w old new
+Plays InputFault steps w old new = Stops steps w old new × ((Rose old.stage.faults new.stage.faults → ⊥) → PlayedTaken steps w old new)
+Plays Memory steps w old new = Stops steps w old new
+Plays ScriptTooLong steps w old new = PlayedTaken steps w old new
+Plays Usage steps w old new = ⊥
+Plays NotAStore steps w old new = ⊥
+Plays (Damaged area at) steps w old new = ⊥
+Plays (Format found) steps w old new = ⊥

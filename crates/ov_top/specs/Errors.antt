@@ -1,8 +1,8 @@
 -- What ends a run, by what ended a part of it.
-use Rattle.ov_top.specs.declared.reader.ReadErr.{ReadErr}
-use Rattle.ov_top.specs.declared.reader.ReadErr.TheVariants as reading
-use Rattle.ov_top.specs.declared.errors.EndErr.{EndErr}
-use Rattle.ov_top.specs.declared.errors.EndErr.TheVariants as ending
+use Rattle.ov_session.specs.declared.errors.EndErr.{EndErr}
+use Rattle.ov_session.specs.declared.errors.EndErr.TheVariants as ending
+use Rattle.ov_reader.specs.declared.reader.ReadErr.{ReadErr}
+use Rattle.ov_reader.specs.declared.reader.ReadErr.TheVariants as reading
 use Rattle.ov_top.specs.declared.errors.RunErr.{RunErr}
 use Rattle.ov_top.specs.declared.errors.RunErr.TheVariants as running
 
@@ -15,3 +15,4 @@ abbrev pub by_serving : EndErr → RunErr
 by_serving ending.Host = running.Host
 by_serving ending.Stage = running.Input
 by_serving ending.Memory = running.Memory
+by_serving (ending.Damaged area at) = running.Damaged area at

@@ -1,11 +1,3 @@
-pub mod Ending
 pub mod Errors
-pub mod FileForm
-pub mod LineForm
-pub mod Lines
-pub mod Named
-pub mod AllSome
-pub mod Play
-pub mod Reader
-pub mod Serving
-pub mod Words
+pub mod Running
+pub mod Ending

@@ -1,30 +1,12 @@
 // Why a run ended before its script did.
 ghost use Rattle.std.specs.Prelude.{◌≡◌};
 ghost use Rattle.ov_top.specs.Errors.{by_reading, by_serving};
-ghost use Rattle.ov_top.specs.declared.errors.EndErr.TheVariants as ending;
 ghost use Rattle.ov_top.specs.declared.errors.RunErr.TheVariants as running;
 
-use crate::reader::ReadErr;
+use ov_host::Area;
+use ov_reader::ReadErr;
+use ov_session::EndErr;
 use std::alloc::AllocError;
-
-// What ends a run at a line.
-#[derive(Clone, Copy, Debug, PartialEq, Eq)]
-pub enum EndErr {
-    // The host failed.
-    Host,
-    // The stage failed.
-    Stage,
-    // There was no memory.
-    Memory,
-}
-
-impl From<AllocError> for EndErr {
-    ghost from_gives = { λ _ e. e ≡ ending.Memory };
-
-    fn from(_: AllocError) -> Self {
-        EndErr::Memory
-    }
-}
 
 // Why the lines of a script weren't all served.
 #[derive(Clone, Copy, Debug, PartialEq, Eq)]
@@ -35,6 +17,8 @@ pub enum RunErr {
     Input,
     // There was no memory.
     Memory,
+    // What was read of the store is damaged.
+    Damaged { area: Area, at: u64 },
     // 2^32 bytes of script were taken, and its end wasn't seen.
     TooLong,
 }
@@ -67,6 +51,7 @@ impl From<EndErr> for RunErr {
             EndErr::Host => RunErr::Host,
             EndErr::Stage => RunErr::Input,
             EndErr::Memory => RunErr::Memory,
+            EndErr::Damaged { area, at } => RunErr::Damaged { area, at },
         }
     }
 }

@@ -2,17 +2,9 @@
 #![tactic(auto)]
 
 mod errors;
-mod named;
-mod read_file;
-mod read_line;
-mod reader;
-mod reply;
 mod runs;
-mod serve;
-mod split;
 mod status;
-mod words;
 
+pub use ov_words::{Options, WordsErr, options};
 pub use runs::run;
 pub use status::Status;
-pub use words::{Wanted, WordsErr, options};

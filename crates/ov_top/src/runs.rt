@@ -1,27 +1,43 @@
 // A whole run.
-ghost use Rattle.std.specs.Prelude.{◌≡◌, ◌<◌, ◌||◌, ◌+◌, ◌^◌, ◌⊎◌, true, List, ℕ, [], length, IsErrOf, IfOk, IsOk};
-ghost use Rattle.ov_host.specs.Host.{Rose, bytes_of};
-ghost use Rattle.ov_first.specs.Held.{IsAt, IsNew, Passes, AreEmpty};
-ghost use Rattle.ov_top.specs.Lines.{lines_of};
-ghost use Rattle.ov_top.specs.Named.{Looks};
-ghost use Rattle.ov_top.specs.Serving.{Played};
-ghost use Rattle.ov_top.specs.Ending.{Cause, Plays, AllTold};
-ghost use Rattle.ov_top.specs.Words.{are_words as are_words_of};
+ghost use Rattle.std.specs.Prelude.{◌≡◌, ◌≤◌, ◌||◌, ◌+◌, ◌^◌, ◌⊎◌, true, None, Some, List, ℕ, [], codes, length, IsErrOf, IfOk, IfErr, IsOk, MatchResult};
+ghost use Rattle.ov_host.specs.Host.{Rose, State};
+ghost use Rattle.ov_model.specs.Words.{lines_of};
+ghost use Rattle.ov_model.specs.World.{World};
+ghost use Rattle.ov_core.specs.AtWorld.{IsAtWorld};
+ghost use Rattle.ov_course.specs.Serving.{session_of};
+ghost use Rattle.ov_open.specs.Opening.{IsWorld};
+ghost use Rattle.ov_session.specs.Commands.{Goes, is_refusal_of};
+ghost use Rattle.ov_store.specs.Kept.{MayCall};
+ghost use Rattle.ov_words.specs.Words.{options_of};
+ghost use Rattle.ov_reader.specs.Reader.{ended_lines, taken_of};
+ghost use Rattle.ov_top.specs.Ending.{AreWords, Cause, IsTold, Plays};
+ghost use Rattle.ov_top.specs.Running.{AllServed, IsRunDamage, status_by, status_by_opening};
 
 use crate::errors::RunErr;
-use crate::reader::Reader;
-use crate::serve::serve;
 use crate::status::Status;
-use crate::words::are_words;
-use ov_first::{OpenErr, Store};
-use ov_host::{Area, Host, Source, Stage};
+use ov_host::{Host, Source, Stage};
+use ov_open::OpenErr;
+use ov_reader::Reader;
+use ov_session::{Served, serve};
+use ov_store::Store;
 use ov_value::Txt;
-use std::alloc::Global;
+use ov_words::{WordsErr, options};
+use std::alloc::{AllocError, Global};
 
-fn either(a: bool, b: bool) -> bool
-    ensures { result ≡ (a || b) }
+/// The user whom a run begins as.
+const FIRST_USER: &str = "admin";
+
+// Whether one of both is so: a reply before, or this one, is an error.
+fn or_refused(failed: bool, served: Served) -> bool
+    ensures { result ≡ (failed || is_refusal_of served) }
 {
-    a || b
+    failed || served == Served::Refused
+}
+
+fn first_user(alloc: Global) -> Result<Txt, AllocError>
+    ensures { IfOk result (λ user. user ≡ codes "admin") }
+{
+    Txt::new(alloc, FIRST_USER)
 }
 
 // Serves the lines of the script, and says whether a reply is an error.
@@ -31,29 +47,71 @@ fn serve_all<H: Host, S: Source, T: Stage>(
     host: &mut H,
     source: &mut S,
     stage: &mut T,
+    steps: u32,
 ) -> Result<bool, RunErr>
-    requires { (H.state host.old).tells ≡ true → store.end < length (bytes_of Area.Journal (H.state host.old)) }
-    ensures passes { Passes (H.state host.old) (H.state host.new) }
+    requires call { MayCall store (H.state host.old) }
+    requires steps { steps ≤ 1000 }
+    ensures goes { Goes (H.state host.old) (H.state host.new) }
     ensures host { IsErrOf result RunErr.Host → Rose (H.state host.old).faults (H.state host.new).faults }
     ensures input { IsErrOf result RunErr.Input
         → Rose (S.script source.old).faults (S.script source.new).faults
         ⊎ Rose (T.staged stage.old).faults (T.staged stage.new).faults }
+    ensures damaged { IfErr result (IsRunDamage (H.state host.new)) }
     ensures too_long { IsErrOf result RunErr.TooLong → (S.script source.old).tells ≡ true
         → length (S.script source.old).left ≡ length (S.script source.new).left + 2 ^ 32 }
     ensures ended { (S.script source.old).tells ≡ true → IsOk result → (S.script source.new).left ≡ [] }
-    ensures played { (S.script source.old).tells ≡ true → (T.staged stage.old).tells ≡ true
-        → IsAt [] store (H.state host.old) → IfOk result (λ failed.
-        Played (T.staged stage.old).files (lines_of (S.script source.old).left) failed (H.state host.old) (H.state host.new)) }
+    ensures served { (w : World) → (S.script source.old).tells ≡ true → (T.staged stage.old).tells ≡ true
+        → IsAtWorld w store.held (H.state host.old) → AllServed steps w (session_of (T.staged stage.old).files (codes "admin"))
+        (session_of (T.staged stage.new).files (codes "admin")) (lines_of (S.script source.old).left)
+        (ended_lines (taken_of (S.script source.old) (S.script source.new))) (Rose (T.staged stage.old).faults (T.staged stage.new).faults → ⊥)
+        result store.held (H.state host.old) (H.state host.new) }
 {
     let mut store = store;
+    let mut user = first_user(alloc)?;
     let mut reader = Reader::new(alloc)?;
     let mut line = Vec::new(alloc);
     let mut failed = false;
     'lines: while reader.next_line(source, &mut line)? {
-        let refused = serve(alloc, &mut store, host, stage, line.as_slice())?;
-        failed = either(failed, refused);
+        let served = serve(
+            alloc,
+            &mut store,
+            host,
+            stage,
+            line.as_slice(),
+            steps,
+            &mut user,
+        )?;
+        failed = or_refused(failed, served);
     }
     Ok(failed)
+}
+
+// The status of a run whose store was opened.
+fn status_of(ran: Result<bool, RunErr>) -> Status
+    ensures { result ≡ status_by ran }
+{
+    match ran {
+        Ok(false) => Status::Done,
+        Ok(true) => Status::Refused,
+        Err(RunErr::Host) => Status::HostFault,
+        Err(RunErr::Input) => Status::InputFault,
+        Err(RunErr::Memory) => Status::Memory,
+        Err(RunErr::Damaged { area, at }) => Status::Damaged { area, at },
+        Err(RunErr::TooLong) => Status::ScriptTooLong,
+    }
+}
+
+// The status of a run whose store wasn't.
+fn status_unopened(off: OpenErr) -> Status
+    ensures { result ≡ status_by_opening off }
+{
+    match off {
+        OpenErr::Host => Status::HostFault,
+        OpenErr::Memory => Status::Memory,
+        OpenErr::NotAStore => Status::NotAStore,
+        OpenErr::Format { found } => Status::Format { found },
+        OpenErr::Damaged { area, at } => Status::Damaged { area, at },
+    }
 }
 
 // Opens the store, and serves the lines of the script over it.
@@ -62,35 +120,28 @@ fn run_script<H: Host, S: Source, T: Stage>(
     host: &mut H,
     source: &mut S,
     stage: &mut T,
+    steps: u32,
 ) -> Status
-    ensures cause { (words : List (List ℕ)) → are_words_of words ≡ true → Cause result words
+    requires steps { steps ≤ 1000 }
+    ensures cause { (words : List (List ℕ)) → AreWords words → Cause result words
         (record { host = H.state host.old; script = S.script source.old; stage = T.staged stage.old })
         (record { host = H.state host.new; script = S.script source.new; stage = T.staged stage.new }) }
-    ensures plays { AllTold (record { host = H.state host.old; script = S.script source.old; stage = T.staged stage.old })
-        → Plays result
+    ensures plays { (w : World) → IsTold w (record { host = H.state host.old; script = S.script source.old; stage = T.staged stage.old })
+        → Plays result steps w
         (record { host = H.state host.old; script = S.script source.old; stage = T.staged stage.old })
         (record { host = H.state host.new; script = S.script source.new; stage = T.staged stage.new }) }
 {
-    let store = match Store::open(alloc, host) {
-        Ok(store) => store,
-        Err(OpenErr::Host) => return Status::HostFault,
-        Err(OpenErr::NotAStore) => return Status::NotAStore,
-    };
-    match serve_all(alloc, store, host, source, stage) {
-        Ok(false) => Status::Done,
-        Ok(true) => Status::Refused,
-        Err(RunErr::Host) => Status::HostFault,
-        Err(RunErr::Input) => Status::InputFault,
-        Err(RunErr::Memory) => Status::Memory,
-        Err(RunErr::TooLong) => Status::ScriptTooLong,
+    match Store::open(alloc, host) {
+        Ok(store) => status_of(serve_all(alloc, store, host, source, stage, steps)),
+        Err(off) => status_unopened(off),
     }
 }
 
-/// Runs a script over its ends. The words are those after the program's name; the one form is a folder's name, not empty and
-/// not beginning with `-`.
+/// Runs a script over its ends. The words are those after the program's name: a folder's name, and perhaps how many migration
+/// steps may be taken after each command, from 0 to 1,000.
 ///
-/// Each line that is no comment has a reply, which is printed once what the line asks for is on the disk. `Usage` exactly
-/// where the words are off the form; then no end is called.
+/// Each line that is no comment is one command, and has one reply, which is printed once what the command does is on the disk.
+/// `Usage` exactly where the words are off the form; then, and at want of memory for reading them, no end is called.
 pub fn run<H: Host, S: Source, T: Stage>(
     alloc: Global,
     words: &[Txt],
@@ -101,13 +152,15 @@ pub fn run<H: Host, S: Source, T: Stage>(
     ensures cause { Cause result words.now
         (record { host = H.state host.old; script = S.script source.old; stage = T.staged stage.old })
         (record { host = H.state host.new; script = S.script source.new; stage = T.staged stage.new }) }
-    ensures plays { AllTold (record { host = H.state host.old; script = S.script source.old; stage = T.staged stage.old })
-        → Plays result
+    ensures plays { (w : World) (o : List ℕ × ℕ) → options_of words.now ≡ Some o
+        → IsTold w (record { host = H.state host.old; script = S.script source.old; stage = T.staged stage.old })
+        → Plays result o.1 w
         (record { host = H.state host.old; script = S.script source.old; stage = T.staged stage.old })
         (record { host = H.state host.new; script = S.script source.new; stage = T.staged stage.new }) }
 {
-    if !are_words(words) {
-        return Status::Usage;
+    match options(alloc, words) {
+        Ok(wanted) => run_script(alloc, host, source, stage, wanted.steps),
+        Err(WordsErr::Usage) => Status::Usage,
+        Err(WordsErr::Memory) => Status::Memory,
     }
-    run_script(alloc, host, source, stage)
 }

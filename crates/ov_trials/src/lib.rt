@@ -4,10 +4,9 @@
 #![tactic(auto)]
 
 ghost use Rattle.std.specs.Prelude.{IfOk};
-ghost use Rattle.ov_memhost.specs.Host.{state_of};
-ghost use Rattle.ov_memhost.specs.Stage.{staged_of};
+ghost use Rattle.ov_model.specs.World.{empty_world};
 ghost use Rattle.ov_top.specs.Ending.{Plays};
-ghost use Rattle.ov_trials.specs.Fresh.{fresh_ends};
+ghost use Rattle.ov_trials.specs.Fresh.{ends_of, fresh_ends};
 
 use ov_memhost::{MemHost, MemSource, MemStage};
 use ov_top::{Status, run};
@@ -19,17 +18,17 @@ use std::alloc::{AllocError, Global};
 pub struct Trial {
     pub status: Status,
     pub host: MemHost,
+    pub source: MemSource,
     pub stage: MemStage,
 }
 
-/// Runs a script on empty areas, over a stage of these files.
+/// Runs a script on empty areas, over a stage of these files, with no steps of migration.
 pub fn run_fresh(
     alloc: Global,
     script: Vec<u8>,
     files: Vec<(String, Vec<u8>)>,
 ) -> Result<Trial, AllocError>
-    ensures { IfOk result (λ t. Plays t.status (fresh_ends script.items files.items)
-        (record (fresh_ends script.items files.items) { host = state_of t.host; stage = staged_of t.stage })) }
+    ensures { IfOk result (λ t. Plays t.status 0 empty_world (fresh_ends script.items files.items) (ends_of t)) }
 {
     let mut words = Vec::new(alloc);
     words.push(Txt::new(alloc, "s")?)?;
@@ -40,15 +39,12 @@ pub fn run_fresh(
     Ok(Trial {
         status,
         host,
+        source,
         stage,
     })
 }
 
 #[cfg(test)]
-mod checkpoint_tests;
-#[cfg(test)]
-mod image_tests;
-#[cfg(test)]
-mod journal_tests;
+mod stop_tests;
 #[cfg(test)]
 mod tests;

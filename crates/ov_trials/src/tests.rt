@@ -1,191 +1,306 @@
 // Scripts with their files, and what they print.
-use super::*;
+use crate::{Trial, run_fresh};
 use ov_host::Area;
-use std::alloc::Global;
+use ov_memhost::{MemHost, MemSource, MemStage};
+use ov_top::{Status, run};
+use ov_value::Txt;
+use std::alloc::{AllocError, Global};
 use std::test::Fail;
 
-const A: (&str, &str) = ("a.csv", "id,name,score\n1,ann,10\n2,bob,20\n");
+/// A file of the stage: its name and its bytes.
+type File = (&'static str, &'static [u8]);
 
-const H: (&str, &str) = ("h.csv", "id,name,score\n");
+const FILES: [File; 17] = [
+    ("a.csv", b"id,name,score\n1,ann,10\n2,bob,20\n"),
+    ("b.csv", b"id,name,score\n1,ann,10\n2,bob,25\n3,cy,30\n"),
+    ("h.csv", b"id,name,score\n"),
+    // The rows of version 1 and a new one.
+    ("m.csv", b"id,name,score\n1,ann,10\n2,bob,20\n3,cy,30\n"),
+    ("n.csv", b"id,name,score\n1,ann,\n2,\\N,20\n3,\\\\N,5\n"),
+    ("twice.csv", b"id,name,score\n2,bob,20\n2,bob,21\n"),
+    ("great.csv", b"id,name,score\n1,ann,9223372036854775808\n"),
+    ("least.csv", b"id,name,score\n1,ann,-9223372036854775808\n"),
+    ("short.csv", b"id,name,score\n1,ann\n"),
+    ("keyless.csv", b"id,name,score\n,x,1\n"),
+    ("quoted.csv", b"id,name\n1,\"a,b\"\n"),
+    ("latin.csv", b"id,name\n1,\xFF\n"),
+    ("order.csv", b"id,name\n10,j\n9,i\n-1,z\n"),
+    ("flags.csv", b"\xEF\xBB\xBFid,ok\r\n+7,t\r\n\r\n08,false"),
+    ("marks.csv", b"\xEF\xBB\xBF\xEF\xBB\xBFid,ok\r\n+7,t\r\n"),
+    ("ids.csv", b"id\n"),
+    ("empty.csv", b""),
+];
 
-const INIT: &str = "init people -s id:int,name:text,score:int -k id -f a.csv\n";
-
-fn files(alloc: Global, list: &[(&str, &str)]) -> Result<Vec<(String, Vec<u8>)>, Fail> {
+pub fn files(alloc: Global) -> Result<Vec<(String, Vec<u8>)>, AllocError> {
     let mut all = Vec::new(alloc);
-    for (name, text) in list {
-        let file = (
-            String::from_str(alloc, name)?,
-            Vec::from_slice(alloc, text.as_bytes())?,
-        );
-        all.push(file)?;
+    for (name, bytes) in FILES {
+        let name = String::from_str(alloc, name)?;
+        all.push((name, Vec::from_slice(alloc, bytes)?))?;
     }
     Ok(all)
 }
 
-fn run_text(alloc: Global, script: &str, list: &[(&str, &str)]) -> Result<Trial, Fail> {
-    let script = Vec::from_slice(alloc, script.as_bytes())?;
-    Ok(run_fresh(alloc, script, files(alloc, list)?)?)
-}
+/// A line, and what it prints.
+type Line = (&'static str, &'static str);
 
-// A script, its one file, and what it prints; the run is refused where a reply is an error.
-const RUNS: [(&str, (&str, &str), &str, Status); 12] = [
-    ("", A, "", Status::Done),
-    (INIT, A, "people: version 1 (2 rows)\n", Status::Done),
+const INIT: Line = (
+    "init people -s id:int,name:text,score:int -k id -f a.csv\n",
+    "people: version 1 (2 rows)\n",
+);
+
+const AGAIN: Line = (
+    "init people -s id:int,name:text,score:int -k id -f a.csv\n",
+    "error 11: people exists\n",
+);
+
+const RAISE: Line = (
+    "commit people -v 1 -f b.csv -m raise\n",
+    "people: version 2 (3 rows, 2 new)\n",
+);
+
+const DROP: Line = ("drop people\n", "people: dropped\n");
+
+const PEOPLE: [Line; 19] = [
+    INIT,
+    AGAIN,
+    RAISE,
     (
-        "# a note\n\n \t\r\ninit people -s id:int,name:text,score:int -k id -f a.csv",
-        A,
-        "people: version 1 (2 rows)\n",
-        Status::Done,
+        "log people\n",
+        "version 1: 2 rows, 2 new, parents none, init\nversion 2: 3 rows, 2 new, parents 1, raise\n",
     ),
+    ("ls\n", "people: 2 versions, 4 records\n(1 datasets)\n"),
+    (
+        "checkout people -v 1,2\n",
+        "id,name,score\n1,ann,10\n2,bob,20\n3,cy,30\n",
+    ),
+    (
+        "checkout people -v 2,1\n",
+        "id,name,score\n1,ann,10\n2,bob,25\n3,cy,30\n",
+    ),
+    (
+        "checkout people -v 1,2 -f out.csv\n",
+        "people: 3 rows to out.csv\n",
+    ),
+    (
+        "checkout people -v 1,1\n",
+        "error 13: version 1 is repeated\n",
+    ),
+    ("checkout people -v 9\n", "error 12: no version 9\n"),
+    ("checkout x -v 1\n", "error 10: no dataset x\n"),
+    (
+        "commit people -v 1 -f z.csv -m raise\n",
+        "error 70: no file z.csv\n",
+    ),
+    (
+        "commit people -v 2 -f a.csv -m back\n",
+        "people: version 3 (2 rows, 1 new)\n",
+    ),
+    (
+        "commit people -v 1,2 -f m.csv -m both\n",
+        "people: version 4 (3 rows, 0 new)\n",
+    ),
+    DROP,
+    ("ls\n", "(0 datasets)\n"),
+    ("log people\n", "error 10: no dataset people\n"),
+    ("drop people\n", "error 10: no dataset people\n"),
+    INIT,
+];
+
+const NOBODY: [Line; 5] = [
     (
         "init none -s id:int,name:text,score:int -k id -f h.csv\n",
-        H,
         "none: version 1 (0 rows)\n",
-        Status::Done,
+    ),
+    ("# note\n", ""),
+    ("\n", ""),
+    (" \t\r\n", ""),
+    ("checkout none -v 1", "id,name,score\n"),
+];
+
+const OFF_LINES: [Line; 15] = [
+    ("checkout people\n", "error 52: missing -v\n"),
+    ("ls x\n", "error 53: unexpected word 2\n"),
+    (
+        "commit people -v 1 -f a.csv -m x -a b:int\n",
+        "error 53: unexpected word 9\n",
     ),
     (
-        "init p -s id:int -k id -f z.csv\n",
-        A,
-        "error 70: no file z.csv\n",
-        Status::Refused,
+        "checkout people -v 1 -t staged\n",
+        "error 53: unexpected word 5\n",
     ),
-    (
-        "frob\nls\n",
-        A,
-        "error 59: not built yet\nerror 59: not built yet\n",
-        Status::Refused,
-    ),
-    (
-        "init 9x -s id:int -k id -f a.csv\n",
-        A,
-        "error 59: not built yet\n",
-        Status::Refused,
-    ),
+    ("init p -s \"\" -k id -f a.csv\n", "error 61: no columns\n"),
     (
         "init p -s a:int,a:int -k a -f a.csv\n",
-        A,
-        "error 59: not built yet\n",
-        Status::Refused,
+        "error 64: column a is repeated\n",
     ),
     (
-        "init p  -s id:int -k id -f a.csv\n",
-        A,
-        "error 59: not built yet\n",
-        Status::Refused,
+        "init p -s a:int -k b -f a.csv\n",
+        "error 66: no key column b\n",
     ),
     (
-        "init p -s id:int -k id -f \"a.csv\"\n",
-        A,
-        "error 59: not built yet\n",
-        Status::Refused,
+        "init 9x -s a:int -k a -f a.csv\n",
+        "error 63: bad name 9x\n",
     ),
     (
-        "init p -s id:int,ok:flag -k ok,id -f f.csv\n",
-        (
-            "f.csv",
-            "id,ok\n+7,t\n-9223372036854775808,false\n9223372036854775807,f\n08,true\n",
-        ),
-        "p: version 1 (4 rows)\n",
-        Status::Done,
+        "init p -s a:real -k a -f a.csv\n",
+        "error 56: column 1 has a bad kind\n",
     ),
     (
-        "init p -s id:int -k id -f f.csv\n",
-        ("f.csv", "id\n9223372036854775808\n"),
-        "error 59: not built yet\n",
-        Status::Refused,
+        "init p -s id:int -k id -f a.csv\n",
+        "error 31: the header differs from the schema\n",
     ),
+    ("layout people\n", "error 51: unknown command\n"),
+    ("optimize people -d 1/2\n", "error 51: unknown command\n"),
+    (
+        "run SELECT * FROM CVD people\n",
+        "error 51: unknown command\n",
+    ),
+    ("\"\n", "error 58: a quote is not closed\n"),
+    ("frob", "error 51: unknown command\n"),
+];
+
+const READ_AND_WRITTEN: [Line; 26] = [
+    (
+        "init p -s id:int,name:text,score:int -k id -f twice.csv\n",
+        "error 14: row 2 repeats a key\n",
+    ),
+    (
+        "init p -s id:int,name:text,score:int -k id -f great.csv\n",
+        "error 33: row 1, column score: not int\n",
+    ),
+    (
+        "init p -s id:int,name:text,score:int -k id -f short.csv\n",
+        "error 32: row 1 has 2 fields, not 3\n",
+    ),
+    (
+        "init p -s id:int,name:text,score:int -k id -f keyless.csv\n",
+        "error 37: row 1, column id: the key is NULL\n",
+    ),
+    (
+        "init p -s id:int,name:text -k id -f latin.csv\n",
+        "error 34: row 1 is not UTF-8\n",
+    ),
+    (
+        "init p -s id:int,ok:flag -k id -f marks.csv\n",
+        "error 31: the header differs from the schema\n",
+    ),
+    (
+        "init p -s id:int -k id -f empty.csv\n",
+        "error 31: the header differs from the schema\n",
+    ),
+    ("ls\n", "(0 datasets)\n"),
+    (
+        "init p -s id:int,name:text,score:int -k id -f least.csv\n",
+        "p: version 1 (1 rows)\n",
+    ),
+    (
+        "checkout p -v 1\n",
+        "id,name,score\n1,ann,-9223372036854775808\n",
+    ),
+    ("drop p\n", "p: dropped\n"),
+    (
+        "init p -s id:int,name:text -k id -f quoted.csv\n",
+        "p: version 1 (1 rows)\n",
+    ),
+    ("checkout p -v 1\n", "id,name\n1,\"a,b\"\n"),
+    ("drop p\n", "p: dropped\n"),
+    (
+        "init p -s id:int,name:text -k id -f order.csv\n",
+        "p: version 1 (3 rows)\n",
+    ),
+    ("checkout p -v 1\n", "id,name\n-1,z\n9,i\n10,j\n"),
+    ("drop p\n", "p: dropped\n"),
+    (
+        "init p -s id:int,ok:flag -k id -f flags.csv\n",
+        "p: version 1 (2 rows)\n",
+    ),
+    ("checkout p -v 1\n", "id,ok\n7,true\n8,false\n"),
+    ("drop p\n", "p: dropped\n"),
+    (
+        "init p -s id:int,name:text,score:int -k id -f n.csv\n",
+        "p: version 1 (3 rows)\n",
+    ),
+    (
+        "checkout p -v 1\n",
+        "id,name,score\n1,ann,\n2,\\N,20\n3,\\\\N,5\n",
+    ),
+    ("drop p\n", "p: dropped\n"),
+    (
+        "init p -s id:int -k id -f ids.csv\n",
+        "p: version 1 (0 rows)\n",
+    ),
+    ("checkout p -v 1\n", "id\n"),
+    ("ls\n", "p: 1 versions, 0 records\n(1 datasets)\n"),
+];
+
+/// The bytes of a script, and those that it prints.
+#[derive(Drop)]
+struct Text {
+    script: Vec<u8>,
+    printed: Vec<u8>,
+}
+
+fn joined(alloc: Global, lines: &[Line]) -> Result<Text, AllocError> {
+    let mut script = Vec::new(alloc);
+    let mut printed = Vec::new(alloc);
+    for (line, reply) in lines {
+        script.extend_from_slice(line.as_bytes())?;
+        printed.extend_from_slice(reply.as_bytes())?;
+    }
+    Ok(Text { script, printed })
+}
+
+// Whether a run of these lines ends so, with their replies printed.
+fn prints(alloc: Global, lines: &[Line], status: Status) -> Result<bool, AllocError> {
+    let Text { script, printed } = joined(alloc, lines)?;
+    let t = run_fresh(alloc, script, files(alloc)?)?;
+    Ok(t.status == status && t.host.printed() == printed.as_slice())
+}
+
+const SCRIPTS: [(&[Line], Status); 6] = [
+    (&[], Status::Done),
+    (&[INIT], Status::Done),
+    (&PEOPLE, Status::Refused),
+    (&NOBODY, Status::Done),
+    (&OFF_LINES, Status::Refused),
+    (&READ_AND_WRITTEN, Status::Refused),
 ];
 
 #[test]
 fn scripts_print_their_replies(rt: HostRuntime) -> Result<(), Fail> {
-    for (script, file, printed, status) in RUNS {
-        let t = run_text(rt.alloc(), script, &[file])?;
-        assert_eq!(rt; t.host.printed(), printed.as_bytes(), "{script}");
-        assert_eq!(rt; t.status, status, "{script}");
+    for (lines, status) in SCRIPTS {
+        assert!(rt; prints(rt.alloc(), lines, status)?, "{lines:?}");
     }
     Ok(())
 }
 
-// Files off the one form: no line feed at the end, an empty line, a carriage return, a quote, another header, a row too short,
-// an empty int, no int, a key twice, and what stands for NULL in the full form.
-const OFF: [&str; 10] = [
-    "id,name\n1,ann",
-    "id,name\n\n1,ann\n",
-    "id,name\r\n1,ann\r\n",
-    "id,name\n1,\"ann\"\n",
-    "id,nom\n1,ann\n",
-    "id,name\n1\n",
-    "id,name\n,ann\n",
-    "id,name\none,ann\n",
-    "id,name\n2,ann\n1,bob\n2,cy\n",
-    "id,name\n1,\\N\n",
+// A run of these lines on empty areas.
+fn run_lines(alloc: Global, lines: &[Line]) -> Result<Trial, AllocError> {
+    run_fresh(alloc, joined(alloc, lines)?.script, files(alloc)?)
+}
+
+#[test]
+fn a_checkout_goes_into_a_file(rt: HostRuntime) -> Result<(), Fail> {
+    let t = run_lines(rt.alloc(), &PEOPLE)?;
+    let text: &[u8] = b"id,name,score\n1,ann,10\n2,bob,20\n3,cy,30\n";
+    assert_eq!(rt; t.stage.file("out.csv"), Some(text));
+    Ok(())
+}
+
+// The bytes of the journal and of the pages after these lines: a refused one writes none, and dropped pages are used again.
+const SIZES: [(&[Line], usize, usize); 3] = [
+    (&[INIT], 104, 8192),
+    (&[INIT, AGAIN], 104, 8192),
+    (&[INIT, DROP, INIT], 179, 8192),
 ];
 
 #[test]
-fn a_file_off_the_form_makes_nothing(rt: HostRuntime) -> Result<(), Fail> {
-    for text in OFF {
-        let t = run_text(
-            rt.alloc(),
-            "init p -s id:int,name:text -k id -f f.csv\n",
-            &[("f.csv", text)],
-        )?;
-        assert_eq!(rt;
-            t.host.printed(),
-            b"error 59: not built yet\n".as_slice(),
-            "{text}"
-        );
-        assert_eq!(rt; t.host.bytes(Area::Journal).len(), 39);
+fn a_store_has_its_bytes(rt: HostRuntime) -> Result<(), Fail> {
+    for (lines, journal, pages) in SIZES {
+        let t = run_lines(rt.alloc(), lines)?;
+        assert_eq!(rt; t.host.bytes(Area::Journal).len(), journal);
+        assert_eq!(rt; t.host.bytes(Area::Pages).len(), pages);
     }
-    Ok(())
-}
-
-// The header (38 bytes), then gate, length and a payload of 98 bytes, then a closed gate.
-#[rattlefmt::skip]
-const JOURNAL: [u8; 142] = [
-    0xA5, b'o', b'r', b'p', b'h', b'e', b'u', b's', b'-', b'c', b'v', b'd', 0xA5, 0, 0, 0, 1, 0, 0,
-    0, 38, 0, 0, 0, 2, 0, 0, 0, 0, 0, 0, 0, 0, 0, 0, 0, 0, 0, 0xA5, 0, 0, 0, 98, 0x11, 0, 0, 0, 6,
-    b'p', b'e', b'o', b'p', b'l', b'e', 3, 0, 0, 0, 2, b'i', b'd', 1, 0, 0, 0, 4, b'n', b'a', b'm',
-    b'e', 2, 0, 0, 0, 5, b's', b'c', b'o', b'r', b'e', 1, 1, 0, 0, 0, 0, 2, 0, 0, 0, 23, 0, 0, 0,
-    0, 0, 0, 0, 1, 0, 0, 0, 3, b'a', b'n', b'n', 0, 0, 0, 0, 0, 0, 0, 10, 0, 0, 0, 23, 0, 0, 0, 0,
-    0, 0, 0, 2, 0, 0, 0, 3, b'b', b'o', b'b', 0, 0, 0, 0, 0, 0, 0, 20, 0,
-];
-
-#[test]
-fn the_journal_has_the_dataset(rt: HostRuntime) -> Result<(), Fail> {
-    let t = run_text(rt.alloc(), INIT, &[A])?;
-    assert_eq!(rt; t.host.bytes(Area::Journal), JOURNAL.as_slice());
-    assert_eq!(rt; t.host.bytes(Area::Pages).len(), 0);
-    Ok(())
-}
-
-#[test]
-fn a_name_is_taken_once(rt: HostRuntime) -> Result<(), Fail> {
-    let script =
-        "init people -s id:int,name:text,score:int -k id -f a.csv\ninit people -s id:int -k id -f a.csv\n";
-    let t = run_text(rt.alloc(), script, &[A])?;
-    assert_eq!(rt;
-        t.host.printed(),
-        b"people: version 1 (2 rows)\nerror 11: people exists\n".as_slice()
-    );
-    assert_eq!(rt; t.status, Status::Refused);
-    assert_eq!(rt; t.host.bytes(Area::Journal).len(), 142);
-    Ok(())
-}
-
-// Rows stand in key order: ints by number, texts by bytes, false before true, from the left of the key.
-#[test]
-fn rows_stand_in_key_order(rt: HostRuntime) -> Result<(), Fail> {
-    let script = "init p -s t:text,n:int,f:flag -k f,t,n -f f.csv\n";
-    let text = "t,n,f\nb,1,f\na,2,true\nB,1,false\nb,-1,f\n";
-    let t = run_text(rt.alloc(), script, &[("f.csv", text)])?;
-    let journal = t.host.bytes(Area::Journal);
-    assert!(rt; journal.len() >= 77);
-    // four rows of 18 bytes each with their lengths, and the closed gate: B 1 f, b -1 f, b 1 f, a 2 true
-    let rows = &journal[journal.len() - 73..];
-    assert_eq!(rt; (rows[8], rows[16], rows[17]), (b'B', 1, 0));
-    assert_eq!(rt; (rows[26], rows[34], rows[35]), (b'b', 255, 0));
-    assert_eq!(rt; (rows[44], rows[52], rows[53]), (b'b', 1, 0));
-    assert_eq!(rt; (rows[62], rows[70], rows[71]), (b'a', 2, 1));
     Ok(())
 }
 
@@ -193,60 +308,102 @@ fn rows_stand_in_key_order(rt: HostRuntime) -> Result<(), Fail> {
 fn a_line_may_be_too_long(rt: HostRuntime) -> Result<(), Fail> {
     let alloc = rt.alloc();
     let mut script = vec![in alloc; b'#'; 65_537]?;
-    script.extend_from_slice(b"\n")?;
-    script.extend_from_slice(INIT.as_bytes())?;
-    let t = run_fresh(alloc, script, files(alloc, &[A])?)?;
-    assert_eq!(rt;
-        t.host.printed(),
-        b"error 59: not built yet\npeople: version 1 (2 rows)\n".as_slice()
-    );
+    script.extend_from_slice(b"\nls")?;
+    let t = run_fresh(alloc, script, files(alloc)?)?;
+    let printed: &[u8] = b"error 55: line over 65536 bytes\n(0 datasets)\n";
+    assert_eq!(rt; t.host.printed(), printed);
     Ok(())
 }
 
-#[test]
-fn there_are_at_most_64_datasets(rt: HostRuntime) -> Result<(), Fail> {
-    let alloc = rt.alloc();
-    let mut script = Vec::new(alloc);
-    for i in 0..65u8 {
-        script.extend_from_slice(b"init p")?;
-        script.push(b'A' + i / 26)?;
-        script.push(b'a' + i % 26)?;
-        script.extend_from_slice(b" -s id:int,name:text,score:int -k id -f h.csv\n")?;
-    }
-    let t = run_fresh(alloc, script, files(alloc, &[H])?)?;
-    let printed = t.host.printed();
-    assert_eq!(rt; printed.len(), 64 * 24 + 24);
-    assert_eq!(rt;
-        &printed[64 * 24..],
-        b"error 59: not built yet\n".as_slice()
-    );
-    Ok(())
-}
-
-// Words, bytes of both areas, a failing call of the host, and the status.
-#[test]
-fn other_statuses(rt: HostRuntime) -> Result<(), Fail> {
-    let alloc = rt.alloc();
-    let table: [(&str, usize, u64, Status); 6] = [
-        ("s", 0, 99, Status::Done),
-        ("-s", 0, 99, Status::Usage),
-        ("", 0, 99, Status::Usage),
-        ("s", 40, 99, Status::NotAStore),
-        ("s", 0, 3, Status::HostFault),
-        ("s", 0, 6, Status::HostFault),
-    ];
-    for (word, foreign, failing, status) in table {
-        let mut words = Vec::new(alloc);
+fn words_of(alloc: Global, list: &[&str]) -> Result<Vec<Txt>, AllocError> {
+    let mut words = Vec::new(alloc);
+    for word in list {
         words.push(Txt::new(alloc, word)?)?;
-        let mut fail = Vec::new(alloc);
-        fail.push(failing)?;
-        let journal = vec![in alloc; b'A'; foreign]?;
-        let mut host = MemHost::new(alloc, Vec::new(alloc), journal, fail);
-        let script = Vec::from_slice(alloc, INIT.as_bytes())?;
-        let mut source = MemSource::new(alloc, script, Vec::new(alloc));
-        let mut stage = MemStage::new(alloc, files(alloc, &[A])?, Vec::new(alloc));
-        let ended = run(alloc, words.as_slice(), &mut host, &mut source, &mut stage);
-        assert_eq!(rt; ended, status, "{word} {foreign} {failing}");
     }
+    Ok(words)
+}
+
+/// A run with these words over a host, a source and the files.
+pub fn run_words(
+    alloc: Global,
+    list: &[&str],
+    host: &mut MemHost,
+    source: &mut MemSource,
+    stage: &mut MemStage,
+) -> Result<Status, AllocError> {
+    let words = words_of(alloc, list)?;
+    Ok(run(alloc, words.as_slice(), host, source, stage))
+}
+
+// Words, and how a run of one line with them ends.
+const WORDS: [(&[&str], Status); 9] = [
+    (&["s"], Status::Done),
+    (&["s", "--steps=3"], Status::Done),
+    (&["--steps", "3", "s"], Status::Done),
+    (&["s", "--steps", "1001"], Status::Usage),
+    (&["--steps", "3"], Status::Usage),
+    (&["s", "t"], Status::Usage),
+    (&["s", "--", "--steps"], Status::Usage),
+    (&["-s"], Status::Usage),
+    (&[], Status::Usage),
+];
+
+// How a run of one line on this journal ends.
+fn ended(alloc: Global, words: &[&str], host: &mut MemHost) -> Result<Status, AllocError> {
+    let script = Vec::from_slice(alloc, b"ls\n")?;
+    let mut source = MemSource::new(alloc, script, Vec::new(alloc));
+    let mut stage = MemStage::new(alloc, Vec::new(alloc), Vec::new(alloc));
+    run_words(alloc, words, host, &mut source, &mut stage)
+}
+
+fn host_of(alloc: Global, journal: &[u8]) -> Result<MemHost, AllocError> {
+    let journal = Vec::from_slice(alloc, journal)?;
+    Ok(MemHost::new(alloc, Vec::new(alloc), journal, Vec::new(alloc)))
+}
+
+#[test]
+fn words_are_read(rt: HostRuntime) -> Result<(), Fail> {
+    for (words, status) in WORDS {
+        let mut host = host_of(rt.alloc(), b"")?;
+        assert_eq!(rt; ended(rt.alloc(), words, &mut host)?, status, "{words:?}");
+        assert_eq!(rt; host.calls() == 0, status == Status::Usage, "{words:?}");
+    }
+    Ok(())
+}
+
+// Journals that are no store's, and how a run on each ends.
+const JOURNALS: [(&[u8], Status); 3] = [
+    (
+        b"AAAAAAAAAAAAAAAAAAAAAAAAAAAAAAAAAAAAAAAA",
+        Status::NotAStore,
+    ),
+    (
+        b"\xa5orpheus-cvd\xa5\0\0\0\x01\0\0\0\x26\0\0\0\x07\0\0\0\0\0\0\0\0\0\0\0\0\0\0",
+        Status::Format { found: 7 },
+    ),
+    (
+        b"\xa5orpheus-cvd\xa5\0\0\0\x01\0\0\0\x25\0\0\0\x02\0\0\0\0\0\0\0\0\0\0\0\0\0\0",
+        Status::Damaged {
+            area: Area::Journal,
+            at: 12,
+        },
+    ),
+];
+
+#[test]
+fn a_journal_that_is_no_stores_is_kept(rt: HostRuntime) -> Result<(), Fail> {
+    for (journal, status) in JOURNALS {
+        let mut host = host_of(rt.alloc(), journal)?;
+        assert_eq!(rt; ended(rt.alloc(), &["s"], &mut host)?, status);
+        assert_eq!(rt; host.bytes(Area::Journal), journal);
+    }
+    Ok(())
+}
+
+#[test]
+fn a_short_journal_is_new(rt: HostRuntime) -> Result<(), Fail> {
+    let mut host = host_of(rt.alloc(), b"\0AAAAAAAAAAAAAAAA")?;
+    assert_eq!(rt; ended(rt.alloc(), &["s"], &mut host)?, Status::Done);
+    assert_eq!(rt; host.bytes(Area::Journal).len(), 39);
     Ok(())
 }

@@ -35,6 +35,3 @@ pub use spelled::{Bytes, RowBytes};
 pub use txt::Txt;
 pub use value::Value;
 pub use writing::{append_row, is_marked, row_bytes, row_len};
-
-#[cfg(test)]
-mod tests;

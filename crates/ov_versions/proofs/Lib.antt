@@ -1,6 +1,5 @@
 pub mod Bearing
 pub mod Listing
-pub mod Parting
 pub mod Numbered
 pub mod Uniting
 pub mod Matching
@@ -8,5 +7,6 @@ pub mod Placing
 pub mod Picked
 pub mod Gatherings
 pub mod Passed
+pub mod Keeping
 pub mod Ending
 pub mod Shows

@@ -86,6 +86,4 @@ pub record PartDisagrees (schema : Shape) (area : List ℕ) (segments : List Ext
 abbrev pub RefusesPart : FetchErr → Shape → List ℕ → List Extent → ℕ → ℕ → Type 0
 RefusesPart Host schema area segments records last = Unit {0}
 RefusesPart Memory schema area segments records last = Unit {0}
-RefusesPart (Damaged page) schema area segments records last =
-    HasNoSegment schema area segments page
-    ⊎ ((page ≡ first_page segments) × PartDisagrees schema area segments records last)
+RefusesPart (Damaged page) schema area segments records last = (page ≡ first_page segments) × PartDisagrees schema area segments records last

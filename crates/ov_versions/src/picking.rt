@@ -4,16 +4,23 @@ ghost use Rattle.std.specs.Prelude.{◌≡◌, ◌≤◌, ◌<◌, ◌+◌, ◌^
 ghost use Rattle.std.specs.List.{AllZip, sum_by};
 ghost use Rattle.ov_host.specs.Host.{Rose};
 ghost use Rattle.ov_fetch.specs.Extents.{Looked, page_bytes};
-ghost use Rattle.ov_fetch.specs.Rows.{RefusesRows};
+ghost use Rattle.ov_fetch.specs.Rows.{HaveRids, RefusesRows};
 ghost use Rattle.ov_fetch.specs.Scans.{AllFit, AllStand};
 ghost use Rattle.ov_versions.specs.Gathering.{AreFull, ArePut, IsNotFull, IsRowsOf, moved};
 
-use ov_fetch::{FetchErr, Pick, Scan, Vids, rows_of};
+use ov_fetch::{FetchErr, Pick, Scan, SegmentsRead, Vids, rows_and_rids_of};
 use ov_host::{Extent, Host};
 use ov_member::Members;
 use ov_scan::scan_of;
 use ov_value::Schema;
 use std::alloc::{AllocError, Global};
+
+/// The rows of some versions out of the segments of one partition, and the rids of each segment.
+#[derive(Drop)]
+pub(crate) struct PartRead {
+    pub scan: Scan,
+    pub rids: Vec<Members>,
+}
 
 /// The rows of versions whose lists are these members, out of these segments.
 pub(crate) fn scan_part<H: Host>(
@@ -24,23 +31,27 @@ pub(crate) fn scan_part<H: Host>(
     vids: Vec<u32>,
     lists: &[Extent],
     members: &[Members],
-) -> Result<Scan, FetchErr>
+) -> Result<PartRead, FetchErr>
     requires lists { length lists.now ≡ length members.now }
     requires vids { length vids.items ≡ length members.now }
     ensures looked { Looked (H.state host.old) (H.state host.new) }
     ensures cause { IsErrOf result FetchErr.Host → Rose (H.state host.old).faults (H.state host.new).faults }
     ensures fetched { (H.state host.new).fetched ≤ (H.state host.old).fetched + sum_by (λ e. e.bytes) segments.now }
-    ensures fit { IfOk result (λ scan. AllFit schema.now scan.records) }
-    ensures stand { IfOk result (λ scan. All (AllStand scan.records) scan.picks) }
-    ensures rows { IfOk result (λ scan. AllZip (IsRowsOf schema.now (H.state host.old) segments.now scan.records) members.now scan.picks) }
+    ensures fit { IfOk result (λ read. AllFit schema.now read.scan.records) }
+    ensures stand { IfOk result (λ read. All (AllStand read.scan.records) read.scan.picks) }
+    ensures rows { IfOk result (λ read. AllZip (IsRowsOf schema.now (H.state host.old) segments.now read.scan.records) members.now read.scan.picks) }
+    ensures rids { (H.state host.old).tells ≡ true
+        → IfOk result (λ read. HaveRids schema.now (page_bytes (H.state host.old)) segments.now read.rids.items) }
     ensures err { (H.state host.old).tells ≡ true
         → IfErr result (λ e. RefusesRows e schema.now (page_bytes (H.state host.old)) segments.now lists.now members.now) }
 {
-    let records = rows_of(alloc, host, schema, segments, lists, members)?;
+    let SegmentsRead { records, rids } = rows_and_rids_of(
+        alloc, host, schema, segments, lists, members,
+    )?;
     let scan = scan_of(alloc, schema, Vids::new(vids), records, members)?;
-    // Each member has its record, or `rows_of` had refused; so no pick is short.
+    // Each member has its record, or the reading had refused; so no pick is short.
     match place_short(scan.picks.as_slice(), members) {
-        None => Ok(scan),
+        None => Ok(PartRead { scan, rids }),
         Some(place) => Err(FetchErr::Damaged {
             page: lists[place].page,
         }),

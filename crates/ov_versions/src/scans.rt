@@ -10,9 +10,11 @@ ghost use Rattle.ov_fetch.specs.Scans.{IsSound};
 ghost use Rattle.ov_versions.specs.Agreement.{IsThere, is_served};
 ghost use Rattle.ov_versions.specs.Damages.{RefusesScan};
 ghost use Rattle.ov_versions.specs.Found.{HasRows, IsScanned};
+ghost use Rattle.ov_versions.specs.Partitions.{AreHeld};
 ghost use Rattle.ov_versions.specs.Sizes.{bytes_for};
 
-use crate::gathering::{Gathered, gather};
+use crate::gathering::{Gathered, PartsRead, gather};
+use crate::held::PartRids;
 use crate::lists::lists_of;
 use ov_catalog::Cvd;
 use ov_fetch::{FetchErr, Picks, Scan, Vids};
@@ -51,13 +53,48 @@ pub fn scan_versions<H: Host>(
         (λ scan. AllZip (IsScanned (page_bytes (H.state host.old)) (set_in d.now) scan.records) vids.items scan.picks)
         (λ e. RefusesScan e (page_bytes (H.state host.old)) (set_in d.now) vids.items) }
 {
+    Ok(read_versions(alloc, host, d, vids)?.scan)
+}
+
+/// What was read for versions.
+#[derive(Drop)]
+pub struct VersionsRead {
+    pub scan: Scan,
+    /// For each partition of the dataset, in their order, the rids of each of its segments. Those of a partition that serves
+    /// none of the versions are left out, since it wasn't read.
+    pub held: Vec<PartRids>,
+}
+
+/// The rows of these versions, as [`scan_versions`] gives them, and what the partitions hold that were read for them.
+pub fn read_versions<H: Host>(
+    alloc: Global,
+    host: &mut H,
+    d: &Cvd,
+    vids: Vec<u32>,
+) -> Result<VersionsRead, FetchErr>
+    requires there { All (IsThere (set_in d.now)) vids.items }
+    requires once { (vid : ℕ) → times vids.items vid ≤ 1 }
+    requires placed { All (λ vid. is_served (set_in d.now) vid ≡ true) vids.items }
+    ensures looked { Looked (H.state host.old) (H.state host.new) }
+    ensures cause { IsErrOf result FetchErr.Host → Rose (H.state host.old).faults (H.state host.new).faults }
+    ensures fetched { (H.state host.new).fetched ≤ (H.state host.old).fetched + bytes_for (set_in d.now) vids.items }
+    ensures vids { IfOk result (λ read. read.scan.vids ≡ vids.items) }
+    ensures sound { IfOk result (λ read. IsSound d.now.schema read.scan) }
+    ensures rows { IfOk result (λ read. AllZip (HasRows (set_in d.now)) vids.items read.scan.picks) }
+    ensures held { IfOk result (λ read. AreHeld (H.state host.old).tells (page_bytes (H.state host.old)) (set_in d.now) vids.items read.held.items) }
+    ensures answer { (H.state host.old).tells ≡ true → MatchResult result
+        (λ read. AllZip (IsScanned (page_bytes (H.state host.old)) (set_in d.now) read.scan.records) vids.items read.scan.picks)
+        (λ e. RefusesScan e (page_bytes (H.state host.old)) (set_in d.now) vids.items) }
+{
     let lists = lists_of(alloc, host, d, &vids)?;
-    let Gathered { records, picks } = gather(alloc, host, d, &vids, &lists)?;
-    Ok(Scan {
+    let PartsRead { found, held } = gather(alloc, host, d, &vids, &lists)?;
+    let Gathered { records, picks } = found;
+    let scan = Scan {
         vids: Vids::new(vids),
         records: Records::new(records),
         picks: Picks::new(picks),
-    })
+    };
+    Ok(VersionsRead { scan, held })
 }
 
 /// Whether a dataset has a version, in a partition: what is asked of each version that is scanned. It takes the

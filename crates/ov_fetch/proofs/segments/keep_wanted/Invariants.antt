@@ -3,11 +3,11 @@ use Rattle.ov_fetch.specs.Cursors.{unread}
 use Rattle.ov_fetch.proofs.Running.{KeepsWanted}
 use Rattle.ov_fetch.proofs.segments.keep_wanted.Given as goal
 
-abbrev pub invariant-loop-cursor : goal.invariant-loop-cursor
-invariant-loop-cursor g l = record {
-  keeps : KeepsWanted l.schema (g.H.Host.state l.fn.host) (g.H.Host.state l.host) l.fn.segment l.cursor l.wanted l.fn.kept.items l.kept.items;
+abbrev pub invariant-loop-rids : goal.invariant-loop-rids
+invariant-loop-rids g l = record {
+  keeps : KeepsWanted l.schema (g.H.Host.state l.fn.host) (g.H.Host.state l.host) l.fn.segment l.cursor l.wanted l.fn.kept.items l.kept.items l.rids.items;
   room : length l.piece ≡ 61440;
 }
 
-abbrev pub decreases-loop-cursor : goal.decreases-loop-cursor
-decreases-loop-cursor g l = unread l.cursor
+abbrev pub decreases-loop-rids : goal.decreases-loop-rids
+decreases-loop-rids g l = unread l.cursor

@@ -1,4 +1,4 @@
-use Rattle.std.proofs.Common.{◌≡◌, sym, ◌∙◌, ◌++◌, ◌+◌, ◌∷◌, [], ◌≤◌, ◌<◌, ap, arith, ℕ, drop, take, slice_index_or}
+use Rattle.std.proofs.Common.{sym, ◌∙◌, ◌++◌, ◌+◌, ◌∷◌, [], ◌≤◌, ap, arith, ℕ, drop, slice_index_or}
 use Rattle.std.proofs.lemmas.List.{drop_more, take_more}
 use Rattle.ov_store.specs.Refusals.{vids_off}
 use Rattle.ov_store.proofs.listing.listed.Goals as goal

@@ -1,29 +1,118 @@
-use Rattle.std.proofs.Common.{◌∙◌, sym, subst, arith}
-use Rattle.ov_top.specs.Lines.{lines_of}
-use Rattle.ov_top.specs.Reader.{left_of}
-use Rattle.ov_top.specs.Serving.{Serves}
-use Rattle.ov_top.specs.Play.{act}
-use Rattle.ov_top.proofs.Running.{so_far_more, given_true, nothing_left}
+use Rattle.std.proofs.Common.{◌≡◌, ◌∙◌, ◌||◌, Bool, ℕ, List, codes, true, false, refl, sym, ap, subst, arith, rules}
+use Rattle.std.specs.Prelude.{Err, IsTrue, Result}
+use Rattle.ov_host.specs.Host.{Rose}
+use Rattle.ov_course.specs.Serving.{Serves, session_of}
+use Rattle.ov_model.specs.Words.{lines_of}
+use Rattle.ov_session.specs.Commands.{is_refusal_of}
+use Rattle.ov_session.specs.declared.errors.EndErr.{EndErr}
+use Rattle.ov_session.specs.declared.errors.EndErr.TheVariants as ending
+use Rattle.ov_value.specs.Naming.{is_name}
+use Rattle.ov_reader.specs.Reader.{Taken, ended_lines, left_of, taken_of}
+use Rattle.ov_top.specs.Errors.{by_reading, by_serving}
+use Rattle.ov_top.specs.Running.{AllServed}
+use Rattle.ov_top.specs.declared.errors.RunErr.{RunErr}
+use Rattle.ov_top.specs.declared.errors.RunErr.TheVariants as running
+use Rattle.ov_top.proofs.Lined.{Gone, admin_is_name, ends_reading, ends_serving, err_is, given_true, gone_all, gone_ends, gone_more, gone_start, no_lines, nothing_left, runs_start, not_seen, rose_in_all, serves_as}
 use Rattle.ov_top.proofs.runs.serve_all.Goals as goal
+
+pub returns-in_err-user-clause-served : goal.returns-in_err-user-clause-served
+returns-in_err-user-clause-served g c = λ w script stage at.
+    let s = session_of (g.T.Stage.staged c.args.stage.now).files (codes "admin")
+    in let source = g.S.Source.script c.args.source.now
+    in let faults = (g.T.Stage.staged c.args.stage.now).faults
+    in let is : c.from_residual.result ≡ Err running.Memory = search rules
+    in subst (λ (r : Result Bool RunErr). AllServed c.args.steps w s s (lines_of source.left) (ended_lines (taken_of source source)) (Rose faults faults → ⊥) r c.args.store.held
+    (g.H.Host.state c.args.host.now) (g.H.Host.state c.args.host.now)) (sym is)
+    (runs_start c.args.steps w s source.left c.args.store.held (g.H.Host.state c.args.host.now) at)
+
+pub returns-in_err-reader-clause-served : goal.returns-in_err-reader-clause-served
+returns-in_err-reader-clause-served g c = λ w script stage at.
+    let s = session_of (g.T.Stage.staged c.args.stage.now).files (codes "admin")
+    in let source = g.S.Source.script c.args.source.now
+    in let faults = (g.T.Stage.staged c.args.stage.now).faults
+    in let is : c.from_residual-in_err-reader.result ≡ Err running.Memory = search rules
+    in subst (λ (r : Result Bool RunErr). AllServed c.args.steps w s s (lines_of source.left) (ended_lines (taken_of source source)) (Rose faults faults → ⊥) r c.args.store.held
+    (g.H.Host.state c.args.host.now) (g.H.Host.state c.args.host.now)) (sym is)
+    (runs_start c.args.steps w s source.left c.args.store.held (g.H.Host.state c.args.host.now) at)
+
+pub lines-init : goal.lines-init
+lines-init g c = record {
+  goes = record { told = refl; kept = refl; faults = omega arith };
+  attended = record { told = refl; faults = omega arith; misses = omega arith };
+  told = refl;
+  faults = omega arith;
+  counted = λ told. let none = ap (λ (r : Taken). r.count) c.in_ok-reader.ensures in omega (arith, none);
+  call = c.requires.call;
+  user = c.in_ok-user.ensures;
+  so_far = λ w script stage at.
+      let s = session_of (g.T.Stage.staged c.args.stage.now).files (codes "admin")
+      in subst (λ (r : Taken). Gone c.args.steps w s s (g.S.Source.script c.args.source.now).left (left_of r (g.S.Source.script c.args.source.now)) r.ended false
+      c.args.store.held c.args.store.held (g.H.Host.state c.args.host.now) (g.H.Host.state c.args.host.now)) (sym c.in_ok-reader.ensures)
+      (gone_start c.args.steps w s (g.S.Source.script c.args.source.now).left c.args.store.held (g.H.Host.state c.args.host.now) at);
+  at_end = λ told seen. let open_ = ap (λ (r : Taken). r.ended) c.in_ok-reader.ensures in absurd (not_seen _ seen open_);
+}
+
+pub returns-in_err-next_line-clause-served : goal.returns-in_err-next_line-clause-served
+returns-in_err-next_line-clause-served g c = λ w script stage at.
+    let s = session_of (g.T.Stage.staged c.args.stage.now).files (codes "admin")
+    in let t = session_of (g.T.Stage.staged c.lines.stage).files (codes "admin")
+    in let first = g.S.Source.script c.args.source.now
+    in let last = g.S.Source.script c.next_line.new.source
+    in let still = Rose (g.T.Stage.staged c.args.stage.now).faults (g.T.Stage.staged c.lines.stage).faults → ⊥
+    in let e = c.in_err-next_line.field-0.0
+    in let is : c.from_residual-in_err-next_line.result ≡ Err (by_reading e)
+    = err_is c.from_residual-in_err-next_line.result (by_reading e) c.from_residual-in_err-next_line.ensures.0 c.from_residual-in_err-next_line.ensures.1
+    in subst (λ (r : Result Bool RunErr). AllServed c.args.steps w s t (lines_of first.left) (ended_lines (taken_of first last)) still r c.args.store.held
+    (g.H.Host.state c.args.host.now) (g.H.Host.state c.lines.host)) (sym is)
+    (ends_reading c.args.steps w s t e c.lines.reader (left_of c.lines.reader (g.S.Source.script c.lines.source)) c.lines.failed c.args.store.held c.lines.store.held
+    (g.H.Host.state c.args.host.now) (g.H.Host.state c.lines.host) first last still (c.lines.invariant.so_far w script stage at)
+    (c.in_err-next_line.ensures.cut_off (c.lines.invariant.told ∙ script)))
+
+pub serve-requires-clause-user : goal.serve-requires-clause-user
+serve-requires-clause-user g c = subst (λ (u : List ℕ). IsTrue (is_name u)) (sym c.lines.invariant.user) admin_is_name
+
+pub returns-in_err-served-clause-served : goal.returns-in_err-served-clause-served
+returns-in_err-served-clause-served g c = λ w script stage at.
+    let s = session_of (g.T.Stage.staged c.args.stage.now).files (codes "admin")
+    in let t = session_of (g.T.Stage.staged c.lines.stage).files (codes "admin")
+    in let u = session_of (g.T.Stage.staged c.serve.new.stage).files (codes "admin")
+    in let first = g.S.Source.script c.args.source.now
+    in let last = g.S.Source.script c.next_line.new.source
+    in let left = left_of c.lines.reader (g.S.Source.script c.lines.source)
+    in let later = left_of c.next_line.new.self last
+    in let still = Rose (g.T.Stage.staged c.args.stage.now).faults (g.T.Stage.staged c.serve.new.stage).faults → ⊥
+    in let e = c.in_err-served.field-0.0
+    in let gone = c.lines.invariant.so_far w script stage at
+    in let given = given_true _ _ _ _ _ c.if-branch.true (c.in_ok-next_line.ensures.given (c.lines.invariant.told ∙ script) (c.lines.invariant.at_end script))
+    in let serves : Serves c.args.steps gone.so.world t u given.0 false false c.lines.store.held c.serve.new.store.held (g.H.Host.state c.lines.host) (g.H.Host.state c.serve.new.host)
+    = serves_as c.args.steps gone.so.world (g.T.Stage.staged c.lines.stage).files (g.T.Stage.staged c.serve.new.stage).files c.lines.user c.serve.new.user (codes "admin")
+    c.as_slice.result.now c.next_line.new.line.items given.0 false false c.lines.store.held c.serve.new.store.held (g.H.Host.state c.lines.host) (g.H.Host.state c.serve.new.host)
+    c.lines.invariant.user c.serve.ensures.user c.as_slice.ensures.value given.2
+    (c.in_err-served.ensures.serves gone.so.world (c.lines.invariant.attended.told ∙ stage) gone.so.at)
+    in let is : c.from_residual-in_err-served.result ≡ Err (by_serving e)
+    = err_is c.from_residual-in_err-served.result (by_serving e) c.from_residual-in_err-served.ensures.0 c.from_residual-in_err-served.ensures.1
+    in subst (λ (r : Result Bool RunErr). AllServed c.args.steps w s u (lines_of first.left) (ended_lines (taken_of first last)) still r c.args.store.held
+    (g.H.Host.state c.args.host.now) (g.H.Host.state c.serve.new.host)) (sym is)
+    (ends_serving c.args.steps w s u (lines_of first.left) (ended_lines (taken_of first last)) still e c.args.store.held (g.H.Host.state c.args.host.now) (g.H.Host.state c.serve.new.host)
+    (c.in_err-served.ensures.undamaged gone.so.world gone.so.at)
+    (λ stage_is same. same (rose_in_all _ _ _ c.lines.invariant.attended.faults (c.in_err-served.ensures.stage (ap Err stage_is))))
+    (gone_ends c.args.steps w s t u first.left left later given.0 c.lines.reader.ended c.next_line.new.self.ended c.lines.failed false c.args.store.held c.lines.store.held
+    c.serve.new.store.held (g.H.Host.state c.args.host.now) (g.H.Host.state c.lines.host) (g.H.Host.state c.serve.new.host) gone given.1 serves))
 
 pub lines-preserved : goal.lines-preserved
 lines-preserved g c =
-    let script = g.S.Source.script
-    in let staged = g.T.Stage.staged
-    in let inv = c.lines.invariant
+    let inv = c.lines.invariant
     in let took = c.next_line.ensures.took
-    in let served = c.serve.ensures
     in record {
-      passes = record {
-        told = served.passes.told ∙ inv.passes.told;
-        kept = served.passes.kept ∙ inv.passes.kept;
-        faults = omega (arith, served.passes.faults, inv.passes.faults);
-        fetched = served.passes.fetched ∙ inv.passes.fetched;
+      goes = record {
+        told = c.serve.ensures.goes.told ∙ inv.goes.told;
+        kept = c.serve.ensures.goes.kept ∙ inv.goes.kept;
+        faults = omega (arith, c.serve.ensures.goes.faults, inv.goes.faults);
       };
-      looks = record {
-        told = served.looks.told ∙ inv.looks.told;
-        faults = omega (arith, served.looks.faults, inv.looks.faults);
-        files = served.looks.files ∙ inv.looks.files;
+      attended = record {
+        told = c.serve.ensures.attended.told ∙ inv.attended.told;
+        faults = omega (arith, c.serve.ensures.attended.faults, inv.attended.faults);
+        misses = omega (arith, c.serve.ensures.attended.misses, inv.attended.misses);
       };
       told = took.told ∙ inv.told;
       faults = omega (arith, took.faults, inv.faults);
@@ -31,21 +120,41 @@ lines-preserved g c =
           let before = inv.counted told
           in let after = took.counted (inv.told ∙ told)
           in omega (arith, before, after);
-      room = λ told. c.in_ok-refused.ensures.room (sym served.passes.told ∙ told);
-      so_far = λ told found at.
-          let given = given_true _ _ _ _ c.if-branch.true (c.in_ok-next_line.ensures.given (inv.told ∙ told))
-          in so_far_more (staged c.args.stage.now).files (lines_of (script c.args.source.now).left)
-          (lines_of (left_of c.lines.reader (script c.lines.source)))
-          (lines_of (left_of c.next_line.new.self (script c.next_line.new.source)))
-          given.0 c.next_line.new.line.items c.lines.failed c.in_ok-refused.refused c.either-failed.result
-          c.lines.store c.serve.new.store (g.H.Host.state c.args.host.now) (g.H.Host.state c.lines.host) (g.H.Host.state c.serve.new.host)
-          given.1 given.2 c.either-failed.ensures (inv.so_far told found at) (λ sets there.
-          subst (λ files. Serves (act files sets c.next_line.new.line.items) c.in_ok-refused.refused c.serve.new.store (g.H.Host.state c.lines.host) (g.H.Host.state c.serve.new.host)) inv.looks.files
-          (subst (λ kept. Serves (act (staged c.lines.stage).files sets kept) c.in_ok-refused.refused c.serve.new.store (g.H.Host.state c.lines.host) (g.H.Host.state c.serve.new.host)) c.as_slice.ensures.value
-          (c.in_ok-refused.ensures.serves (inv.looks.told ∙ found) sets there)));
+      call = c.in_ok-served.ensures.usable;
+      user = c.serve.ensures.user ∙ inv.user;
+      so_far = λ w script stage at.
+          let s = session_of (g.T.Stage.staged c.args.stage.now).files (codes "admin")
+          in let t = session_of (g.T.Stage.staged c.lines.stage).files (codes "admin")
+          in let u = session_of (g.T.Stage.staged c.serve.new.stage).files (codes "admin")
+          in let all = (g.S.Source.script c.args.source.now).left
+          in let left = left_of c.lines.reader (g.S.Source.script c.lines.source)
+          in let later = left_of c.next_line.new.self (g.S.Source.script c.next_line.new.source)
+          in let gone = inv.so_far w script stage at
+          in let given = given_true _ _ _ _ _ c.if-branch.true (c.in_ok-next_line.ensures.given (inv.told ∙ script) (inv.at_end script))
+          in let serves : Serves c.args.steps gone.so.world t u given.0 true (is_refusal_of c.in_ok-served.served) c.lines.store.held c.serve.new.store.held (g.H.Host.state c.lines.host) (g.H.Host.state c.serve.new.host)
+          = serves_as c.args.steps gone.so.world (g.T.Stage.staged c.lines.stage).files (g.T.Stage.staged c.serve.new.stage).files c.lines.user c.serve.new.user (codes "admin")
+          c.as_slice.result.now c.next_line.new.line.items given.0 true (is_refusal_of c.in_ok-served.served) c.lines.store.held c.serve.new.store.held
+          (g.H.Host.state c.lines.host) (g.H.Host.state c.serve.new.host) inv.user c.serve.ensures.user c.as_slice.ensures.value given.2
+          (c.in_ok-served.ensures.serves gone.so.world (inv.attended.told ∙ stage) gone.so.at)
+          in subst (λ (f : Bool). Gone c.args.steps w s u all later c.next_line.new.self.ended f c.args.store.held c.serve.new.store.held
+          (g.H.Host.state c.args.host.now) (g.H.Host.state c.serve.new.host)) (sym c.or_refused-failed.ensures)
+          (gone_more c.args.steps w s t u all left later given.0 c.lines.reader.ended c.next_line.new.self.ended c.lines.failed (is_refusal_of c.in_ok-served.served)
+          c.args.store.held c.lines.store.held c.serve.new.store.held (g.H.Host.state c.args.host.now) (g.H.Host.state c.lines.host) (g.H.Host.state c.serve.new.host)
+          gone (c.in_ok-next_line.ensures.stays) given.1 serves);
+      at_end = λ told. c.in_ok-next_line.ensures.at_end (inv.told ∙ told) (inv.at_end told);
     }
 
 pub returns-clause-ended : goal.returns-clause-ended
-returns-clause-ended g c =
-    λ told ok.
-    nothing_left _ _ c.next_line.new.self.unread _ _ c.if-branch.false (c.in_ok-next_line.ensures.given (c.lines.invariant.told ∙ told))
+returns-clause-ended g c = λ told ok.
+    nothing_left _ _ _ c.next_line.new.self.unread _ _ c.if-branch.false (c.in_ok-next_line.ensures.given (c.lines.invariant.told ∙ told) (c.lines.invariant.at_end told))
+
+pub returns-clause-served : goal.returns-clause-served
+returns-clause-served g c = λ w script stage at.
+    let s = session_of (g.T.Stage.staged c.args.stage.now).files (codes "admin")
+    in let t = session_of (g.T.Stage.staged c.lines.stage).files (codes "admin")
+    in let none = no_lines _ _ _ _ _ c.if-branch.false (c.in_ok-next_line.ensures.given (c.lines.invariant.told ∙ script) (c.lines.invariant.at_end script))
+    in (
+      c.lines.store.held,
+      gone_all c.args.steps w s t (g.S.Source.script c.args.source.now).left (left_of c.lines.reader (g.S.Source.script c.lines.source)) c.lines.reader.ended c.lines.failed
+          c.args.store.held c.lines.store.held (g.H.Host.state c.args.host.now) (g.H.Host.state c.lines.host) (c.lines.invariant.so_far w script stage at) none,
+    )

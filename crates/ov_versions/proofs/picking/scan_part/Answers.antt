@@ -11,7 +11,7 @@ pub returns-in-None-clause-rows : goal.returns-in-None-clause-rows
 returns-in-None-clause-rows g c =
     let schema = c.args.schema.now in
     let s = g.H.Host.state c.args.host.now in
-    let got : List Record = c.in_ok-records.records in
+    let got : List Record = c.in_ok-records.field-0.records in
     let members : List (List ℕ) = c.args.members.now in
     let picks : List (List ℕ) = c.in_ok-scan.scan.picks in
     let full = subst (λ (ps : List (List ℕ)). AreFull (length members) ps members) c.as_slice.ensures c.in-None.ensures in
@@ -23,7 +23,7 @@ pub returns-in-Some-clause-err : goal.returns-in-Some-clause-err
 returns-in-Some-clause-err g c told =
     let schema = c.args.schema.now in
     let s = g.H.Host.state c.args.host.now in
-    let got : List Record = c.in_ok-records.records in
+    let got : List Record = c.in_ok-records.field-0.records in
     let members : List (List ℕ) = c.args.members.now in
     let picks : List (List ℕ) = c.in_ok-scan.scan.picks in
     let short = subst (λ (ps : List (List ℕ)). IsNotFull ps members c.in-Some.place) c.as_slice.ensures c.in-Some.ensures in

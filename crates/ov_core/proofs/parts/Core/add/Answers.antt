@@ -1,13 +1,16 @@
-use Rattle.std.proofs.Common.{◌≡◌, None, rules, ◌∙◌, ap, refl}
+use Rattle.std.proofs.Common.{◌≡◌, ℕ, List, [], None, rules, ◌∙◌, ap, refl}
 use Rattle.std.specs.Prelude.{IfErr}
 use Rattle.ov_host.specs.Disk.{Stored}
+use Rattle.ov_event.specs.Spelling.{spelling}
 use Rattle.ov_step.specs.declared.run.Run.{Run}
+use Rattle.ov_step.specs.Steps.{ranges_of, with_runs}
 use Rattle.ov_catalog.specs.Applying.{first_off}
 use Rattle.ov_catalog.specs.Extents.{live}
 use Rattle.ov_core.specs.Brought.{extent_at}
 use Rattle.ov_core.specs.Held.{Held}
 use Rattle.ov_core.specs.Rooms.{ArePlaced, IsWhyNoRuns}
 use Rattle.ov_core.proofs.Changing.{change_stops, change_done, runs_are, Carries}
+use Rattle.ov_core.proofs.Growing.{grown, grown_placed, none_stays}
 use Rattle.ov_core.proofs.Keeping.{applies_now, event_fits, had_room, kept_add, no_runs_why, not_written_why, pages_there, placed_by}
 use Rattle.ov_core.proofs.Storing.{still}
 use Rattle.ov_core.proofs.parts.Core.add.Goals as goal
@@ -93,6 +96,21 @@ returns-in-Ok-clause-beside g c =
           (ap (λ (a : Stored). a.bytes) (c.in-Ok.ensures.done payloads is).rest ∙ runs_are b.list.items b.segment.items at.list at.segment one two carry s0.tape.disk.pages.bytes)
           beside.pages;
     })
+
+pub returns-in-Ok-clause-grows : goal.returns-in-Ok-clause-grows
+returns-in-Ok-clause-grows g c =
+    let held : Held = record { journal = c.self.inside.journal; numbers = c.self.inside.catalog.numbers } in
+    let b = c.args.brought in
+    let at = c.in_ok-at.at in
+    let s0 = g.H.Host.state c.args.host.now in
+    let s1 = g.H.Host.state c.write_change.new.host in
+    let one : Run = record { page = at.list.page; bytes = c.deref-3.result } in
+    let two : Run = record { page = at.segment.page; bytes = c.deref-4.result } in
+    let pages : List ℕ = s0.tape.disk.pages.bytes in
+    rw (← c.self.view_is) (λ payloads is rest.
+    grown_placed at.list at.segment b.event c.placed-event.result held.journal.end c.write_change.new.journal.end c.placed-event.ensures
+    (grown held.journal c.write_change.new.journal payloads (spelling c.placed-event.result) (with_runs one two pages) s0.tape.disk.printed s1 (c.in-Ok.ensures.done payloads is)
+    s0 [] pages s0.tape.disk.printed (c.in-Ok.ensures.stops payloads [] is (none_stays (ranges_of one two) s0 rest)) is.place))
 
 pub returns-in-Ok-clause-stops : goal.returns-in-Ok-clause-stops
 returns-in-Ok-clause-stops g c =

@@ -1,6 +1,7 @@
-use Rattle.std.proofs.Common.{◌≡◌, ◌<◌, ◌^◌, None, ◌∙◌, ap, arith}
+use Rattle.std.proofs.Common.{◌≡◌, ◌<◌, ◌≤◌, ◌+◌, ◌^◌, ℕ, List, [], length, None, ◌∙◌, ap, arith}
 use Rattle.ov_host.specs.Disk.{Stored}
 use Rattle.ov_event.specs.declared.event.Event.TheVariants as says
+use Rattle.ov_event.specs.Spelling.{spelling}
 use Rattle.ov_catalog.specs.Applying.{first_off}
 use Rattle.ov_catalog.specs.Events.{applied}
 use Rattle.ov_catalog.specs.Extents.{live}
@@ -8,6 +9,7 @@ use Rattle.ov_catalog.specs.Raw.{event_in}
 use Rattle.ov_model.specs.Moves.{Drop}
 use Rattle.ov_core.specs.Held.{Held}
 use Rattle.ov_core.proofs.Dropping.{drop_done, drop_kept, drop_stops, drop_there}
+use Rattle.ov_core.proofs.Growing.{grown, none_stays}
 use Rattle.ov_core.proofs.Storing.{still}
 use Rattle.ov_core.proofs.parts.Core.drop_cvd.Goals as goal
 
@@ -40,6 +42,19 @@ invariant_of-self-2 g c =
     c.self.inside.pages c.self.invariant.1 applies c.in_ok-framed.ensures.numbers c.apply_reserved.ensures.applied c.new-freed.ensures.items c.in_ok-framed.ensures.freed c.apply_reserved.ensures.freed c.deref.ensures.value
     c.self.invariant.0 in
     (c.free_all.ensures (live c.apply_reserved.new.self.numbers) both.0, both.1)
+
+pub returns-clause-grows : goal.returns-clause-grows
+returns-clause-grows g c =
+    let held : Held = record { journal = c.self.inside.journal; numbers = c.self.inside.catalog.numbers } in
+    let s0 = g.H.Host.state c.args.host.now in
+    let s1 = g.H.Host.state c.add_bare.new.host in
+    let pages : List ℕ = s0.tape.disk.pages.bytes in
+    let spelled : c.in_ok-framed.framed ≡ spelling (says.Drop c.args.cvd) = c.in_ok-framed.ensures.«record» in
+    rw (← c.self.view_is) (λ payloads is rest.
+    let within : c.add_bare.new.journal.end ≤ held.journal.end + 6 + length c.in_ok-framed.framed =
+    grown held.journal c.add_bare.new.journal payloads c.in_ok-framed.framed pages s0.tape.disk.printed s1 (c.in_ok-add_bare.ensures.done payloads is rest)
+    s0 [] pages s0.tape.disk.printed (c.in_ok-add_bare.ensures.stops payloads [] is (none_stays [] s0 rest)) is.place in
+    omega (arith, within, ap length spelled))
 
 pub returns-clause-stops : goal.returns-clause-stops
 returns-clause-stops g c =

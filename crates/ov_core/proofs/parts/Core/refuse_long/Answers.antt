@@ -1,7 +1,5 @@
-use Rattle.std.proofs.Common.{◌≡◌, ◌<◌, ◌≤◌, ◌∙◌, ◌^◌, ◌∷◌, ℕ, List, [], length, arith, subst, sym, inl, inr}
+use Rattle.std.proofs.Common.{◌≡◌, ◌<◌, ◌≤◌, ◌^◌, ◌∷◌, ℕ, List, length, arith, subst, sym, inl, inr}
 use Rattle.ov_host.specs.declared.area.Extent.{Extent}
-use Rattle.ov_pages.specs.Sets.{Reserved}
-use Rattle.ov_pages.specs.Live.{AreReserved}
 use Rattle.ov_catalog.specs.Extents.{live}
 use Rattle.ov_core.specs.Held.{Held}
 use Rattle.ov_core.specs.Rooms.{IsFull, IsNoRun, pages_for}

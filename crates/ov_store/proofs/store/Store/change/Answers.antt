@@ -1,5 +1,7 @@
-use Rattle.std.proofs.Common.{subst, sym, ap}
+use Rattle.std.proofs.Common.{◌≤◌, ◌+◌, length, subst, sym, ap}
+use Rattle.ov_event.specs.Spelling.{spelling}
 use Rattle.ov_core.specs.AtWorld.{IsAtWorld}
+use Rattle.ov_core.specs.Held.{Held}
 use Rattle.ov_core.specs.Rooms.{IsWhy}
 use Rattle.ov_store.proofs.Answering.{unstored}
 use Rattle.ov_store.specs.Changes.{IsUnstored, bringing_of}
@@ -14,3 +16,9 @@ returns-in-Err-clause-why g c =
     subst (IsUnstored c.args.self.now.held (bringing_of c.args.brought) (g.H.Host.state c.args.host.now) (g.H.Host.state c.add.new.host)) (sym c.refusal.ensures.answer)
     (unstored c.args.self.now.held c.args.brought (g.H.Host.state c.args.host.now) (g.H.Host.state c.add.new.host) c.in-Err.off
     (subst (λ held. IsWhy c.in-Err.off held c.args.brought (g.H.Host.state c.args.host.now) (g.H.Host.state c.add.new.host)) (ap (λ kept. kept.held) c.self.view_is) c.in-Err.ensures.why))
+
+pub returns-in-Ok-clause-grows : goal.returns-in-Ok-clause-grows
+returns-in-Ok-clause-grows g c = λ w at.
+    let inside : IsAtWorld w c.self.inside.core (g.H.Host.state c.args.host.now) = subst (λ held. IsAtWorld w held (g.H.Host.state c.args.host.now)) (sym (ap (λ kept. kept.held) c.self.view_is)) at in
+    subst (λ (held : Held). c.add.new.self.journal.end ≤ held.journal.end + 6 + length (spelling c.args.brought.event)) (ap (λ kept. kept.held) c.self.view_is)
+    (c.in-Ok.ensures.grows inside.payloads inside.at inside.rest)

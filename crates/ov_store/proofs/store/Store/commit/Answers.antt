@@ -1,15 +1,21 @@
-use Rattle.std.proofs.Common.{rules, ◌≡◌, ◌∙◌, ap, subst, sym}
-use Rattle.std.specs.Prelude.{Some}
+use Rattle.std.proofs.Common.{rules, ◌≡◌, ◌∙◌, ap, refl, subst, sym}
+use Rattle.std.specs.Prelude.{None, Some}
 use Rattle.ov_host.specs.Stops.{Only}
 use Rattle.ov_host.specs.Tape.{Tape}
 use Rattle.ov_model.specs.Moves.{moved}
+use Rattle.ov_open.specs.Opening.{IsWorld}
 use Rattle.ov_core.specs.AtWorld.{IsAtNext, IsEither}
 use Rattle.ov_store.specs.Changes.{bringing_of}
-use Rattle.ov_store.specs.Committing.{IsUncommitted, Set, commit_move, committed}
-use Rattle.ov_store.specs.Scanning.{set_in}
+use Rattle.ov_store.specs.Committing.{IsUncommitted, commit_move, committed}
+use Rattle.ov_committing.proofs.Answering.{err_match}
+use Rattle.ov_room.specs.Room.{IsWithin}
+use Rattle.ov_store.specs.declared.store.Committed.{Committed}
+use Rattle.ov_store.specs.Worlds.{IsLack, IsRefusedAs, and_made, version_refusal}
+use Rattle.ov_store.proofs.Deciding.{version_fits}
+use Rattle.ov_store.proofs.Lacking.{done_within, unstored_lacks, unstored_refused, version_lacks, version_refused_as}
 use Rattle.ov_store.proofs.Finishing.{commits, set_there, unready_spared, unready_uncommitted, unstored_uncommitted}
 use Rattle.ov_store.proofs.Looking.{looked_at}
-use Rattle.ov_store.proofs.Still.{still}
+use Rattle.ov_store.proofs.Still.{still, still_world}
 use Rattle.ov_store.proofs.store.Store.commit.Goals as goal
 
 pub returns-in-Err-clause-why : goal.returns-in-Err-clause-why
@@ -23,7 +29,7 @@ returns-in-Err-clause-stops g c = λ w at.
 
 pub returns-in-Err-clause-spared : goal.returns-in-Err-clause-spared
 returns-in-Err-clause-spared g c = λ w d at named.
-    unready_spared c.args.self.now.held c.args.name.now (record { vids = c.args.parents.now; message = c.args.message.now; rows = c.args.rows.items }) (g.H.Host.state c.args.host.now) (g.H.Host.state c.next.new.host) c.uncommitted.result d c.in-Err.why c.in-Err.ensures.why c.uncommitted.ensures.off c.uncommitted.ensures.long
+    unready_spared c.args.self.now.held c.args.name.now (record { vids = c.args.parents.now; message = c.args.message.now; rows = c.args.rows.items }) (g.H.Host.state c.args.host.now) (g.H.Host.state c.next.new.host) c.uncommitted.result w d c.in-Err.why c.in-Err.ensures.why c.uncommitted.ensures.off c.uncommitted.ensures.long
     (c.in-Err.ensures.spared w d at named)
 
 pub returns-in_err-change-clause-why : goal.returns-in_err-change-clause-why
@@ -62,3 +68,45 @@ returns-clause-moves g c = λ w at.
     let next : IsAtNext (moved (commit_move d c.args.parents.now c.args.message.now c.args.rows.items) w) c.change.new.self.held (g.H.Host.state c.next.new.host) (g.H.Host.state c.change.new.host)
     = c.in_ok-change.ensures.moves w (commit_move d c.args.parents.now c.args.message.now c.args.rows.items) (looked_at w c.args.self.now.held (g.H.Host.state c.args.host.now) (g.H.Host.state c.next.new.host) c.next.ensures.looked at) (c.in-Ok.ensures.brings w d at named)
     in record { at = next.at; printed_same = next.printed_same ∙ ap (λ (tape : Tape). tape.disk.printed) (c.next.ensures.looked.tape at.at.told) })
+
+pub returns-in-Err-clause-refused : goal.returns-in-Err-clause-refused
+returns-in-Err-clause-refused g c = λ w d at named.
+    version_refused_as w c.args.self.now.held (g.H.Host.state c.args.host.now) at c.args.name.now d named (record { vids = c.args.parents.now; message = c.args.message.now; rows = c.args.rows.items }) (g.H.Host.state c.next.new.host) c.in-Err.why c.uncommitted.result c.in-Err.ensures.why (c.in-Err.ensures.spared w d at named)
+    c.uncommitted.ensures.off c.uncommitted.ensures.long
+
+pub returns-in-Err-clause-still : goal.returns-in-Err-clause-still
+returns-in-Err-clause-still g c = λ w d refusal at named no.
+    subst (λ (tape : Tape). Only (g.H.Host.state c.args.host.now).tape tape (IsWorld w (g.H.Host.state c.args.host.now).tape.disk.printed)) (sym (c.next.ensures.looked.tape at.at.told)) (still_world w c.args.self.now.held (g.H.Host.state c.args.host.now) at)
+
+pub returns-in-Err-clause-room : goal.returns-in-Err-clause-room
+returns-in-Err-clause-room g c = λ w d entry past at named within.
+    version_lacks entry past c.args.self.now.held (commit_move d c.args.parents.now c.args.message.now c.args.rows.items) w within d (record { vids = c.args.parents.now; message = c.args.message.now; rows = c.args.rows.items }) refl c.in-Err.why c.uncommitted.result (c.in-Err.ensures.spared w d at named) c.uncommitted.ensures.off c.uncommitted.ensures.long
+
+pub returns-in_err-change-clause-refused : goal.returns-in_err-change-clause-refused
+returns-in_err-change-clause-refused g c = λ w d at named.
+    let none : version_refusal w d (record { vids = c.args.parents.now; message = c.args.message.now; rows = c.args.rows.items }) ≡ None = version_fits w c.args.self.now.held (g.H.Host.state c.args.host.now) at c.args.name.now d named (record { vids = c.args.parents.now; message = c.args.message.now; rows = c.args.rows.items }) c.in-Ok.ensures.allowed (c.in-Ok.ensures.brings w d at named).fits
+    in let fact : IsRefusedAs c.args.name.now (version_refusal w d (record { vids = c.args.parents.now; message = c.args.message.now; rows = c.args.rows.items })) c.in_err-change.field-0.0
+    = unstored_refused c.args.name.now (version_refusal w d (record { vids = c.args.parents.now; message = c.args.message.now; rows = c.args.rows.items })) c.args.self.now.held (bringing_of c.in-Ok.next.brought) (g.H.Host.state c.next.new.host) (g.H.Host.state c.change.new.host) c.in_err-change.field-0.0 none c.in_err-change.ensures.why
+    in err_match (λ (made : Committed). (version_refusal w d (record { vids = c.args.parents.now; message = c.args.message.now; rows = c.args.rows.items })) ≡ None) (IsRefusedAs c.args.name.now (version_refusal w d (record { vids = c.args.parents.now; message = c.args.message.now; rows = c.args.rows.items }))) c.from_residual.result c.in_err-change.field-0.0 c.from_residual.ensures fact
+
+pub returns-in_err-change-clause-still : goal.returns-in_err-change-clause-still
+returns-in_err-change-clause-still g c = λ w d refusal at named no.
+    let none : version_refusal w d (record { vids = c.args.parents.now; message = c.args.message.now; rows = c.args.rows.items }) ≡ None = version_fits w c.args.self.now.held (g.H.Host.state c.args.host.now) at c.args.name.now d named (record { vids = c.args.parents.now; message = c.args.message.now; rows = c.args.rows.items }) c.in-Ok.ensures.allowed (c.in-Ok.ensures.brings w d at named).fits in let clash : None ≡ Some refusal = sym none ∙ no in absurd cc
+
+pub returns-in_err-change-clause-room : goal.returns-in_err-change-clause-room
+returns-in_err-change-clause-room g c = λ w d entry past at named within.
+    let fact : IsLack entry past (commit_move d c.args.parents.now c.args.message.now c.args.rows.items) w c.in_err-change.field-0.0
+    = unstored_lacks entry past c.args.self.now.held (commit_move d c.args.parents.now c.args.message.now c.args.rows.items) w within c.in-Ok.next.brought (g.H.Host.state c.next.new.host) (g.H.Host.state c.change.new.host) c.in_err-change.field-0.0 c.in-Ok.ensures.ready.unplaced (c.in-Ok.ensures.brings w d at named) c.in_err-change.ensures.why
+    in err_match (λ (made : Committed). IsWithin entry (and_made past (commit_move d c.args.parents.now c.args.message.now c.args.rows.items) w) c.change.new.self.held) (IsLack entry past (commit_move d c.args.parents.now c.args.message.now c.args.rows.items) w) c.from_residual.result c.in_err-change.field-0.0 c.from_residual.ensures fact
+
+pub returns-clause-refused : goal.returns-clause-refused
+returns-clause-refused g c = λ w d at named. version_fits w c.args.self.now.held (g.H.Host.state c.args.host.now) at c.args.name.now d named (record { vids = c.args.parents.now; message = c.args.message.now; rows = c.args.rows.items }) c.in-Ok.ensures.allowed (c.in-Ok.ensures.brings w d at named).fits
+
+pub returns-clause-still : goal.returns-clause-still
+returns-clause-still g c = λ w d refusal at named no.
+    let none : version_refusal w d (record { vids = c.args.parents.now; message = c.args.message.now; rows = c.args.rows.items }) ≡ None = version_fits w c.args.self.now.held (g.H.Host.state c.args.host.now) at c.args.name.now d named (record { vids = c.args.parents.now; message = c.args.message.now; rows = c.args.rows.items }) c.in-Ok.ensures.allowed (c.in-Ok.ensures.brings w d at named).fits in let clash : None ≡ Some refusal = sym none ∙ no in absurd cc
+
+pub returns-clause-room : goal.returns-clause-room
+returns-clause-room g c = λ w d entry past at named within.
+    done_within entry past c.args.self.now.held (commit_move d c.args.parents.now c.args.message.now c.args.rows.items) w within c.in-Ok.next.brought c.change.new.self.held c.in-Ok.ensures.ready.unplaced (c.in-Ok.ensures.brings w d at named) c.in_ok-change.ensures.done
+    (c.in_ok-change.ensures.grows w (looked_at w c.args.self.now.held (g.H.Host.state c.args.host.now) (g.H.Host.state c.next.new.host) c.next.ensures.looked at))

@@ -8,11 +8,12 @@ use Rattle.ov_catalog.specs.Raw.{event_in}
 use Rattle.ov_catalog.specs.Reached.{AreRows}
 use Rattle.ov_catalog.specs.Stands.{asked_event}
 use Rattle.ov_core.specs.Brought.{content}
-use Rattle.ov_store.specs.Beginning.{first_of, init_off}
+use Rattle.ov_store.specs.Beginning.{first_move, first_of, init_off}
 use Rattle.ov_rows.specs.Refusing.{rows_off}
 use Rattle.ov_store.specs.Errors.{of_rows, unready_of}
-use Rattle.ov_store.specs.Unready.{IsUnready}
-use Rattle.ov_store.proofs.Unreadying.{first_unready}
+use Rattle.ov_store.specs.Refusals.{new_off}
+use Rattle.ov_store.specs.Unready.{IfTooLong, IsUnready}
+use Rattle.ov_store.proofs.Unreadying.{first_long, first_unready}
 use Rattle.ov_store.proofs.Fitting.{init_fits, rows_sorted}
 use Rattle.ov_store.proofs.store.Store.first.Goals as goal
 
@@ -28,7 +29,7 @@ returns-in_err-first_version-clause-why c =
     = subst (λ (n : ℕ). rows_off n c.args.schema.now false c.args.rows.items ≡ None) format c.in_ok-rows.ensures.answer
     in
     let off : init_off c.args.self.now.held c.args.name.now c.args.schema.now c.args.rows.items ≡ None
-    = λ i. option_or (c.in_ok-may_begin.ensures.answer i) (option_map of_rows (none i))
+    = λ i. option_or (subst (λ (n : List ℕ). new_off c.args.self.now.held.numbers n ≡ None) c.as_str.ensures.text c.in_ok-may_begin.ensures.answer i) (option_map of_rows (none i))
     in let fact : IsUnready (init_off c.args.self.now.held c.args.name.now c.args.schema.now c.args.rows.items) (first_of c.args.name.now c.args.schema.now c.args.rows.items)
     (unready_of c.in_err-first_version.field-0.0)
     = first_unready (init_off c.args.self.now.held c.args.name.now c.args.schema.now c.args.rows.items) c.args.name.now c.args.schema.now c.args.rows.items c.in_ok-rows.rows.items
@@ -39,9 +40,18 @@ pub returns-clause-brings : goal.returns-clause-brings
 returns-clause-brings c = λ w s at.
     let b : _ = c.in_ok-first_version.field-0
     in record {
-      fits = init_fits w c.args.self.now.held s at c.args.name.now c.in_ok-may_begin.ensures.answer c.args.schema.now (in_key_order c.args.schema.now c.args.rows.items)
+      fits = init_fits w c.args.self.now.held s at c.args.name.now
+          (subst (λ (n : List ℕ). new_off c.args.self.now.held.numbers n ≡ None) c.as_str.ensures.text c.in_ok-may_begin.ensures.answer) c.args.schema.now (in_key_order c.args.schema.now c.args.rows.items)
           c.in_ok-may_begin.ensures.numbers c.requires.name c.requires.sound (subst (AreRows c.args.schema.now) c.in_ok-rows.ensures.rows
           (rows_sorted c.args.schema.now c.args.rows.items c.in_ok-rows.rows.items c.in_ok-rows.ensures.kept c.in_ok-rows.ensures.rise c.in_ok-rows.ensures.few c.requires.fit c.requires.short));
       says = subst (λ (rows : List Row). content (event_in b.event) b.list.items b.segment.items ≡ asked_event (Init c.args.name.now c.args.schema.now rows) w)
           c.in_ok-rows.ensures.rows (c.in_ok-first_version.ensures.says w);
     }
+
+pub returns-in_err-first_version-clause-long : goal.returns-in_err-first_version-clause-long
+returns-in_err-first_version-clause-long c = λ w.
+    let are : AreRows c.args.schema.now c.in_ok-rows.rows.items
+    = rows_sorted c.args.schema.now c.args.rows.items c.in_ok-rows.rows.items c.in_ok-rows.ensures.kept c.in_ok-rows.ensures.rise c.in_ok-rows.ensures.few c.requires.fit c.requires.short
+    in let fact : IfTooLong (first_move c.args.name.now c.args.schema.now c.args.rows.items) w (unready_of c.in_err-first_version.field-0.0)
+    = first_long w c.args.name.now c.args.schema.now c.args.rows.items c.in_ok-rows.rows.items c.in_err-first_version.field-0.0 c.in_ok-rows.ensures.rows are c.in_err-first_version.ensures.cause
+    in search (rules, fact)

@@ -13,17 +13,19 @@ use Rattle.ov_core.specs.Held.{IsReplayed}
 use Rattle.ov_agree.specs.Agreeing.{ParentsAgree}
 use Rattle.ov_agree.proofs.Room.{few_records}
 use Rattle.ov_versions.specs.Agreement.{IsThere}
+use Rattle.ov_versions.specs.Partitions.{AreHeld, IsHeld}
 use Rattle.ov_versions.specs.Sizes.{bytes_for}
-use Rattle.ov_parents.specs.Parents.{IsCounted, IsParent}
+use Rattle.ov_versions.proofs.Gatherings.{zip_length}
+use Rattle.ov_committing.proofs.Served.{if_told}
+use Rattle.ov_parents.specs.Parents.{IsParent}
 use Rattle.ov_parents.proofs.Adding.{all_counted}
-use Rattle.ov_committing.specs.OfWorld.{IsAnswered, IsSpared}
 use Rattle.ov_store.specs.Changes.{bringing_of}
-use Rattle.ov_store.specs.Committing.{IsCommitBy, IsSparedBy, IsSparedOff, IsUncommitted, IsUnready, Set, commit_off, reads_for}
+use Rattle.ov_store.specs.Committing.{IsCommitBy, IsSparedBy, IsSparedYet, IsUncommitted, IsUnready, Set}
 use Rattle.ov_store.specs.Errors.{of_commit, of_fetch}
 use Rattle.ov_store.specs.Scanning.{set_in}
 use Rattle.ov_store.proofs.Commits.{commit_spared, refused_uncommitted, there_all}
 use Rattle.ov_store.proofs.Numbers.{found_in, named_numbered}
-use Rattle.ov_store.proofs.Readying.{asked_there, fits_there, fresh_there, made_by, reading_spared, reads, says_there, spared_there, unready_by}
+use Rattle.ov_store.proofs.Readying.{asked_there, fits_there, fresh_there, made_by, reading_spared, says_there, spared_there, unready_by}
 use Rattle.ov_store.proofs.Versions.{served_there}
 use Rattle.ov_store.proofs.store.Store.next.Goals as goal
 
@@ -35,7 +37,7 @@ returns-in_err-d-clause-why g c =
 
 pub returns-in_err-d-clause-spared : goal.returns-in_err-d-clause-spared
 returns-in_err-d-clause-spared g c = λ w d at named.
-    let fact : IsSparedOff d (record { vids = c.args.parents.now; message = c.args.message.now; rows = c.args.rows.items }) c.in_err-d.field-0.0
+    let fact : IsSparedYet d (record { vids = c.args.parents.now; message = c.args.message.now; rows = c.args.rows.items }) c.in_err-d.field-0.0
     = commit_spared c.args.self.now.held c.args.name.now d (record { vids = c.args.parents.now; message = c.args.message.now; rows = c.args.rows.items }) c.in_err-d.field-0.0 c.in_err-d.ensures.why
     in search (rules, fact)
 
@@ -67,7 +69,7 @@ returns-in_err-read-clause-spared g c = λ w d at named.
     = subst (λ (xs : List ℕ). All (IsThere (sets.set_in c.in_ok-d.field-0.d.now)) xs) (sym c.deref.ensures.value)
     (subst (λ (n : ℕ). All (λ vid. (1 ≤ vid) × (vid ≤ n)) c.in_ok-d.field-0.vids.items) (sym (length-map c.in_ok-d.field-0.d.now.versions.items sets.version_in))
     (there_all (length c.in_ok-d.field-0.d.now.versions.items) c.in_ok-d.field-0.vids.items c.in_ok-d.ensures.parents.there))
-    in let fact : IsSparedOff d (record { vids = c.args.parents.now; message = c.args.message.now; rows = c.args.rows.items }) (of_fetch c.in_err-read.field-0.0)
+    in let fact : IsSparedYet d (record { vids = c.args.parents.now; message = c.args.message.now; rows = c.args.rows.items }) (of_fetch c.in_err-read.field-0.0)
     = reading_spared w c.args.self.now.held (g.H.Host.state c.args.host.now) at c.args.name.now (sets.set_in c.in_ok-d.field-0.d.now) d (record { vids = c.args.parents.now; message = c.args.message.now; rows = c.args.rows.items }) c.deref.result.now c.in_err-read.field-0.0 c.in_ok-d.ensures.found named there (c.in_err-read.ensures.answer at.at.told)
     in search (rules, fact)
 
@@ -83,12 +85,15 @@ returns-in_err-brought-clause-why g c =
     let vids_are : c.deref-2.result.now ≡ c.args.parents.now = c.deref-2.ensures.value ∙ c.in_ok-d.ensures.vids
     in let sorted : c.in_ok-d.field-0.rows.items ≡ in_key_order (sets.set_in c.in_ok-d.field-0.d.now).schema c.args.rows.items = c.in_ok-d.ensures.rows
     in let same : c.deref.result.now ≡ c.deref-2.result.now = c.deref.ensures.value ∙ sym c.deref-2.ensures.value
-    in let all : c.in_ok-read.read.items ≡ c.deref-3.result.now = sym c.deref-3.ensures.value
-    in let read : (g.H.Host.state c.args.host.now).tells ≡ true → AllZip (IsParent (page_bytes (g.H.Host.state c.args.host.now)) (sets.set_in c.in_ok-d.field-0.d.now)) c.deref-2.result.now c.deref-3.result.now = λ told. subst (λ (xs : List (List Record)). AllZip (IsParent (page_bytes (g.H.Host.state c.args.host.now)) (sets.set_in c.in_ok-d.field-0.d.now)) c.deref-2.result.now xs) all (subst (λ (xs : List ℕ). AllZip (IsParent (page_bytes (g.H.Host.state c.args.host.now)) (sets.set_in c.in_ok-d.field-0.d.now)) xs c.in_ok-read.read.items) same (c.in_ok-read.ensures.answer told))
-    in let agree : ParentsAgree (sets.set_in c.in_ok-d.field-0.d.now) c.deref-2.result.now c.deref-3.result.now = subst (λ (xs : List (List Record)). ParentsAgree (sets.set_in c.in_ok-d.field-0.d.now) c.deref-2.result.now xs) all (subst (λ (xs : List ℕ). ParentsAgree (sets.set_in c.in_ok-d.field-0.d.now) xs c.in_ok-read.read.items) same c.in_ok-read.ensures.agree)
-    in let fact : IsUnready c.args.self.now.held c.args.name.now (record { vids = c.args.parents.now; message = c.args.message.now; rows = c.args.rows.items }) (g.H.Host.state c.args.host.now) (g.H.Host.state c.commit_of.new.host) (of_commit c.in_err-brought.field-0.0)
-    = unready_by (sets.set_in c.in_ok-d.field-0.d.now) (record { vids = c.args.parents.now; message = c.args.message.now; rows = c.args.rows.items }) c.deref-2.result.now c.deref-3.result.now c.in_ok-d.field-0.rows.items vids_are sorted (g.H.Host.state c.args.host.now) read (g.H.Host.state c.parents_of.new.host) c.parents_of.ensures.looked agree c.args.self.now.held c.args.name.now (g.H.Host.state c.commit_of.new.host) c.in_err-brought.field-0.0 c.in_ok-d.ensures.found c.in_ok-d.ensures.allowed c.in_ok-d.ensures.fit.few
-    (λ host. c.commit_of.ensures.cause (search (rules, host))) c.in_err-brought.ensures.refuses
+    in let held : AreHeld (g.H.Host.state c.args.host.now).tells (page_bytes (g.H.Host.state c.args.host.now)) (sets.set_in c.in_ok-d.field-0.d.now) c.deref-2.result.now c.deref-4.result.now
+    = subst (λ (xs : List (List (List ℕ))). AreHeld (g.H.Host.state c.args.host.now).tells (page_bytes (g.H.Host.state c.args.host.now)) (sets.set_in c.in_ok-d.field-0.d.now) c.deref-2.result.now xs) (sym c.deref-4.ensures.value)
+    (subst (λ (xs : List ℕ). AreHeld (g.H.Host.state c.args.host.now).tells (page_bytes (g.H.Host.state c.args.host.now)) (sets.set_in c.in_ok-d.field-0.d.now) xs c.in_ok-read.read.held.items) same c.in_ok-read.ensures.held)
+    in let all : c.in_ok-read.read.records.items ≡ c.deref-3.result.now = sym c.deref-3.ensures.value
+    in let read : (g.H.Host.state c.args.host.now).tells ≡ true → AllZip (IsParent (page_bytes (g.H.Host.state c.args.host.now)) (sets.set_in c.in_ok-d.field-0.d.now)) c.deref-2.result.now c.deref-3.result.now = λ told. subst (λ (xs : List (List Record)). AllZip (IsParent (page_bytes (g.H.Host.state c.args.host.now)) (sets.set_in c.in_ok-d.field-0.d.now)) c.deref-2.result.now xs) all (subst (λ (xs : List ℕ). AllZip (IsParent (page_bytes (g.H.Host.state c.args.host.now)) (sets.set_in c.in_ok-d.field-0.d.now)) xs c.in_ok-read.read.records.items) same (c.in_ok-read.ensures.answer told))
+    in let agree : ParentsAgree (sets.set_in c.in_ok-d.field-0.d.now) c.deref-2.result.now c.deref-3.result.now = subst (λ (xs : List (List Record)). ParentsAgree (sets.set_in c.in_ok-d.field-0.d.now) c.deref-2.result.now xs) all (subst (λ (xs : List ℕ). ParentsAgree (sets.set_in c.in_ok-d.field-0.d.now) xs c.in_ok-read.read.records.items) same c.in_ok-read.ensures.agree)
+    in let fact : IsUnready c.args.self.now.held c.args.name.now (record { vids = c.args.parents.now; message = c.args.message.now; rows = c.args.rows.items }) (g.H.Host.state c.args.host.now) (g.H.Host.state c.parents_of.new.host) (of_commit c.in_err-brought.field-0.0)
+    = unready_by (sets.set_in c.in_ok-d.field-0.d.now) (record { vids = c.args.parents.now; message = c.args.message.now; rows = c.args.rows.items }) c.deref-2.result.now c.deref-3.result.now c.in_ok-d.field-0.rows.items vids_are sorted (g.H.Host.state c.args.host.now) read agree c.args.self.now.held c.args.name.now (g.H.Host.state c.parents_of.new.host) c.in_err-brought.field-0.0 c.in_ok-d.ensures.found c.in_ok-d.ensures.allowed c.in_ok-d.ensures.fit.few
+    (c.in_err-brought.ensures.refuses (g.H.Host.state c.args.host.now).tells (page_bytes (g.H.Host.state c.args.host.now)) held)
     in search (rules, fact)
 
 pub returns-in_err-brought-clause-spared : goal.returns-in_err-brought-clause-spared
@@ -96,16 +101,23 @@ returns-in_err-brought-clause-spared g c = λ w d at named.
     let vids_are : c.deref-2.result.now ≡ c.args.parents.now = c.deref-2.ensures.value ∙ c.in_ok-d.ensures.vids
     in let sorted : c.in_ok-d.field-0.rows.items ≡ in_key_order (sets.set_in c.in_ok-d.field-0.d.now).schema c.args.rows.items = c.in_ok-d.ensures.rows
     in let same : c.deref.result.now ≡ c.deref-2.result.now = c.deref.ensures.value ∙ sym c.deref-2.ensures.value
-    in let all : c.in_ok-read.read.items ≡ c.deref-3.result.now = sym c.deref-3.ensures.value
-    in let read : (g.H.Host.state c.args.host.now).tells ≡ true → AllZip (IsParent (page_bytes (g.H.Host.state c.args.host.now)) (sets.set_in c.in_ok-d.field-0.d.now)) c.deref-2.result.now c.deref-3.result.now = λ told. subst (λ (xs : List (List Record)). AllZip (IsParent (page_bytes (g.H.Host.state c.args.host.now)) (sets.set_in c.in_ok-d.field-0.d.now)) c.deref-2.result.now xs) all (subst (λ (xs : List ℕ). AllZip (IsParent (page_bytes (g.H.Host.state c.args.host.now)) (sets.set_in c.in_ok-d.field-0.d.now)) xs c.in_ok-read.read.items) same (c.in_ok-read.ensures.answer told))
+    in let held : AreHeld (g.H.Host.state c.args.host.now).tells (page_bytes (g.H.Host.state c.args.host.now)) (sets.set_in c.in_ok-d.field-0.d.now) c.deref-2.result.now c.deref-4.result.now
+    = subst (λ (xs : List (List (List ℕ))). AreHeld (g.H.Host.state c.args.host.now).tells (page_bytes (g.H.Host.state c.args.host.now)) (sets.set_in c.in_ok-d.field-0.d.now) c.deref-2.result.now xs) (sym c.deref-4.ensures.value)
+    (subst (λ (xs : List ℕ). AreHeld (g.H.Host.state c.args.host.now).tells (page_bytes (g.H.Host.state c.args.host.now)) (sets.set_in c.in_ok-d.field-0.d.now) xs c.in_ok-read.read.held.items) same c.in_ok-read.ensures.held)
+    in let all : c.in_ok-read.read.records.items ≡ c.deref-3.result.now = sym c.deref-3.ensures.value
+    in let read : (g.H.Host.state c.args.host.now).tells ≡ true → AllZip (IsParent (page_bytes (g.H.Host.state c.args.host.now)) (sets.set_in c.in_ok-d.field-0.d.now)) c.deref-2.result.now c.deref-3.result.now = λ told. subst (λ (xs : List (List Record)). AllZip (IsParent (page_bytes (g.H.Host.state c.args.host.now)) (sets.set_in c.in_ok-d.field-0.d.now)) c.deref-2.result.now xs) all (subst (λ (xs : List ℕ). AllZip (IsParent (page_bytes (g.H.Host.state c.args.host.now)) (sets.set_in c.in_ok-d.field-0.d.now)) xs c.in_ok-read.read.records.items) same (c.in_ok-read.ensures.answer told))
     in let there : All (IsThere (sets.set_in c.in_ok-d.field-0.d.now)) c.deref-2.result.now
     = subst (λ (xs : List ℕ). All (IsThere (sets.set_in c.in_ok-d.field-0.d.now)) xs) (sym c.deref-2.ensures.value)
     (subst (λ (n : ℕ). All (λ vid. (1 ≤ vid) × (vid ≤ n)) c.in_ok-d.field-0.vids.items) (sym (length-map c.in_ok-d.field-0.d.now.versions.items sets.version_in))
     (there_all (length c.in_ok-d.field-0.d.now.versions.items) c.in_ok-d.field-0.vids.items c.in_ok-d.ensures.parents.there))
-    in let told : (g.H.Host.state c.parents_of.new.host).tells ≡ true = c.parents_of.ensures.looked.told ∙ at.at.told
-    in let fact : IsSparedBy d (record { vids = c.args.parents.now; message = c.args.message.now; rows = c.args.rows.items }) (of_commit c.in_err-brought.field-0.0)
-    = spared_there (sets.set_in c.in_ok-d.field-0.d.now) (record { vids = c.args.parents.now; message = c.args.message.now; rows = c.args.rows.items }) c.deref-2.result.now c.deref-3.result.now c.in_ok-d.field-0.rows.items vids_are sorted (g.H.Host.state c.args.host.now) read (g.H.Host.state c.parents_of.new.host) c.parents_of.ensures.looked w c.args.self.now.held at c.args.name.now d c.in_ok-d.ensures.found named there c.in_err-brought.field-0.0
-    (c.in_err-brought.ensures.world told w d (asked_there (sets.set_in c.in_ok-d.field-0.d.now) (record { vids = c.args.parents.now; message = c.args.message.now; rows = c.args.rows.items }) c.deref-2.result.now c.deref-3.result.now c.in_ok-d.field-0.rows.items vids_are sorted (g.H.Host.state c.args.host.now) read (g.H.Host.state c.parents_of.new.host) c.parents_of.ensures.looked w c.args.self.now.held at c.args.name.now d c.in_ok-d.ensures.found named there))
+    in let count : length c.in_ok-d.field-0.d.now.versions.items ≡ length (sets.set_in c.in_ok-d.field-0.d.now).versions = sym (length-map c.in_ok-d.field-0.d.now.versions.items sets.version_in)
+    in let are : AreParents (length (sets.set_in c.in_ok-d.field-0.d.now).versions) c.deref-2.result.now
+    = subst (λ (n : ℕ). AreParents n c.deref-2.result.now) count (subst (λ (xs : List ℕ). AreParents (length c.in_ok-d.field-0.d.now.versions.items) xs) (sym c.deref-2.ensures.value) c.in_ok-d.ensures.parents)
+    in let text : IsUtf8 c.args.message.now = subst (λ (xs : List ℕ). IsUtf8 xs) c.as_str.ensures.text c.as_str.ensures.utf8
+    in let few : length (sets.set_in c.in_ok-d.field-0.d.now).versions < 65535 = subst (λ (n : ℕ). n < 65535) count c.in_ok-d.ensures.few
+    in let fact : IsSparedBy w d (record { vids = c.args.parents.now; message = c.args.message.now; rows = c.args.rows.items }) (of_commit c.in_err-brought.field-0.0)
+    = spared_there (sets.set_in c.in_ok-d.field-0.d.now) (record { vids = c.args.parents.now; message = c.args.message.now; rows = c.args.rows.items }) c.deref-2.result.now c.deref-3.result.now c.in_ok-d.field-0.rows.items vids_are sorted (g.H.Host.state c.args.host.now) read w c.args.self.now.held at c.args.name.now d c.in_ok-d.ensures.found named there are text c.requires.message few c.in_ok-d.ensures.fit c.in_err-brought.field-0.0
+    (c.in_err-brought.ensures.world (page_bytes (g.H.Host.state c.args.host.now)) w d (if_told (g.H.Host.state c.args.host.now).tells (page_bytes (g.H.Host.state c.args.host.now)) (sets.set_in c.in_ok-d.field-0.d.now) c.deref-2.result.now c.deref-4.result.now held at.at.told) (asked_there (sets.set_in c.in_ok-d.field-0.d.now) (record { vids = c.args.parents.now; message = c.args.message.now; rows = c.args.rows.items }) c.deref-2.result.now c.deref-3.result.now c.in_ok-d.field-0.rows.items vids_are sorted (g.H.Host.state c.args.host.now) read w c.args.self.now.held at c.args.name.now d c.in_ok-d.ensures.found named there))
     in search (rules, fact)
 
 pub returns-clause-ready : goal.returns-clause-ready
@@ -126,35 +138,40 @@ returns-clause-by g c = λ s named.
     let vids_are : c.deref-2.result.now ≡ c.args.parents.now = c.deref-2.ensures.value ∙ c.in_ok-d.ensures.vids
     in let sorted : c.in_ok-d.field-0.rows.items ≡ in_key_order (sets.set_in c.in_ok-d.field-0.d.now).schema c.args.rows.items = c.in_ok-d.ensures.rows
     in let same : c.deref.result.now ≡ c.deref-2.result.now = c.deref.ensures.value ∙ sym c.deref-2.ensures.value
-    in let all : c.in_ok-read.read.items ≡ c.deref-3.result.now = sym c.deref-3.ensures.value
-    in let read : (g.H.Host.state c.args.host.now).tells ≡ true → AllZip (IsParent (page_bytes (g.H.Host.state c.args.host.now)) (sets.set_in c.in_ok-d.field-0.d.now)) c.deref-2.result.now c.deref-3.result.now = λ told. subst (λ (xs : List (List Record)). AllZip (IsParent (page_bytes (g.H.Host.state c.args.host.now)) (sets.set_in c.in_ok-d.field-0.d.now)) c.deref-2.result.now xs) all (subst (λ (xs : List ℕ). AllZip (IsParent (page_bytes (g.H.Host.state c.args.host.now)) (sets.set_in c.in_ok-d.field-0.d.now)) xs c.in_ok-read.read.items) same (c.in_ok-read.ensures.answer told))
-    in let agree : ParentsAgree (sets.set_in c.in_ok-d.field-0.d.now) c.deref-2.result.now c.deref-3.result.now = subst (λ (xs : List (List Record)). ParentsAgree (sets.set_in c.in_ok-d.field-0.d.now) c.deref-2.result.now xs) all (subst (λ (xs : List ℕ). ParentsAgree (sets.set_in c.in_ok-d.field-0.d.now) xs c.in_ok-read.read.items) same c.in_ok-read.ensures.agree)
+    in let held : AreHeld (g.H.Host.state c.args.host.now).tells (page_bytes (g.H.Host.state c.args.host.now)) (sets.set_in c.in_ok-d.field-0.d.now) c.deref-2.result.now c.deref-4.result.now
+    = subst (λ (xs : List (List (List ℕ))). AreHeld (g.H.Host.state c.args.host.now).tells (page_bytes (g.H.Host.state c.args.host.now)) (sets.set_in c.in_ok-d.field-0.d.now) c.deref-2.result.now xs) (sym c.deref-4.ensures.value)
+    (subst (λ (xs : List ℕ). AreHeld (g.H.Host.state c.args.host.now).tells (page_bytes (g.H.Host.state c.args.host.now)) (sets.set_in c.in_ok-d.field-0.d.now) xs c.in_ok-read.read.held.items) same c.in_ok-read.ensures.held)
+    in let all : c.in_ok-read.read.records.items ≡ c.deref-3.result.now = sym c.deref-3.ensures.value
+    in let read : (g.H.Host.state c.args.host.now).tells ≡ true → AllZip (IsParent (page_bytes (g.H.Host.state c.args.host.now)) (sets.set_in c.in_ok-d.field-0.d.now)) c.deref-2.result.now c.deref-3.result.now = λ told. subst (λ (xs : List (List Record)). AllZip (IsParent (page_bytes (g.H.Host.state c.args.host.now)) (sets.set_in c.in_ok-d.field-0.d.now)) c.deref-2.result.now xs) all (subst (λ (xs : List ℕ). AllZip (IsParent (page_bytes (g.H.Host.state c.args.host.now)) (sets.set_in c.in_ok-d.field-0.d.now)) xs c.in_ok-read.read.records.items) same (c.in_ok-read.ensures.answer told))
+    in let agree : ParentsAgree (sets.set_in c.in_ok-d.field-0.d.now) c.deref-2.result.now c.deref-3.result.now = subst (λ (xs : List (List Record)). ParentsAgree (sets.set_in c.in_ok-d.field-0.d.now) c.deref-2.result.now xs) all (subst (λ (xs : List ℕ). ParentsAgree (sets.set_in c.in_ok-d.field-0.d.now) xs c.in_ok-read.read.records.items) same c.in_ok-read.ensures.agree)
     in let is : (sets.set_in c.in_ok-d.field-0.d.now) ≡ s = ap (λ o. elim o as (λ _. Set) [ None ↦ (sets.set_in c.in_ok-d.field-0.d.now) | Some x ↦ x ]) (sym c.in_ok-d.ensures.found ∙ named)
     in subst (λ x. IsCommitBy x (record { vids = c.args.parents.now; message = c.args.message.now; rows = c.args.rows.items }) (g.H.Host.state c.args.host.now) (bringing_of c.in_ok-brought.field-0.brought) c.in_ok-brought.field-0.fresh) is
-    (made_by (sets.set_in c.in_ok-d.field-0.d.now) (record { vids = c.args.parents.now; message = c.args.message.now; rows = c.args.rows.items }) c.deref-2.result.now c.deref-3.result.now c.in_ok-d.field-0.rows.items vids_are sorted (g.H.Host.state c.args.host.now) read (g.H.Host.state c.parents_of.new.host) c.parents_of.ensures.looked agree (bringing_of c.in_ok-brought.field-0.brought) c.in_ok-brought.field-0.fresh c.in_ok-brought.ensures.is c.in_ok-brought.ensures.fresh)
+    (made_by (sets.set_in c.in_ok-d.field-0.d.now) (record { vids = c.args.parents.now; message = c.args.message.now; rows = c.args.rows.items }) c.deref-2.result.now c.deref-3.result.now c.in_ok-d.field-0.rows.items vids_are sorted (g.H.Host.state c.args.host.now) read agree (bringing_of c.in_ok-brought.field-0.brought) c.in_ok-brought.field-0.fresh (c.in_ok-brought.ensures.is (g.H.Host.state c.args.host.now).tells (page_bytes (g.H.Host.state c.args.host.now)) held) c.in_ok-brought.ensures.fresh)
 
 pub returns-clause-brings : goal.returns-clause-brings
 returns-clause-brings g c = λ w d at named.
     let vids_are : c.deref-2.result.now ≡ c.args.parents.now = c.deref-2.ensures.value ∙ c.in_ok-d.ensures.vids
     in let sorted : c.in_ok-d.field-0.rows.items ≡ in_key_order (sets.set_in c.in_ok-d.field-0.d.now).schema c.args.rows.items = c.in_ok-d.ensures.rows
     in let same : c.deref.result.now ≡ c.deref-2.result.now = c.deref.ensures.value ∙ sym c.deref-2.ensures.value
-    in let all : c.in_ok-read.read.items ≡ c.deref-3.result.now = sym c.deref-3.ensures.value
-    in let read : (g.H.Host.state c.args.host.now).tells ≡ true → AllZip (IsParent (page_bytes (g.H.Host.state c.args.host.now)) (sets.set_in c.in_ok-d.field-0.d.now)) c.deref-2.result.now c.deref-3.result.now = λ told. subst (λ (xs : List (List Record)). AllZip (IsParent (page_bytes (g.H.Host.state c.args.host.now)) (sets.set_in c.in_ok-d.field-0.d.now)) c.deref-2.result.now xs) all (subst (λ (xs : List ℕ). AllZip (IsParent (page_bytes (g.H.Host.state c.args.host.now)) (sets.set_in c.in_ok-d.field-0.d.now)) xs c.in_ok-read.read.items) same (c.in_ok-read.ensures.answer told))
+    in let held : AreHeld (g.H.Host.state c.args.host.now).tells (page_bytes (g.H.Host.state c.args.host.now)) (sets.set_in c.in_ok-d.field-0.d.now) c.deref-2.result.now c.deref-4.result.now
+    = subst (λ (xs : List (List (List ℕ))). AreHeld (g.H.Host.state c.args.host.now).tells (page_bytes (g.H.Host.state c.args.host.now)) (sets.set_in c.in_ok-d.field-0.d.now) c.deref-2.result.now xs) (sym c.deref-4.ensures.value)
+    (subst (λ (xs : List ℕ). AreHeld (g.H.Host.state c.args.host.now).tells (page_bytes (g.H.Host.state c.args.host.now)) (sets.set_in c.in_ok-d.field-0.d.now) xs c.in_ok-read.read.held.items) same c.in_ok-read.ensures.held)
+    in let all : c.in_ok-read.read.records.items ≡ c.deref-3.result.now = sym c.deref-3.ensures.value
+    in let read : (g.H.Host.state c.args.host.now).tells ≡ true → AllZip (IsParent (page_bytes (g.H.Host.state c.args.host.now)) (sets.set_in c.in_ok-d.field-0.d.now)) c.deref-2.result.now c.deref-3.result.now = λ told. subst (λ (xs : List (List Record)). AllZip (IsParent (page_bytes (g.H.Host.state c.args.host.now)) (sets.set_in c.in_ok-d.field-0.d.now)) c.deref-2.result.now xs) all (subst (λ (xs : List ℕ). AllZip (IsParent (page_bytes (g.H.Host.state c.args.host.now)) (sets.set_in c.in_ok-d.field-0.d.now)) xs c.in_ok-read.read.records.items) same (c.in_ok-read.ensures.answer told))
     in let there : All (IsThere (sets.set_in c.in_ok-d.field-0.d.now)) c.deref-2.result.now
     = subst (λ (xs : List ℕ). All (IsThere (sets.set_in c.in_ok-d.field-0.d.now)) xs) (sym c.deref-2.ensures.value)
     (subst (λ (n : ℕ). All (λ vid. (1 ≤ vid) × (vid ≤ n)) c.in_ok-d.field-0.vids.items) (sym (length-map c.in_ok-d.field-0.d.now.versions.items sets.version_in))
     (there_all (length c.in_ok-d.field-0.d.now.versions.items) c.in_ok-d.field-0.vids.items c.in_ok-d.ensures.parents.there))
-    in let told : (g.H.Host.state c.parents_of.new.host).tells ≡ true = c.parents_of.ensures.looked.told ∙ at.at.told
-    in let answered = c.in_ok-brought.ensures.world told w d (asked_there (sets.set_in c.in_ok-d.field-0.d.now) (record { vids = c.args.parents.now; message = c.args.message.now; rows = c.args.rows.items }) c.deref-2.result.now c.deref-3.result.now c.in_ok-d.field-0.rows.items vids_are sorted (g.H.Host.state c.args.host.now) read (g.H.Host.state c.parents_of.new.host) c.parents_of.ensures.looked w c.args.self.now.held at c.args.name.now d c.in_ok-d.ensures.found named there)
+    in let answered = c.in_ok-brought.ensures.world (page_bytes (g.H.Host.state c.args.host.now)) w d (if_told (g.H.Host.state c.args.host.now).tells (page_bytes (g.H.Host.state c.args.host.now)) (sets.set_in c.in_ok-d.field-0.d.now) c.deref-2.result.now c.deref-4.result.now held at.at.told) (asked_there (sets.set_in c.in_ok-d.field-0.d.now) (record { vids = c.args.parents.now; message = c.args.message.now; rows = c.args.rows.items }) c.deref-2.result.now c.deref-3.result.now c.in_ok-d.field-0.rows.items vids_are sorted (g.H.Host.state c.args.host.now) read w c.args.self.now.held at c.args.name.now d c.in_ok-d.ensures.found named there)
     in let count : length c.in_ok-d.field-0.d.now.versions.items ≡ length (sets.set_in c.in_ok-d.field-0.d.now).versions = sym (length-map c.in_ok-d.field-0.d.now.versions.items sets.version_in)
     in let are : AreParents (length (sets.set_in c.in_ok-d.field-0.d.now).versions) c.deref-2.result.now
     = subst (λ (n : ℕ). AreParents n c.deref-2.result.now) count (subst (λ (xs : List ℕ). AreParents (length c.in_ok-d.field-0.d.now.versions.items) xs) (sym c.deref-2.ensures.value) c.in_ok-d.ensures.parents)
     in let text : IsUtf8 c.args.message.now = subst (λ (xs : List ℕ). IsUtf8 xs) c.as_str.ensures.text c.as_str.ensures.utf8
     in record {
-      fits = fits_there (sets.set_in c.in_ok-d.field-0.d.now) (record { vids = c.args.parents.now; message = c.args.message.now; rows = c.args.rows.items }) c.deref-2.result.now c.deref-3.result.now c.in_ok-d.field-0.rows.items vids_are sorted (g.H.Host.state c.args.host.now) read (g.H.Host.state c.parents_of.new.host) c.parents_of.ensures.looked w c.args.self.now.held at c.args.name.now d c.in_ok-d.ensures.found named there c.in_ok-brought.field-0.brought.event c.in_ok-brought.field-0.fresh
-          c.in_ok-brought.field-0.brought.list.items c.in_ok-brought.field-0.brought.segment.items answered are text c.requires.message
-          (subst (λ (n : ℕ). n < 65535) count c.in_ok-d.ensures.few) c.in_ok-d.ensures.fit;
-      says = says_there (sets.set_in c.in_ok-d.field-0.d.now) (record { vids = c.args.parents.now; message = c.args.message.now; rows = c.args.rows.items }) c.deref-2.result.now c.deref-3.result.now c.in_ok-d.field-0.rows.items vids_are sorted (g.H.Host.state c.args.host.now) read (g.H.Host.state c.parents_of.new.host) c.parents_of.ensures.looked w c.args.self.now.held at c.args.name.now d c.in_ok-d.ensures.found named there c.in_ok-brought.field-0.brought.event c.in_ok-brought.field-0.fresh
+      fits = fits_there (sets.set_in c.in_ok-d.field-0.d.now) (record { vids = c.args.parents.now; message = c.args.message.now; rows = c.args.rows.items }) c.deref-2.result.now c.deref-3.result.now c.in_ok-d.field-0.rows.items vids_are sorted (g.H.Host.state c.args.host.now) read w c.args.self.now.held at c.args.name.now d c.in_ok-d.ensures.found named there are text c.requires.message
+          (subst (λ (n : ℕ). n < 65535) count c.in_ok-d.ensures.few) c.in_ok-d.ensures.fit c.in_ok-brought.field-0.brought.event c.in_ok-brought.field-0.fresh
+          c.in_ok-brought.field-0.brought.list.items c.in_ok-brought.field-0.brought.segment.items answered;
+      says = says_there (sets.set_in c.in_ok-d.field-0.d.now) (record { vids = c.args.parents.now; message = c.args.message.now; rows = c.args.rows.items }) c.deref-2.result.now c.deref-3.result.now c.in_ok-d.field-0.rows.items vids_are sorted (g.H.Host.state c.args.host.now) read w c.args.self.now.held at c.args.name.now d c.in_ok-d.ensures.found named there c.in_ok-brought.field-0.brought.event c.in_ok-brought.field-0.fresh
           c.in_ok-brought.field-0.brought.list.items c.in_ok-brought.field-0.brought.segment.items answered;
     }
 
@@ -163,39 +180,35 @@ returns-clause-fresh g c = λ w d at named.
     let vids_are : c.deref-2.result.now ≡ c.args.parents.now = c.deref-2.ensures.value ∙ c.in_ok-d.ensures.vids
     in let sorted : c.in_ok-d.field-0.rows.items ≡ in_key_order (sets.set_in c.in_ok-d.field-0.d.now).schema c.args.rows.items = c.in_ok-d.ensures.rows
     in let same : c.deref.result.now ≡ c.deref-2.result.now = c.deref.ensures.value ∙ sym c.deref-2.ensures.value
-    in let all : c.in_ok-read.read.items ≡ c.deref-3.result.now = sym c.deref-3.ensures.value
-    in let read : (g.H.Host.state c.args.host.now).tells ≡ true → AllZip (IsParent (page_bytes (g.H.Host.state c.args.host.now)) (sets.set_in c.in_ok-d.field-0.d.now)) c.deref-2.result.now c.deref-3.result.now = λ told. subst (λ (xs : List (List Record)). AllZip (IsParent (page_bytes (g.H.Host.state c.args.host.now)) (sets.set_in c.in_ok-d.field-0.d.now)) c.deref-2.result.now xs) all (subst (λ (xs : List ℕ). AllZip (IsParent (page_bytes (g.H.Host.state c.args.host.now)) (sets.set_in c.in_ok-d.field-0.d.now)) xs c.in_ok-read.read.items) same (c.in_ok-read.ensures.answer told))
+    in let held : AreHeld (g.H.Host.state c.args.host.now).tells (page_bytes (g.H.Host.state c.args.host.now)) (sets.set_in c.in_ok-d.field-0.d.now) c.deref-2.result.now c.deref-4.result.now
+    = subst (λ (xs : List (List (List ℕ))). AreHeld (g.H.Host.state c.args.host.now).tells (page_bytes (g.H.Host.state c.args.host.now)) (sets.set_in c.in_ok-d.field-0.d.now) c.deref-2.result.now xs) (sym c.deref-4.ensures.value)
+    (subst (λ (xs : List ℕ). AreHeld (g.H.Host.state c.args.host.now).tells (page_bytes (g.H.Host.state c.args.host.now)) (sets.set_in c.in_ok-d.field-0.d.now) xs c.in_ok-read.read.held.items) same c.in_ok-read.ensures.held)
+    in let all : c.in_ok-read.read.records.items ≡ c.deref-3.result.now = sym c.deref-3.ensures.value
+    in let read : (g.H.Host.state c.args.host.now).tells ≡ true → AllZip (IsParent (page_bytes (g.H.Host.state c.args.host.now)) (sets.set_in c.in_ok-d.field-0.d.now)) c.deref-2.result.now c.deref-3.result.now = λ told. subst (λ (xs : List (List Record)). AllZip (IsParent (page_bytes (g.H.Host.state c.args.host.now)) (sets.set_in c.in_ok-d.field-0.d.now)) c.deref-2.result.now xs) all (subst (λ (xs : List ℕ). AllZip (IsParent (page_bytes (g.H.Host.state c.args.host.now)) (sets.set_in c.in_ok-d.field-0.d.now)) xs c.in_ok-read.read.records.items) same (c.in_ok-read.ensures.answer told))
     in let there : All (IsThere (sets.set_in c.in_ok-d.field-0.d.now)) c.deref-2.result.now
     = subst (λ (xs : List ℕ). All (IsThere (sets.set_in c.in_ok-d.field-0.d.now)) xs) (sym c.deref-2.ensures.value)
     (subst (λ (n : ℕ). All (λ vid. (1 ≤ vid) × (vid ≤ n)) c.in_ok-d.field-0.vids.items) (sym (length-map c.in_ok-d.field-0.d.now.versions.items sets.version_in))
     (there_all (length c.in_ok-d.field-0.d.now.versions.items) c.in_ok-d.field-0.vids.items c.in_ok-d.ensures.parents.there))
-    in let told : (g.H.Host.state c.parents_of.new.host).tells ≡ true = c.parents_of.ensures.looked.told ∙ at.at.told
-    in let answered = c.in_ok-brought.ensures.world told w d (asked_there (sets.set_in c.in_ok-d.field-0.d.now) (record { vids = c.args.parents.now; message = c.args.message.now; rows = c.args.rows.items }) c.deref-2.result.now c.deref-3.result.now c.in_ok-d.field-0.rows.items vids_are sorted (g.H.Host.state c.args.host.now) read (g.H.Host.state c.parents_of.new.host) c.parents_of.ensures.looked w c.args.self.now.held at c.args.name.now d c.in_ok-d.ensures.found named there)
-    in fresh_there (sets.set_in c.in_ok-d.field-0.d.now) (record { vids = c.args.parents.now; message = c.args.message.now; rows = c.args.rows.items }) c.deref-2.result.now c.deref-3.result.now c.in_ok-d.field-0.rows.items vids_are sorted (g.H.Host.state c.args.host.now) read (g.H.Host.state c.parents_of.new.host) c.parents_of.ensures.looked w c.args.self.now.held at c.args.name.now d c.in_ok-d.ensures.found named there c.in_ok-brought.field-0.brought.event c.in_ok-brought.field-0.fresh
+    in let answered = c.in_ok-brought.ensures.world (page_bytes (g.H.Host.state c.args.host.now)) w d (if_told (g.H.Host.state c.args.host.now).tells (page_bytes (g.H.Host.state c.args.host.now)) (sets.set_in c.in_ok-d.field-0.d.now) c.deref-2.result.now c.deref-4.result.now held at.at.told) (asked_there (sets.set_in c.in_ok-d.field-0.d.now) (record { vids = c.args.parents.now; message = c.args.message.now; rows = c.args.rows.items }) c.deref-2.result.now c.deref-3.result.now c.in_ok-d.field-0.rows.items vids_are sorted (g.H.Host.state c.args.host.now) read w c.args.self.now.held at c.args.name.now d c.in_ok-d.ensures.found named there)
+    in fresh_there (sets.set_in c.in_ok-d.field-0.d.now) (record { vids = c.args.parents.now; message = c.args.message.now; rows = c.args.rows.items }) c.deref-2.result.now c.deref-3.result.now c.in_ok-d.field-0.rows.items vids_are sorted (g.H.Host.state c.args.host.now) read w c.args.self.now.held at c.args.name.now d c.in_ok-d.ensures.found named there c.in_ok-brought.field-0.brought.event c.in_ok-brought.field-0.fresh
     c.in_ok-brought.field-0.brought.list.items c.in_ok-brought.field-0.brought.segment.items answered
 
 pub returns-in_err-brought-clause-fetched : goal.returns-in_err-brought-clause-fetched
 returns-in_err-brought-clause-fetched g c = λ s named.
-    let vids_are : c.deref-2.result.now ≡ c.args.parents.now = c.deref-2.ensures.value ∙ c.in_ok-d.ensures.vids
-    in let sorted : c.in_ok-d.field-0.rows.items ≡ in_key_order (sets.set_in c.in_ok-d.field-0.d.now).schema c.args.rows.items = c.in_ok-d.ensures.rows
-    in let same : c.deref.result.now ≡ c.deref-2.result.now = c.deref.ensures.value ∙ sym c.deref-2.ensures.value
-    in let all : c.in_ok-read.read.items ≡ c.deref-3.result.now = sym c.deref-3.ensures.value
-    in let read : (g.H.Host.state c.args.host.now).tells ≡ true → AllZip (IsParent (page_bytes (g.H.Host.state c.args.host.now)) (sets.set_in c.in_ok-d.field-0.d.now)) c.deref-2.result.now c.deref-3.result.now = λ told. subst (λ (xs : List (List Record)). AllZip (IsParent (page_bytes (g.H.Host.state c.args.host.now)) (sets.set_in c.in_ok-d.field-0.d.now)) c.deref-2.result.now xs) all (subst (λ (xs : List ℕ). AllZip (IsParent (page_bytes (g.H.Host.state c.args.host.now)) (sets.set_in c.in_ok-d.field-0.d.now)) xs c.in_ok-read.read.items) same (c.in_ok-read.ensures.answer told))
-    in let agree : ParentsAgree (sets.set_in c.in_ok-d.field-0.d.now) c.deref-2.result.now c.deref-3.result.now = subst (λ (xs : List (List Record)). ParentsAgree (sets.set_in c.in_ok-d.field-0.d.now) c.deref-2.result.now xs) all (subst (λ (xs : List ℕ). ParentsAgree (sets.set_in c.in_ok-d.field-0.d.now) xs c.in_ok-read.read.items) same c.in_ok-read.ensures.agree)
+    let vids_are : c.deref.result.now ≡ c.args.parents.now = c.deref.ensures.value ∙ c.in_ok-d.ensures.vids
     in let is : (sets.set_in c.in_ok-d.field-0.d.now) ≡ s = ap (λ o. elim o as (λ _. Set) [ None ↦ (sets.set_in c.in_ok-d.field-0.d.now) | Some x ↦ x ]) (sym c.in_ok-d.ensures.found ∙ named)
-    in let some : c.deref-2.result.now ≢ [] = λ none. c.requires.some (sym vids_are ∙ none)
-    in subst (λ x. (g.H.Host.state c.commit_of.new.host).fetched ≤ (g.H.Host.state c.args.host.now).fetched + reads_for x c.args.parents.now) is
-    (reads (sets.set_in c.in_ok-d.field-0.d.now) (record { vids = c.args.parents.now; message = c.args.message.now; rows = c.args.rows.items }) c.deref-2.result.now c.deref-3.result.now c.in_ok-d.field-0.rows.items vids_are sorted (g.H.Host.state c.args.host.now) read (g.H.Host.state c.parents_of.new.host) c.parents_of.ensures.looked agree some (g.H.Host.state c.commit_of.new.host) (subst (λ (xs : List ℕ). (g.H.Host.state c.parents_of.new.host).fetched ≤ (g.H.Host.state c.args.host.now).fetched + bytes_for (sets.set_in c.in_ok-d.field-0.d.now) xs) same c.parents_of.ensures.fetched) c.commit_of.ensures.fetched)
+    in subst (λ x. (g.H.Host.state c.parents_of.new.host).fetched ≤ (g.H.Host.state c.args.host.now).fetched + bytes_for x c.args.parents.now) is
+    (subst (λ (xs : List ℕ). (g.H.Host.state c.parents_of.new.host).fetched ≤ (g.H.Host.state c.args.host.now).fetched + bytes_for (sets.set_in c.in_ok-d.field-0.d.now) xs) vids_are c.parents_of.ensures.fetched)
 
 pub returns-clause-fetched : goal.returns-clause-fetched
 returns-clause-fetched g c = λ s named.
-    let vids_are : c.deref-2.result.now ≡ c.args.parents.now = c.deref-2.ensures.value ∙ c.in_ok-d.ensures.vids
-    in let sorted : c.in_ok-d.field-0.rows.items ≡ in_key_order (sets.set_in c.in_ok-d.field-0.d.now).schema c.args.rows.items = c.in_ok-d.ensures.rows
-    in let same : c.deref.result.now ≡ c.deref-2.result.now = c.deref.ensures.value ∙ sym c.deref-2.ensures.value
-    in let all : c.in_ok-read.read.items ≡ c.deref-3.result.now = sym c.deref-3.ensures.value
-    in let read : (g.H.Host.state c.args.host.now).tells ≡ true → AllZip (IsParent (page_bytes (g.H.Host.state c.args.host.now)) (sets.set_in c.in_ok-d.field-0.d.now)) c.deref-2.result.now c.deref-3.result.now = λ told. subst (λ (xs : List (List Record)). AllZip (IsParent (page_bytes (g.H.Host.state c.args.host.now)) (sets.set_in c.in_ok-d.field-0.d.now)) c.deref-2.result.now xs) all (subst (λ (xs : List ℕ). AllZip (IsParent (page_bytes (g.H.Host.state c.args.host.now)) (sets.set_in c.in_ok-d.field-0.d.now)) xs c.in_ok-read.read.items) same (c.in_ok-read.ensures.answer told))
-    in let agree : ParentsAgree (sets.set_in c.in_ok-d.field-0.d.now) c.deref-2.result.now c.deref-3.result.now = subst (λ (xs : List (List Record)). ParentsAgree (sets.set_in c.in_ok-d.field-0.d.now) c.deref-2.result.now xs) all (subst (λ (xs : List ℕ). ParentsAgree (sets.set_in c.in_ok-d.field-0.d.now) xs c.in_ok-read.read.items) same c.in_ok-read.ensures.agree)
+    let vids_are : c.deref.result.now ≡ c.args.parents.now = c.deref.ensures.value ∙ c.in_ok-d.ensures.vids
     in let is : (sets.set_in c.in_ok-d.field-0.d.now) ≡ s = ap (λ o. elim o as (λ _. Set) [ None ↦ (sets.set_in c.in_ok-d.field-0.d.now) | Some x ↦ x ]) (sym c.in_ok-d.ensures.found ∙ named)
-    in let some : c.deref-2.result.now ≢ [] = λ none. c.requires.some (sym vids_are ∙ none)
-    in subst (λ x. (g.H.Host.state c.commit_of.new.host).fetched ≤ (g.H.Host.state c.args.host.now).fetched + reads_for x c.args.parents.now) is
-    (reads (sets.set_in c.in_ok-d.field-0.d.now) (record { vids = c.args.parents.now; message = c.args.message.now; rows = c.args.rows.items }) c.deref-2.result.now c.deref-3.result.now c.in_ok-d.field-0.rows.items vids_are sorted (g.H.Host.state c.args.host.now) read (g.H.Host.state c.parents_of.new.host) c.parents_of.ensures.looked agree some (g.H.Host.state c.commit_of.new.host) (subst (λ (xs : List ℕ). (g.H.Host.state c.parents_of.new.host).fetched ≤ (g.H.Host.state c.args.host.now).fetched + bytes_for (sets.set_in c.in_ok-d.field-0.d.now) xs) same c.parents_of.ensures.fetched) c.commit_of.ensures.fetched)
+    in subst (λ x. (g.H.Host.state c.parents_of.new.host).fetched ≤ (g.H.Host.state c.args.host.now).fetched + bytes_for x c.args.parents.now) is
+    (subst (λ (xs : List ℕ). (g.H.Host.state c.parents_of.new.host).fetched ≤ (g.H.Host.state c.args.host.now).fetched + bytes_for (sets.set_in c.in_ok-d.field-0.d.now) xs) vids_are c.parents_of.ensures.fetched)
+
+pub commit_of-requires-clause-held : goal.commit_of-requires-clause-held
+commit_of-requires-clause-held g c =
+    ap length c.deref-4.ensures.value
+    ∙ (zip_length (IsHeld (g.H.Host.state c.args.host.now).tells (page_bytes (g.H.Host.state c.args.host.now)) c.in_ok-d.field-0.d.now.schema c.deref.result.now) (map sets.part_in c.in_ok-d.field-0.d.now.layout.parts) c.in_ok-read.read.held.items c.in_ok-read.ensures.held
+    ∙ length-map c.in_ok-d.field-0.d.now.layout.parts sets.part_in)

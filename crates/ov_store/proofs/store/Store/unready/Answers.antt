@@ -1,7 +1,6 @@
 use Rattle.std.proofs.Common.{◌≡◌, ◌∙◌, ℕ, sym, ap, subst}
 use Rattle.ov_catalog.specs.Extents.{live}
 use Rattle.ov_core.specs.Held.{Held}
-use Rattle.ov_core.specs.Rooms.{IsWhyNoRuns}
 use Rattle.ov_store.specs.declared.unready.Unready.{Unready}
 use Rattle.ov_store.specs.declared.unready.Unready.TheVariants.{Off, TooLong}
 use Rattle.ov_store.specs.Unready.{IsNoRoom}

@@ -1,0 +1,3 @@
+pub mod Licence
+pub mod Stops
+pub mod Serving

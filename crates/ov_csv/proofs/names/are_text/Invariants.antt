@@ -1,9 +1,0 @@
-use Rattle.std.proofs.Common.{◌≡◌, drop}
-use Rattle.std.specs.List.{list_all}
-use Rattle.std.specs.Str.{is_utf8}
-use Rattle.csv.specs.Records.{fields_of}
-use Rattle.ov_csv.proofs.names.are_text.Given as goal
-
--- those before the place are texts, so the answer is that of the others
-abbrev pub invariant-loop-place : goal.invariant-loop-place
-invariant-loop-place l = list_all is_utf8 (drop l.from (fields_of l.line)) ≡ list_all is_utf8 (drop l.place (fields_of l.line))

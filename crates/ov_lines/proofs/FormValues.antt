@@ -1,0 +1,191 @@
+-- The values that a form's options give.
+use Rattle.std.proofs.Common.{◌≡◌, ℕ, ◌+◌, ◌≤◌, ◌==◌, Bool, true, false, List, [], ◌∷◌, ◌++◌, length, refl, sym, ◌∙◌, ap, subst, arith}
+use Rattle.std.specs.Prelude.{◌≢◌, ◌||◌, not, if◌then◌else◌, nat_le, codes, is_some, Option, Some, None, Result, Ok, Err}
+use Rattle.std.specs.List.{slice_split}
+use Rattle.std.specs.Option.{option_map, option_and_then}
+use Rattle.std.specs.Str.{bytes_eq}
+use Rattle.std.proofs.lemmas.Bool.{leb-true}
+use Rattle.std.proofs.lemmas.List.Splits.{length-slice_split}
+use Rattle.ov_model.specs.Forms.{Param, Choice, Values, option_in, vids_in, text_in}
+use Rattle.ov_model.specs.Line.{has, choice_named, may_follow, and_then, accepted, option_at, with_option, one_option, read_options, read_words}
+use Rattle.ov_model.specs.Values.{number_of, all_some, vids_of, or_refused, when, read}
+use Rattle.ov_model.specs.declared.given.Given.{Given}
+use Rattle.ov_model.specs.declared.given.Given.TheVariants.{Text, Vids}
+use Rattle.ov_model.specs.declared.given.Reading.TheVariants.{ListOfVids, Message}
+use Rattle.ov_model.specs.declared.refusal.Refusal.{Refusal}
+use Rattle.ov_model.specs.declared.refusal.Refusal.TheVariants as no
+
+-- ---- a list of versions has one
+
+err_ok : {X : Type 0} (r : Refusal) (x : X) → Err r ≡ Ok x → ⊥
+err_ok r x e = cc
+
+and_ok : {X Y : Type 0} (f : X → Result Y Refusal) (r : Result X Refusal) (y : Y) → and_then f r ≡ Ok y → (x : X) × (r ≡ Ok x) × (f x ≡ Ok y)
+and_ok f (Ok x) y e = (x, refl, e)
+and_ok f (Err refusal) y e = absurd (err_ok refusal y e)
+
+abbrev fine : {X : Type 0} → X → Result X Refusal
+fine x = Ok x
+
+same_ok : {X : Type 0} (a b : X) → fine a ≡ fine b → a ≡ b
+same_ok a b e = cc
+
+none_some : {X : Type 0} (x : X) → None ≡ Some x → ⊥
+none_some x e = cc
+
+some_same : {X : Type 0} (a b : X) → Some a ≡ Some b → a ≡ b
+some_same a b e = cc
+
+onto_some : (y : ℕ) (rest : Option (List ℕ)) (ys : List ℕ) → option_map (λ l. y ∷ l) rest ≡ Some ys → ys ≢ []
+onto_some y None ys e none = none_some ys e
+onto_some y (Some l) ys e none = clash (some_same (y ∷ l) ys e ∙ none)
+  where
+    clash : y ∷ l ≡ [] → ⊥
+    clash f = cc
+
+and_some : (first : Option ℕ) (rest : Option (List ℕ)) (ys : List ℕ) → option_and_then (λ y. option_map (λ l. y ∷ l) rest) first ≡ Some ys → ys ≢ []
+and_some None rest ys e none = none_some ys e
+and_some (Some y) rest ys e none = onto_some y rest ys e none
+
+all_listed : (texts : List (List ℕ)) (vids : List ℕ) → 1 ≤ length texts → all_some number_of texts ≡ Some vids → vids ≢ []
+all_listed [] vids some e = absurd (omega (arith, some))
+all_listed (text ∷ texts) vids some e = and_some (number_of text) (all_some number_of texts) vids e
+
+given_vids : (text : List ℕ) (vids : Option (List ℕ)) (given : Given) → vids_of text ≡ vids → or_refused no.BadNumber Vids vids ≡ Ok given → vids_in (Some given) ≢ []
+given_vids text None given e f = absurd (err_ok no.BadNumber given f)
+given_vids text (Some vids) given e f =
+    subst (λ g. vids_in (Some g) ≢ []) (same_ok (Vids vids) given f)
+    (all_listed (slice_split (λ c. c == 44) text) vids (omega (arith, length-slice_split (λ c. c == 44) text)) e)
+
+-- a text that is given as a message has at most 1,024 bytes
+given_message : (nth : ℕ) (text : List ℕ) (given : Given) (short : Bool) → nat_le (length text) 1024 ≡ short → when short (no.UnexpectedWord nth) (Text text) ≡ Ok given → length (text_in (Some given)) ≤ 1024
+given_message nth text given true le e =
+    subst (λ g. length (text_in (Some g)) ≤ 1024) (same_ok (Text text) given e) (leb-true (length text) 1024 le)
+given_message nth text given false le e = absurd (err_ok (no.UnexpectedWord nth) given e)
+
+-- ---- options
+
+-- what an option gives: `-v` gives versions, `-m` a message, and none is written as nothing, `-t` or `-a`
+pub record IsGood (o : List ℕ × Given) : Type 0 where
+  pub versions : bytes_eq o.0 (codes "-v") ≡ true → vids_in (Some o.1) ≢ []
+  pub message : bytes_eq o.0 (codes "-m") ≡ true → length (text_in (Some o.1)) ≤ 1024
+  pub written : bytes_eq o.0 [] ≡ false
+  pub no_table : bytes_eq o.0 (codes "-t") ≡ false
+  pub no_added : bytes_eq o.0 (codes "-a") ≡ false
+
+abbrev pub AreGood : List (List ℕ × Given) → Type 0
+AreGood [] = Unit {0}
+AreGood (o ∷ os) = IsGood o × AreGood os
+
+-- a choice whose options are such
+pub record IsRead (c : Choice) : Type 0 where
+  pub versions : bytes_eq c.letter (codes "-v") ≡ true → c.reads ≡ ListOfVids
+  pub message : bytes_eq c.letter (codes "-m") ≡ true → c.reads ≡ Message
+  pub written : bytes_eq c.letter [] ≡ false
+  pub no_table : bytes_eq c.letter (codes "-t") ≡ false
+  pub no_added : bytes_eq c.letter (codes "-a") ≡ false
+
+abbrev pub AllRead : List Choice → Type 0
+AllRead [] = Unit {0}
+AllRead (c ∷ cs) = IsRead c × AllRead cs
+
+good_last : (os : List (List ℕ × Given)) (o : List ℕ × Given) → AreGood os → IsGood o → AreGood (os ++ o ∷ [])
+good_last [] o good is = (is, tt)
+good_last (x ∷ os) o good is = (good.0, good_last os o good.1 is)
+
+named_if : (t : Bool) (c d : Choice) (rest : Option Choice) → (if t then Some c else rest) ≡ Some d → IsRead c → (rest ≡ Some d → IsRead d) → IsRead d
+named_if true c d rest e is later = subst IsRead (some_same c d e) is
+named_if false c d rest e is later = later e
+
+named_reads : (cs : List Choice) (letter : List ℕ) (d : Choice) → AllRead cs → choice_named cs letter ≡ Some d → IsRead d
+named_reads [] letter d all e = absurd (none_some d e)
+named_reads (c ∷ cs) letter d all e = named_if (bytes_eq c.letter letter) c d (choice_named cs letter) e all.0 (named_reads cs letter d all.1)
+
+accepted_if : (t : Bool) (nth : ℕ) (c d : Choice) → (if t then Ok c else Err (no.UnexpectedWord nth)) ≡ Ok d → c ≡ d
+accepted_if true nth c d e = same_ok c d e
+accepted_if false nth c d e = absurd (err_ok (no.UnexpectedWord nth) d e)
+
+accepted_reads : (nth : ℕ) (options : List (List ℕ × Given)) (found : Option Choice) (d : Choice) → accepted nth options found ≡ Ok d → ((c : Choice) → found ≡ Some c → IsRead c) → IsRead d
+accepted_reads nth options None d e reads = absurd (err_ok (no.UnexpectedWord nth) d e)
+accepted_reads nth options (Some c) d e reads = subst IsRead (accepted_if (may_follow options c) nth c d e) (reads c refl)
+
+read_good : (before : List Given) (nth : ℕ) (value : List ℕ) (c : Choice) (given : Given) → IsRead c → read c.reads nth before value ≡ Ok given → IsGood (c.letter, given)
+read_good before nth value c given is e = record {
+  versions = λ same. given_vids value (vids_of value) given refl (sym (ap (λ r. read r nth before value) (is.versions same)) ∙ e);
+  message = λ same. given_message nth value given (nat_le (length value) 1024) refl (sym (ap (λ r. read r nth before value) (is.message same)) ∙ e);
+  written = is.written;
+  no_table = is.no_table;
+  no_added = is.no_added;
+}
+
+module _ (choices : List Choice) (all : AllRead choices) (before : List Given) where
+  one_good : (options more : List (List ℕ × Given)) (nth : ℕ) (letter value : List ℕ) → AreGood options → one_option choices before options nth letter value ≡ Ok more → AreGood more
+  one_good options more nth letter value good e =
+      let found = and_ok (λ c. and_then (λ given. Ok (with_option options c.letter given)) (read c.reads (nth + 1) before value)) (option_at choices options nth letter) more e
+      in let c : Choice = found.0
+      in let reads : IsRead c = accepted_reads nth options (choice_named choices letter) c found.1 (λ d f. named_reads choices letter d all f)
+      in let got = and_ok (λ given. Ok (with_option options c.letter given)) (read c.reads (nth + 1) before value) more found.2
+      in subst AreGood (same_ok (with_option options c.letter got.0) more got.2)
+      (good_last options (c.letter, got.0) good (read_good before (nth + 1) value c got.0 reads got.1))
+
+  options_good : (options : List (List ℕ × Given)) (nth : ℕ) (words : List (List ℕ)) (v : Values) → AreGood options → read_options choices before options nth words ≡ Ok v → AreGood v.options
+  options_good options nth [] v good e = subst (λ x. AreGood x.options) (same_ok (record { words = before; options = options }) v e) good
+  options_good options nth (letter ∷ []) v good e =
+      let found = and_ok (λ c. Err (no.Missing c.letter)) (option_at choices options nth letter) v e
+      in absurd (err_ok (no.Missing found.0.letter) v found.2)
+  options_good options nth (letter ∷ value ∷ words) v good e =
+      let found = and_ok (λ more. read_options choices before more (nth + 2) words) (one_option choices before options nth letter value) v e
+      in options_good found.0 (nth + 2) words v (one_good options found.0 nth letter value good found.1) found.2
+
+pub words_good : (choices : List Choice) → AllRead choices → (params : List Param) (before : List Given) (nth : ℕ) (words : List (List ℕ)) (v : Values)
+    → read_words choices params before nth words ≡ Ok v → AreGood v.options
+words_good choices all [] before nth words v e = options_good choices all before [] nth words v tt e
+words_good choices all (p ∷ ps) before nth [] v e = absurd (err_ok (no.Missing p.what) v e)
+words_good choices all (p ∷ ps) before nth (word ∷ words) v e =
+    let found = and_ok (λ given. read_words choices ps (before ++ given ∷ []) (nth + 1) words) (read p.reads nth before word) v e
+    in words_good choices all ps (before ++ found.0 ∷ []) (nth + 1) words v found.2
+
+-- ---- what is among them
+
+pub no_blank : (os : List (List ℕ × Given)) → AreGood os → has os [] ≡ false
+no_blank [] good = refl
+no_blank (o ∷ os) good = ap (λ t. is_some (if t then Some o.1 else option_in os [])) good.0.written ∙ no_blank os good.1
+
+pub no_table : (os : List (List ℕ × Given)) → AreGood os → option_in os (codes "-t") ≡ None
+no_table [] good = refl
+no_table (o ∷ os) good = ap (λ t. if t then Some o.1 else option_in os (codes "-t")) good.0.no_table ∙ no_table os good.1
+
+pub no_added : (os : List (List ℕ × Given)) → AreGood os → option_in os (codes "-a") ≡ None
+no_added [] good = refl
+no_added (o ∷ os) good = ap (λ t. if t then Some o.1 else option_in os (codes "-a")) good.0.no_added ∙ no_added os good.1
+
+versions_if : (t : Bool) (o : List ℕ × Given) (os : List (List ℕ × Given)) → (t ≡ true → vids_in (Some o.1) ≢ []) → (is_some (option_in os (codes "-v")) ≡ true → vids_in (option_in os (codes "-v")) ≢ [])
+    → is_some (if t then Some o.1 else option_in os (codes "-v")) ≡ true → vids_in (if t then Some o.1 else option_in os (codes "-v")) ≢ []
+versions_if true o os here later e = here refl
+versions_if false o os here later e = later e
+
+has_versions : (os : List (List ℕ × Given)) → AreGood os → has os (codes "-v") ≡ true → vids_in (option_in os (codes "-v")) ≢ []
+has_versions [] good e = cc
+has_versions (o ∷ os) good e = versions_if (bytes_eq o.0 (codes "-v")) o os good.0.versions (has_versions os good.1) e
+
+some_none : {X : Type 0} (x : X) → Some x ≡ None → ⊥
+some_none x e = cc
+
+first_there : (t u : Bool) (letter : List ℕ) (rest : Option (List ℕ)) → u ≡ false → (if not (t || u) then Some letter else rest) ≡ None → t ≡ true
+first_there true u letter rest f e = refl
+first_there false true letter rest f e = cc
+first_there false false letter rest f e = absurd (some_none letter e)
+
+-- where the first of the options that are needed is `-v`, and nothing is missing, there are versions
+pub versions_there : (os : List (List ℕ × Given)) (rest : Option (List ℕ)) → AreGood os → (if not (has os (codes "-v") || has os []) then Some (codes "-v") else rest) ≡ None → vids_in (option_in os (codes "-v")) ≢ []
+versions_there os rest good none =
+    has_versions os good (first_there (has os (codes "-v")) (has os []) (codes "-v") rest (no_blank os good) none)
+
+message_if : (t : Bool) (o : List ℕ × Given) (rest : Option Given) → (t ≡ true → length (text_in (Some o.1)) ≤ 1024) → length (text_in rest) ≤ 1024 → length (text_in (if t then Some o.1 else rest)) ≤ 1024
+message_if true o rest here later = here refl
+message_if false o rest here later = later
+
+-- where no message is given it is empty
+pub message_short : (os : List (List ℕ × Given)) → AreGood os → length (text_in (option_in os (codes "-m"))) ≤ 1024
+message_short [] good = omega arith
+message_short (o ∷ os) good = message_if (bytes_eq o.0 (codes "-m")) o (option_in os (codes "-m")) good.0.message (message_short os good.1)

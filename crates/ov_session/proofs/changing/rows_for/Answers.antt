@@ -1,0 +1,30 @@
+use Rattle.std.proofs.Common.{◌≡◌, ◌∙◌, sym, ap, refl, subst}
+use Rattle.ov_files.specs.Files.{result_of}
+use Rattle.ov_session.specs.Errors.{reply_of}
+use Rattle.ov_session.proofs.Asking.{asked_off, asked_refused, asked_rows, refused_as}
+use Rattle.ov_session.proofs.changing.rows_for.Goals as goal
+
+pub returns-in-Rows-clause-asked : goal.returns-in-Rows-clause-asked
+returns-in-Rows-clause-asked g c = λ w t s message told at files.
+    let fine = c.in-Ok.ensures.world w t at
+    in asked_rows w s c.as_str.result.now c.args.cvd.now c.args.vids.now message c.args.file.now c.as_str.ensures.text c.in-Ok.d.now.schema
+    (g.T.Stage.staged c.args.stage.now).files c.in-Rows.rows.items files fine.0 fine.1
+    (sym (ap result_of c.in-Rows.is) ∙ c.in_ok-rows-in-Ok.ensures.rows told)
+
+pub returns-in-Refused-clause-asked : goal.returns-in-Refused-clause-asked
+returns-in-Refused-clause-asked g c = λ w t s message told at files.
+    let fine = c.in-Ok.ensures.world w t at
+    in (
+      c.in-Refused.refusal,
+      refl,
+      asked_refused w s c.as_str.result.now c.args.cvd.now c.args.vids.now message c.args.file.now c.as_str.ensures.text c.in-Ok.d.now.schema
+          (g.T.Stage.staged c.args.stage.now).files c.in-Refused.refusal files fine.0 fine.1
+          (sym (ap result_of c.in-Refused.is) ∙ c.in_ok-rows-in-Ok.ensures.rows told),
+    )
+
+pub returns-in_ok-refused-in-Err-clause-asked : goal.returns-in_ok-refused-in-Err-clause-asked
+returns-in_ok-refused-in-Err-clause-asked g c = λ w t s message told at files.
+    let same = c.in_ok-name-in-Err.ensures.ok ∙ sym c.as_str.ensures.text
+    in let off = refused_as c.as_str.result.now _ c.in-Err.off c.in_ok-refused-in-Err.field-0 c.in-Err.ensures.why (c.in-Err.ensures.world w t at)
+    (ap (λ n. reply_of n c.in-Err.off) (sym same) ∙ c.in_ok-refused-in-Err.ensures.reply)
+    in (off.0, off.1, asked_off w s c.as_str.result.now c.args.cvd.now c.args.vids.now message c.args.file.now c.as_str.ensures.text off.0 off.2)

@@ -1,0 +1,17 @@
+use Rattle.std.proofs.Common.{rules, ◌≡◌, ◌∙◌, false, sym, ap}
+use Rattle.std.specs.Prelude.{is_err}
+use Rattle.std.specs.FinMap.{insert}
+use Rattle.ov_course.specs.Serving.{session_of}
+use Rattle.ov_model.specs.Act.{gives, merge_of}
+use Rattle.ov_session.proofs.Lookups.{gives_file, was_put}
+use Rattle.ov_session.proofs.reading.give.Goals as goal
+
+pub returns-clause-given : goal.returns-clause-given
+returns-clause-given g c = λ w user d vids told is name.
+    let well : is_err c.put_file.result ≡ false = sym c.is_err.ensures.value ∙ c.if-is_err.false
+    in let put = was_put c.put_file.result well (c.put_file.ensures.put told)
+    in let grown : (g.T.Stage.staged c.put_file.new.stage).files ≡ insert (g.T.Stage.staged c.args.stage.now).files c.in-Some.file c.args.made.text.items
+    = search (rules, put)
+    in let rows : c.args.made.rows ≡ c.in-Ok.rows = search rules
+    in ap (gives (session_of (g.T.Stage.staged c.args.stage.now).files user) d.cvd (merge_of d.cvd vids)) c.in-Some.is
+    ∙ gives_file d vids c.args.made is user (g.T.Stage.staged c.args.stage.now).files (g.T.Stage.staged c.put_file.new.stage).files c.args.cvd c.in-Some.file c.in-Ok.rows name rows grown

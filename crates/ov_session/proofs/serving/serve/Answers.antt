@@ -1,0 +1,76 @@
+use Rattle.std.proofs.Common.{◌≡◌, ◌∙◌, false, sym, ap, refl, subst, rules}
+use Rattle.std.specs.Prelude.{Err, Result, is_ok}
+use Rattle.ov_cmd.specs.Said.{said}
+use Rattle.ov_session.specs.declared.errors.EndErr.{EndErr}
+use Rattle.ov_session.specs.declared.serving.Served.{Served}
+use Rattle.ov_cmd.specs.Errors.{refusal_of}
+use Rattle.ov_course.proofs.Lines.{serves_broken, serves_comment}
+use Rattle.ov_course.specs.Serving.{Serves, session_of}
+use Rattle.ov_lines.proofs.Asking.{asked}
+use Rattle.ov_model.specs.Forms.{built_forms}
+use Rattle.ov_model.specs.Line.{Asks, Refused, line_of}
+use Rattle.ov_session.proofs.Saying.{comment_none, line_unserved, says_refusal, says_reply}
+use Rattle.ov_session.specs.Commands.{IsNoDamage, is_comment_in, is_refused}
+use Rattle.ov_session.proofs.serving.serve.Goals as goal
+
+pub answer-requires-clause-asked : goal.answer-requires-clause-asked
+answer-requires-clause-asked g c =
+    let asks : line_of built_forms c.args.line.now ≡ Asks c.in-Ok-Some.command = c.in-Ok-Some.ensures.ok ∙ ap said c.in-Ok-Some.field-0-is
+    in asked c.args.line.now c.in-Ok-Some.command asks
+
+pub returns-in_err-reply-in-Ok-Some-clause-undamaged : goal.returns-in_err-reply-in-Ok-Some-clause-undamaged
+returns-in_err-reply-in-Ok-Some-clause-undamaged g c = λ w at.
+    let fact : IsNoDamage c.in_err-reply-in-Ok-Some.field-0.0 = c.in_err-reply-in-Ok-Some.ensures.undamaged w at
+    in search (rules, fact)
+
+pub returns-in_err-reply-in-Ok-Some-clause-serves : goal.returns-in_err-reply-in-Ok-Some-clause-serves
+returns-in_err-reply-in-Ok-Some-clause-serves g c = λ w told at.
+    let s = session_of (g.T.Stage.staged c.args.stage.now).files c.args.user.now
+    in let t = session_of (g.T.Stage.staged c.answer.new.stage).files c.args.user.now
+    in let fact : Serves c.args.steps w s t c.args.line.now false false c.args.store.now.held c.answer.new.store.held (g.H.Host.state c.args.host.now) (g.H.Host.state c.answer.new.host)
+    = serves_broken c.args.steps w s t c.args.line.now c.in-Ok-Some.command false c.args.store.now.held c.answer.new.store.held
+    (g.H.Host.state c.args.host.now) (g.H.Host.state c.answer.new.host) (c.in-Ok-Some.ensures.ok ∙ ap said c.in-Ok-Some.field-0-is)
+    (c.in_err-reply-in-Ok-Some.ensures.acts w c.args.user.now told at)
+    in let is : c.from_residual.result ≡ Err c.in_err-reply-in-Ok-Some.field-0.0 = search rules
+    in subst (λ (r : Result Served EndErr). Serves c.args.steps w s t c.args.line.now (is_ok r) (is_refused r) c.args.store.now.held c.answer.new.store.held
+    (g.H.Host.state c.args.host.now) (g.H.Host.state c.answer.new.host)) (sym is) fact
+
+pub returns-in_err-refusal-in-Err-clause-serves : goal.returns-in_err-refusal-in-Err-clause-serves
+returns-in_err-refusal-in-Err-clause-serves g c = λ w told at.
+    let s = session_of (g.T.Stage.staged c.args.stage.now).files c.args.user.now
+    in let fact : Serves c.args.steps w s s c.args.line.now false false c.args.store.now.held c.args.store.now.held (g.H.Host.state c.args.host.now) (g.H.Host.state c.args.host.now)
+    = line_unserved c.args.steps w s c.args.line.now c.args.store.now.held (g.H.Host.state c.args.host.now) at
+    in let is : c.from_residual-in_err-refusal-in-Err.result ≡ Err c.in_err-refusal-in-Err.field-0.0 = search rules
+    in subst (λ (r : Result Served EndErr). Serves c.args.steps w s s c.args.line.now (is_ok r) (is_refused r) c.args.store.now.held c.args.store.now.held
+    (g.H.Host.state c.args.host.now) (g.H.Host.state c.args.host.now)) (sym is) fact
+
+pub returns-in-Ok-None-clause-comment : goal.returns-in-Ok-None-clause-comment
+returns-in-Ok-None-clause-comment g c = sym (ap is_comment_in (c.in-Ok-None.ensures.ok ∙ ap said c.in-Ok-None.field-0-is))
+
+pub returns-in-Ok-None-clause-serves : goal.returns-in-Ok-None-clause-serves
+returns-in-Ok-None-clause-serves g c = λ w told at.
+    serves_comment c.args.steps w (session_of (g.T.Stage.staged c.args.stage.now).files c.args.user.now) c.args.line.now c.args.store.now.held
+    (g.H.Host.state c.args.host.now) (g.H.Host.state c.args.host.now) (c.in-Ok-None.ensures.ok ∙ ap said c.in-Ok-None.field-0-is) at refl refl
+
+pub returns-in_ok-reply-in-Ok-Some-clause-comment : goal.returns-in_ok-reply-in-Ok-Some-clause-comment
+returns-in_ok-reply-in-Ok-Some-clause-comment g c =
+    comment_none (Asks c.in-Ok-Some.command) (line_of built_forms c.args.line.now) _ c.say.result (sym (c.in-Ok-Some.ensures.ok ∙ ap said c.in-Ok-Some.field-0-is)) refl c.say.ensures.served
+
+pub returns-in_ok-reply-in-Ok-Some-clause-serves : goal.returns-in_ok-reply-in-Ok-Some-clause-serves
+returns-in_ok-reply-in-Ok-Some-clause-serves g c = λ w told at.
+    says_reply c.args.steps w (session_of (g.T.Stage.staged c.args.stage.now).files c.args.user.now) (session_of (g.T.Stage.staged c.answer.new.stage).files c.args.user.now)
+    c.args.line.now c.in-Ok-Some.command c.in_ok-reply-in-Ok-Some.reply c.args.store.now.held c.answer.new.store.held
+    (g.H.Host.state c.args.host.now) (g.H.Host.state c.answer.new.host) (g.H.Host.state c.say.new.host) (c.in-Ok-Some.ensures.ok ∙ ap said c.in-Ok-Some.field-0-is)
+    (c.in_ok-reply-in-Ok-Some.ensures.acts w c.args.user.now told at) c.say.result
+    (record { answer = c.say.ensures.served; why = c.say.ensures.host_alone; silent = c.say.ensures.unsaid; printed = c.say.ensures.said })
+
+pub returns-in_ok-refusal-in-Err-clause-comment : goal.returns-in_ok-refusal-in-Err-clause-comment
+returns-in_ok-refusal-in-Err-clause-comment g c =
+    comment_none (Refused (refusal_of c.in-Err.off)) (line_of built_forms c.args.line.now) _ c.say-in-Err.result (sym (c.in-Err.ensures.err c.in_ok-refusal-in-Err.ensures.some)) refl c.say-in-Err.ensures.served
+
+pub returns-in_ok-refusal-in-Err-clause-serves : goal.returns-in_ok-refusal-in-Err-clause-serves
+returns-in_ok-refusal-in-Err-clause-serves g c = λ w told at.
+    says_refusal c.args.steps w (session_of (g.T.Stage.staged c.args.stage.now).files c.args.user.now) c.args.line.now c.in_ok-refusal-in-Err.field-0
+    c.args.store.now.held (g.H.Host.state c.args.host.now) (g.H.Host.state c.say-in-Err.new.host)
+    (c.in-Err.ensures.err c.in_ok-refusal-in-Err.ensures.some ∙ ap Refused (sym c.in_ok-refusal-in-Err.ensures.refusal)) at c.say-in-Err.result
+    (record { answer = c.say-in-Err.ensures.served; why = c.say-in-Err.ensures.host_alone; silent = c.say-in-Err.ensures.unsaid; printed = c.say-in-Err.ensures.said })

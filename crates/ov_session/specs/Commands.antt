@@ -1,0 +1,132 @@
+-- What serving a command keeps to on every host and stage.
+--     Goes old new      a host: no call changes whether it tells its bytes, and its count of faults doesn't fall
+--     Attended old new      a stage
+--     IsDamaged command held s page      what the command reads is damaged
+--     Acts d s t w result ..      where the store is at a World, a command does what it means, or is stopped in it
+use Rattle.std.specs.Prelude.{◌≡◌, ◌≤◌, ℕ, Bool, true, false, List, [], length, Option, Some, None, Result, Ok, Err}
+use Rattle.std.specs.List.{All}
+use Rattle.ov_host.specs.declared.area.Area.TheVariants.{Pages}
+use Rattle.ov_host.specs.Host.{State}
+use Rattle.ov_host.specs.Stage.{Staged}
+use Rattle.ov_core.specs.Held.{Held}
+use Rattle.ov_course.specs.Serving.{Breaks, Does}
+use Rattle.ov_catalog.specs.Reached.{IfThere}
+use Rattle.ov_checkout.specs.declared.text.Checkout.{Checkout}
+use Rattle.ov_model.specs.Act.{Deed, Session, commit_deed, commit_refusal, commit_rows, does, merge_of, refuses, with_rows}
+use Rattle.ov_model.specs.Csv.{text_of}
+use Rattle.ov_model.specs.Line.{Comment, Line}
+use Rattle.ov_model.specs.Moves.{Init}
+use Rattle.ov_model.specs.Book.{Row}
+use Rattle.ov_model.specs.declared.command.Command.{Command}
+use Rattle.ov_model.specs.declared.command.Command.TheVariants as asks
+use Rattle.ov_model.specs.World.{Dataset, World, set_named}
+use Rattle.ov_model.specs.declared.refusal.Refusal.{Refusal}
+use Rattle.ov_model.specs.declared.reply.Reply.TheVariants as says
+use Rattle.ov_value.specs.Shapes.{Shape}
+use Rattle.ov_value.specs.Spelling.{IsRow}
+use Rattle.ov_store.specs.Beginning.{IsShort}
+use Rattle.ov_session.specs.declared.changing.Asked.{Asked}
+use Rattle.ov_session.specs.declared.changing.Asked.TheVariants as asked
+use Rattle.ov_session.specs.declared.serving.Served.{Served}
+use Rattle.ov_session.specs.declared.serving.Served.TheVariants as served
+use Rattle.ov_model.specs.declared.reply.Reply.{Reply}
+use Rattle.ov_session.specs.declared.errors.EndErr.{EndErr}
+use Rattle.ov_session.specs.declared.errors.EndErr.TheVariants as ending
+use Rattle.ov_store.specs.Committing.{IfSet, IsDamagedAt}
+use Rattle.ov_store.specs.Scanning.{IsDamagedIn, set_in}
+
+pub record Goes (old new : State) : Type 0 where
+  pub told : new.tells ≡ old.tells
+  pub kept : new.keeps ≡ old.keeps
+  pub faults : old.faults ≤ new.faults
+
+pub record Attended (old new : Staged) : Type 0 where
+  pub told : new.tells ≡ old.tells
+  pub faults : old.faults ≤ new.faults
+  pub misses : old.misses ≤ new.misses
+
+-- a list or a partition of the versions that it names, or these versions as the parents of rows
+abbrev pub IsDamaged : Command → Held → State → ℕ → Type 0
+IsDamaged (asks.Checkout cvd vids file table) held s page = IsDamagedIn (set_in held.numbers cvd) vids s page
+IsDamaged (asks.Commit cvd vids file message added) held s page =
+    (rows : List Row) × IfSet (λ set. IsDamagedAt set (record { vids = vids; message = message; rows = rows }) s page) (set_in held.numbers cvd)
+IsDamaged _ held s page = ⊥
+
+abbrev pub IsNoDamage : EndErr → Type 0
+IsNoDamage (ending.Damaged area at) = ⊥
+IsNoDamage _ = Unit {0}
+
+-- `s` is the session before and `t` the one after; the store keeps `before` and `now`
+abbrev pub Acts : Deed → Session → Session → World → Result Reply EndErr → Held → Held → State → State → Type 0
+Acts d s t w (Ok reply) before now old new = Does d s t w reply before now old new
+Acts d s t w (Err why) before now old new = Breaks d s w old new
+
+-- damage of the pages, at a page of which this holds; other ends aren't of the pages
+abbrev pub IsDamageOf : (ℕ → Type 0) → EndErr → Type 0
+IsDamageOf P (ending.Damaged area at) = (area ≡ Pages) × P at
+IsDamageOf P _ = Unit {0}
+
+-- neither the host nor the store is the cause
+abbrev pub IsNoHost : EndErr → Type 0
+IsNoHost ending.Host = ⊥
+IsNoHost (ending.Damaged area at) = ⊥
+IsNoHost _ = Unit {0}
+
+-- what an Init does with the rows in key order
+abbrev pub begun : Session → List ℕ → Shape → List Row → Deed
+begun s cvd schema rows = does s (Init cvd schema rows) (says.Init cvd (length rows))
+
+-- ---- a commit, before its rows are stored
+
+abbrev pub HasRowsOf : Shape → Asked → Type 0
+HasRowsOf schema (asked.Rows rows) = All (IsRow schema) rows.items
+HasRowsOf schema (asked.Said reply) = Unit {0}
+
+abbrev pub HasShortRows : Asked → Type 0
+HasShortRows (asked.Rows rows) = All IsShort rows.items
+HasShortRows (asked.Said reply) = Unit {0}
+
+-- the rows are those of the file, for a version that may be; or the command is refused so
+abbrev pub IsAskedOf : World → Session → List ℕ → List ℕ → List ℕ → List ℕ → Asked → Type 0
+IsAskedOf w s cvd vids message file (asked.Rows rows) = IfThere (λ d. (commit_refusal d vids ≡ None)
+    × (commit_deed w s cvd vids message [] file (Some d) ≡ with_rows w s d.cvd.schema false (commit_rows s d vids message []) (Ok rows.items))) (set_named w cvd)
+IsAskedOf w s cvd vids message file (asked.Said reply) =
+    (refusal : Refusal) × (reply ≡ says.Refused refusal) × (commit_deed w s cvd vids message [] file (set_named w cvd) ≡ refuses s refusal)
+
+-- ---- a checkout
+
+-- the text is that of the merge of these versions
+pub record IsMergeOf (d : Dataset) (vids : List ℕ) (made : Checkout) : Type 0 where
+  pub text : made.text.items ≡ text_of d.cvd.schema (merge_of d.cvd vids)
+  pub rows : made.rows ≡ length (merge_of d.cvd vids)
+
+-- ---- a reply
+
+-- neither the stage nor the store is the cause
+abbrev pub IsUnsaid : EndErr → Type 0
+IsUnsaid ending.Stage = ⊥
+IsUnsaid (ending.Damaged area at) = ⊥
+IsUnsaid _ = Unit {0}
+
+abbrev pub is_comment_of : Served → Bool
+is_comment_of served.Comment = true
+is_comment_of _ = false
+
+abbrev pub is_comment_in : Line → Bool
+is_comment_in Comment = true
+is_comment_in _ = false
+
+abbrev pub is_refusal_of : Served → Bool
+is_refusal_of served.Refused = true
+is_refusal_of _ = false
+
+-- whether a line was served by a reply that is an error
+abbrev pub is_refused : Result Served EndErr → Bool
+is_refused (Ok served) = is_refusal_of served
+is_refused (Err why) = false
+
+-- the reply was printed, and is an error or none
+abbrev pub IsSaid : Bool → Served → Type 0
+IsSaid error served.Comment = ⊥
+IsSaid error served.Done = error ≡ false
+IsSaid error served.Refused = error ≡ true

@@ -1,0 +1,211 @@
+// The commands that change the store.
+ghost use Rattle.std.specs.Prelude.{◌≡◌, ◌≢◌, ◌≤◌, ℕ, List, [], true, false, Some, None, Ok, IsTrue, IsErrOf, IfOk, IfErr, OnOk, length};
+ghost use Rattle.std.specs.List.{All};
+ghost use Rattle.ov_host.specs.Host.{Rose, State};
+ghost use Rattle.ov_value.specs.Naming.{is_name};
+ghost use Rattle.ov_value.specs.Spelling.{IsRow};
+ghost use Rattle.ov_model.specs.Act.{Session, commit_deed, commit_refusal, commit_rows, drop_deed, init_deed, init_refusal, with_rows};
+ghost use Rattle.ov_model.specs.World.{World, Dataset, set_named};
+ghost use Rattle.ov_core.specs.AtWorld.{IsAtWorld};
+ghost use Rattle.ov_course.specs.Serving.{files_of, session_of};
+ghost use Rattle.ov_store.specs.Beginning.{IsShort};
+ghost use Rattle.ov_store.specs.Committing.{IfSet, IsDamagedAt, Set};
+ghost use Rattle.ov_store.specs.Kept.{MayCall};
+ghost use Rattle.ov_store.specs.Scanning.{set_in};
+ghost use Rattle.ov_session.specs.Commands.{Acts, Attended, Goes, HasRowsOf, HasShortRows, IsAskedOf, IsDamageOf, IsDamaged, IsNoDamage, IsNoHost, begun};
+ghost use Rattle.ov_model.specs.declared.command.Command.TheVariants as asks;
+
+use crate::errors::{EndErr, refused};
+use ov_files::{FileRows, rows_of_file};
+use ov_host::{Host, Stage};
+use ov_model::Reply;
+use ov_store::Store;
+use ov_value::{Row, Schema, Txt};
+use std::alloc::Global;
+
+// Makes a dataset of these rows, whose name is free.
+fn begin<H: Host>(
+    store: &mut Store,
+    host: &mut H,
+    cvd: Txt,
+    schema: Schema,
+    rows: Vec<Row>,
+) -> Result<Reply, EndErr>
+    requires call { MayCall store.old (H.state host.old) }
+    requires name { IsTrue (is_name cvd) }
+    requires fit { All (IsRow schema) rows.items }
+    requires short { All IsShort rows.items }
+    ensures goes { Goes (H.state host.old) (H.state host.new) }
+    ensures cause { IsErrOf result EndErr.Host → Rose (H.state host.old).faults (H.state host.new).faults }
+    ensures host_alone { IsErrOf result EndErr.Stage → ⊥ }
+    ensures undamaged { IfErr result IsNoDamage }
+    ensures usable { OnOk result (MayCall store.new (H.state host.new)) }
+    ensures acts { (w : World) (s : Session) → IsAtWorld w store.old.held (H.state host.old) → init_refusal w cvd ≡ None
+        → Acts (with_rows w s schema false (begun s cvd schema) (Ok rows.items)) s s w result
+        store.old.held store.new.held (H.state host.old) (H.state host.new) }
+{
+    match store.init(host, &cvd, schema, rows) {
+        Ok(made) => Ok(Reply::Init {
+            cvd,
+            rows: made.rows,
+        }),
+        Err(off) => refused(off, cvd),
+    }
+}
+
+/// Makes a dataset with version 1, of a file's rows.
+pub fn init<H: Host, T: Stage>(
+    alloc: Global,
+    store: &mut Store,
+    host: &mut H,
+    stage: &mut T,
+    cvd: Txt,
+    schema: Schema,
+    file: Txt,
+) -> Result<Reply, EndErr>
+    requires call { MayCall store.old (H.state host.old) }
+    requires name { IsTrue (is_name cvd) }
+    ensures goes { Goes (H.state host.old) (H.state host.new) }
+    ensures attended { Attended (T.staged stage.old) (T.staged stage.new) }
+    ensures cause { IsErrOf result EndErr.Host → Rose (H.state host.old).faults (H.state host.new).faults }
+    ensures stage { IsErrOf result EndErr.Stage → Rose (T.staged stage.old).faults (T.staged stage.new).faults }
+    ensures undamaged { IfErr result IsNoDamage }
+    ensures usable { OnOk result (MayCall store.new (H.state host.new)) }
+    ensures acts { (w : World) (user : List ℕ) → (T.staged stage.old).tells ≡ true → IsAtWorld w store.old.held (H.state host.old)
+        → Acts (init_deed w (session_of (T.staged stage.old).files user) cvd schema file) (session_of (T.staged stage.old).files user)
+        (session_of (T.staged stage.new).files user) w result store.old.held store.new.held (H.state host.old) (H.state host.new) }
+{
+    match store.may_begin(cvd.as_str()) {
+        Ok(()) => match rows_of_file(alloc, stage, &file, &schema)? {
+            FileRows::Rows(rows) => begin(store, host, cvd, schema, rows),
+            FileRows::Refused(refusal) => Ok(Reply::Refused(refusal)),
+        },
+        Err(off) => refused(off, cvd),
+    }
+}
+
+// The next version of a dataset, of these rows.
+fn next_version<H: Host>(
+    store: &mut Store,
+    host: &mut H,
+    cvd: Txt,
+    vids: &[u64],
+    rows: Vec<Row>,
+    message: &Txt,
+) -> Result<Reply, EndErr>
+    requires call { MayCall store.old (H.state host.old) }
+    requires fit { (set : Set) → set_in store.old.held.numbers cvd ≡ Some set → All (IsRow set.schema) rows.items }
+    requires short { All IsShort rows.items }
+    requires some { vids.now ≢ [] }
+    requires message { length message.now ≤ 1024 }
+    ensures goes { Goes (H.state host.old) (H.state host.new) }
+    ensures cause { IsErrOf result EndErr.Host → Rose (H.state host.old).faults (H.state host.new).faults }
+    ensures host_alone { IsErrOf result EndErr.Stage → ⊥ }
+    ensures damaged { IfErr result (IsDamageOf (λ page. IfSet (λ set. IsDamagedAt set
+        (record { vids = vids.now; message = message.now; rows = rows.items }) (H.state host.new) page) (set_in store.old.held.numbers cvd))) }
+    ensures undamaged { (w : World) → IsAtWorld w store.old.held (H.state host.old) → IfErr result IsNoDamage }
+    ensures usable { OnOk result (MayCall store.new (H.state host.new)) }
+    ensures acts { (w : World) (s : Session) (d : Dataset) → IsAtWorld w store.old.held (H.state host.old) → set_named w cvd ≡ Some d
+        → commit_refusal d vids.now ≡ None
+        → Acts (with_rows w s d.cvd.schema false (commit_rows s d vids.now message.now []) (Ok rows.items)) s s w result
+        store.old.held store.new.held (H.state host.old) (H.state host.new) }
+{
+    match store.commit(host, cvd.as_str(), vids, rows, message) {
+        Ok(made) => Ok(Reply::Commit {
+            cvd,
+            vid: made.vid,
+            rows: made.rows,
+            fresh: made.fresh,
+        }),
+        Err(off) => refused(off, cvd),
+    }
+}
+
+// What came before a commit's rows were stored.
+#[derive(Drop)]
+enum Asked {
+    // The rows of its file.
+    Rows(Vec<Row>),
+    // Its reply: it is refused.
+    Said(Reply),
+}
+
+// The rows of a file for a version with these parents, where the dataset may have one.
+fn rows_for<T: Stage>(
+    alloc: Global,
+    store: &Store,
+    stage: &mut T,
+    cvd: &Txt,
+    vids: &[u64],
+    file: &Txt,
+) -> Result<Asked, EndErr>
+    ensures attended { Attended (T.staged stage.old) (T.staged stage.new) }
+    ensures files { (T.staged stage.new).files ≡ (T.staged stage.old).files }
+    ensures stage { IsErrOf result EndErr.Stage → Rose (T.staged stage.old).faults (T.staged stage.new).faults }
+    ensures stage_alone { IfErr result IsNoHost }
+    ensures fit { (set : Set) → set_in store.now.held.numbers cvd.now ≡ Some set → IfOk result (HasRowsOf set.schema) }
+    ensures short { IfOk result HasShortRows }
+    ensures asked { (w : World) (t : State) (s : Session) (message : List ℕ) → (T.staged stage.old).tells ≡ true → IsAtWorld w store.now.held t
+        → s.files ≡ files_of (T.staged stage.old).files
+        → IfOk result (IsAskedOf w s cvd.now vids.now message file.now) }
+{
+    match store.may_commit(cvd.as_str(), vids) {
+        Ok(d) => match rows_of_file(alloc, stage, file, &d.schema)? {
+            FileRows::Rows(rows) => Ok(Asked::Rows(rows)),
+            FileRows::Refused(refusal) => Ok(Asked::Said(Reply::Refused(refusal))),
+        },
+        Err(off) => {
+            let name = cvd.copy(alloc)?;
+            Ok(Asked::Said(refused(off, name)?))
+        }
+    }
+}
+
+/// Commits a file's rows as the next version of a dataset, with these parents.
+pub fn commit<H: Host, T: Stage>(
+    alloc: Global,
+    store: &mut Store,
+    host: &mut H,
+    stage: &mut T,
+    cvd: Txt,
+    vids: &[u64],
+    file: &Txt,
+    message: &Txt,
+) -> Result<Reply, EndErr>
+    requires call { MayCall store.old (H.state host.old) }
+    requires some { vids.now ≢ [] }
+    requires message { length message.now ≤ 1024 }
+    ensures goes { Goes (H.state host.old) (H.state host.new) }
+    ensures attended { Attended (T.staged stage.old) (T.staged stage.new) }
+    ensures cause { IsErrOf result EndErr.Host → Rose (H.state host.old).faults (H.state host.new).faults }
+    ensures stage { IsErrOf result EndErr.Stage → Rose (T.staged stage.old).faults (T.staged stage.new).faults }
+    ensures damaged { IfErr result (IsDamageOf (IsDamaged (asks.Commit cvd vids.now file.now message.now None) store.old.held (H.state host.new))) }
+    ensures undamaged { (w : World) → IsAtWorld w store.old.held (H.state host.old) → IfErr result IsNoDamage }
+    ensures usable { OnOk result (MayCall store.new (H.state host.new)) }
+    ensures acts { (w : World) (user : List ℕ) → (T.staged stage.old).tells ≡ true → IsAtWorld w store.old.held (H.state host.old)
+        → Acts (commit_deed w (session_of (T.staged stage.old).files user) cvd vids.now message.now [] file.now (set_named w cvd))
+        (session_of (T.staged stage.old).files user) (session_of (T.staged stage.new).files user) w result
+        store.old.held store.new.held (H.state host.old) (H.state host.new) }
+{
+    match rows_for(alloc, store, stage, &cvd, vids, file)? {
+        Asked::Rows(rows) => next_version(store, host, cvd, vids, rows, message),
+        Asked::Said(reply) => Ok(reply),
+    }
+}
+
+/// Drops a dataset.
+pub fn drop_cvd<H: Host>(store: &mut Store, host: &mut H, cvd: Txt) -> Result<Reply, EndErr>
+    requires call { MayCall store.old (H.state host.old) }
+    ensures goes { Goes (H.state host.old) (H.state host.new) }
+    ensures cause { IsErrOf result EndErr.Host → Rose (H.state host.old).faults (H.state host.new).faults }
+    ensures host_alone { IsErrOf result EndErr.Stage → ⊥ }
+    ensures undamaged { IfErr result IsNoDamage }
+    ensures usable { OnOk result (MayCall store.new (H.state host.new)) }
+    ensures acts { (w : World) (s : Session) → IsAtWorld w store.old.held (H.state host.old)
+        → Acts (drop_deed s cvd (set_named w cvd)) s s w result store.old.held store.new.held (H.state host.old) (H.state host.new) }
+{
+    match store.drop_cvd(host, cvd.as_str()) {
+        Ok(()) => Ok(Reply::Dropped { cvd }),
+        Err(off) => refused(off, cvd),
+    }
+}

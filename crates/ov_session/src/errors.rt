@@ -1,0 +1,77 @@
+// Why a line ends the run, and what an error of the store comes to.
+ghost use Rattle.std.specs.Prelude.{◌≡◌, Some, IfOk, IfErr};
+ghost use Rattle.ov_session.specs.declared.errors.EndErr.TheVariants as ending;
+ghost use Rattle.ov_session.specs.Errors.{by_file, end_of, reply_of};
+
+use ov_files::FileErr;
+use ov_host::Area;
+use ov_model::{Refusal, Reply};
+use ov_store::StoreErr;
+use ov_value::Txt;
+use std::alloc::AllocError;
+
+/// Why a line ends the run.
+#[derive(Clone, Copy, Debug, PartialEq, Eq)]
+pub enum EndErr {
+    /// The host failed.
+    Host,
+    /// The stage failed.
+    Stage,
+    /// There was no memory.
+    Memory,
+    /// What was read of the store is off its grammar, or doesn't bear out its numbers. The place is a page, or a byte of the
+    /// journal.
+    Damaged { area: Area, at: u64 },
+}
+
+impl From<AllocError> for EndErr {
+    ghost from_gives = { λ _ e. e ≡ ending.Memory };
+
+    fn from(_error: AllocError) -> EndErr {
+        EndErr::Memory
+    }
+}
+
+impl From<FileErr> for EndErr {
+    ghost from_gives = { λ off e. e ≡ by_file off };
+
+    fn from(error: FileErr) -> EndErr {
+        match error {
+            FileErr::Stage => EndErr::Stage,
+            FileErr::Memory => EndErr::Memory,
+        }
+    }
+}
+
+/// The reply to a command that the store refused, or why the run ends there. A dataset that is named is named by `name`.
+pub fn refused(off: StoreErr, name: Txt) -> Result<Reply, EndErr>
+    ensures reply { IfOk result (λ reply. reply_of name off ≡ Some reply) }
+    ensures end { IfErr result (λ why. end_of off ≡ Some why) }
+{
+    let refusal = match off {
+        StoreErr::Host => return Err(EndErr::Host),
+        StoreErr::Memory => return Err(EndErr::Memory),
+        StoreErr::Damaged { area, at } => return Err(EndErr::Damaged { area, at }),
+        StoreErr::Full { pages } => Refusal::NoRun {
+            pages: u64::from(pages),
+            steps: None,
+        },
+        StoreErr::JournalFull => Refusal::JournalFull { steps: None },
+        StoreErr::NoCvd => Refusal::NoCvd { cvd: name },
+        StoreErr::CvdExists => Refusal::CvdExists { cvd: name },
+        StoreErr::NoVersion { vid } => Refusal::NoVersion { vid },
+        StoreErr::RepeatedVersion { vid } => Refusal::RepeatedVersion { vid },
+        StoreErr::DuplicateKey { row } => Refusal::DuplicateKey {
+            row: u64::from(row),
+        },
+        StoreErr::TooManyVersions => Refusal::TooManyVersions { cvd: name },
+        StoreErr::TooManyRecords => Refusal::TooManyRecords { cvd: name },
+        StoreErr::TooManyRows => Refusal::TooManyRows,
+        StoreErr::TooManyCvds => Refusal::TooManyCvds,
+        StoreErr::NoNumbers => Refusal::NoNumbers { cvd: name },
+        StoreErr::FormatOne { row } => Refusal::FormatOne {
+            row: u64::from(row),
+        },
+    };
+    Ok(Reply::Refused(refusal))
+}

@@ -1,0 +1,125 @@
+// The commands that read.
+ghost use Rattle.std.specs.Prelude.{◌≡◌, ℕ, List, true, None, Some, IsErrOf, IfOk, IfErr, MatchResult, OnOk, map};
+ghost use Rattle.ov_host.specs.Host.{Rose, State};
+ghost use Rattle.ov_model.specs.Act.{Session, checkout_deed, gives, log_deed, ls_line, merge_of, tells};
+ghost use Rattle.ov_model.specs.World.{World, Dataset, set_named};
+ghost use Rattle.ov_model.specs.declared.command.Command.TheVariants as asks;
+ghost use Rattle.ov_model.specs.declared.reply.Reply.TheVariants as says;
+ghost use Rattle.ov_core.specs.AtWorld.{IsAtWorld};
+ghost use Rattle.ov_course.specs.Serving.{session_of};
+ghost use Rattle.ov_fetch.specs.Extents.{Looked};
+ghost use Rattle.ov_store.specs.Scanning.{IsUndamaged, IsUnscanned, scan_off, set_in};
+ghost use Rattle.ov_session.specs.Commands.{Acts, Attended, IsDamageOf, IsDamaged, IsMergeOf, IsNoDamage, IsNoHost};
+
+use crate::errors::{EndErr, refused};
+use ov_checkout::{Checkout, checkout_of};
+use ov_files::put_file;
+use ov_host::{Host, Stage};
+use ov_model::{Refusal, Reply, Seq};
+use ov_shown::{cvd_lines, log_lines};
+use ov_store::{Store, StoreErr};
+use ov_value::Txt;
+use std::alloc::{AllocError, Global};
+
+// The merge of these versions of a dataset, as a file's text.
+fn merged<H: Host>(
+    alloc: Global,
+    store: &Store,
+    host: &mut H,
+    cvd: &str,
+    vids: &[u64],
+) -> Result<Checkout, StoreErr>
+    requires usable { store.now.usable ≡ true }
+    ensures looked { Looked (H.state host.old) (H.state host.new) }
+    ensures why { IfErr result (IsUnscanned (scan_off store.now.held.numbers cvd.now vids.now) (set_in store.now.held.numbers cvd.now) vids.now (H.state host.old) (H.state host.new)) }
+    ensures allowed { OnOk result (scan_off store.now.held.numbers cvd.now vids.now ≡ None) }
+    ensures world { (w : World) (d : Dataset) → IsAtWorld w store.now.held (H.state host.old) → set_named w cvd.now ≡ Some d
+        → MatchResult result (IsMergeOf d vids.now) IsUndamaged }
+{
+    let scan = store.scan(host, cvd, vids)?;
+    let Some(d) = store.catalog().cvd(cvd) else {
+        return Err(StoreErr::NoCvd);
+    };
+    Ok(checkout_of(alloc, &d.schema, &scan)?)
+}
+
+// Prints a checkout, or puts it into a file.
+fn give<T: Stage>(
+    stage: &mut T,
+    cvd: Txt,
+    made: Checkout,
+    file: Option<Txt>,
+) -> Result<Reply, EndErr>
+    ensures attended { Attended (T.staged stage.old) (T.staged stage.new) }
+    ensures stage { IsErrOf result EndErr.Stage → Rose (T.staged stage.old).faults (T.staged stage.new).faults }
+    ensures stage_alone { IfErr result IsNoHost }
+    ensures given { (w : World) (user : List ℕ) (d : Dataset) (vids : List ℕ) → (T.staged stage.old).tells ≡ true → IsMergeOf d vids made → d.cvd.name ≡ cvd
+        → IfOk result (λ reply. gives (session_of (T.staged stage.old).files user) d.cvd (merge_of d.cvd vids) file
+        ≡ tells (session_of (T.staged stage.new).files user) reply) }
+{
+    let Checkout { text, rows } = made;
+    let Some(file) = file else {
+        return Ok(Reply::Csv {
+            text: Seq::from_vec(text),
+        });
+    };
+    // The text of as many rows is longer than memory is.
+    let Ok(rows) = u32::try_from(rows) else {
+        return Err(EndErr::Memory);
+    };
+    if put_file(stage, &file, text.as_slice()).is_err() {
+        return Err(EndErr::Stage);
+    }
+    Ok(Reply::ToFile { cvd, rows, file })
+}
+
+/// Prints the merge of these versions of a dataset, or puts it into a file.
+pub fn checkout<H: Host, T: Stage>(
+    alloc: Global,
+    store: &Store,
+    host: &mut H,
+    stage: &mut T,
+    cvd: Txt,
+    vids: &[u64],
+    file: Option<Txt>,
+) -> Result<Reply, EndErr>
+    requires usable { store.now.usable ≡ true }
+    ensures looked { Looked (H.state host.old) (H.state host.new) }
+    ensures attended { Attended (T.staged stage.old) (T.staged stage.new) }
+    ensures cause { IsErrOf result EndErr.Host → Rose (H.state host.old).faults (H.state host.new).faults }
+    ensures stage { IsErrOf result EndErr.Stage → Rose (T.staged stage.old).faults (T.staged stage.new).faults }
+    ensures damaged { IfErr result (IsDamageOf (IsDamaged (asks.Checkout cvd vids.now file None) store.now.held (H.state host.new))) }
+    ensures undamaged { (w : World) → IsAtWorld w store.now.held (H.state host.old) → IfErr result IsNoDamage }
+    ensures acts { (w : World) (user : List ℕ) → (T.staged stage.old).tells ≡ true → IsAtWorld w store.now.held (H.state host.old)
+        → Acts (checkout_deed (session_of (T.staged stage.old).files user) vids.now file cvd (set_named w cvd))
+        (session_of (T.staged stage.old).files user) (session_of (T.staged stage.new).files user) w result
+        store.now.held store.now.held (H.state host.old) (H.state host.new) }
+{
+    match merged(alloc, store, host, cvd.as_str(), vids) {
+        Ok(made) => give(stage, cvd, made, file),
+        Err(off) => refused(off, cvd),
+    }
+}
+
+/// The versions of a dataset.
+pub fn log(alloc: Global, store: &Store, cvd: Txt) -> Result<Reply, AllocError>
+    ensures told { (w : World) (s : Session) (t : State) → IsAtWorld w store.now.held t
+        → IfOk result (λ reply. log_deed s cvd (set_named w cvd) ≡ tells s reply) }
+{
+    match store.catalog().cvd(cvd.as_str()) {
+        Some(d) => Ok(Reply::Log {
+            versions: log_lines(alloc, d)?,
+        }),
+        None => Ok(Reply::Refused(Refusal::NoCvd { cvd })),
+    }
+}
+
+/// The datasets.
+pub fn ls(alloc: Global, store: &Store) -> Result<Reply, AllocError>
+    ensures told { (w : World) (s : Session) (t : State) → IsAtWorld w store.now.held t
+        → IfOk result (λ reply. reply ≡ says.Ls (map ls_line w.sets)) }
+{
+    Ok(Reply::Ls {
+        cvds: cvd_lines(alloc, store.catalog())?,
+    })
+}

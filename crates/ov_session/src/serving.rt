@@ -1,0 +1,170 @@
+// A line and its reply.
+ghost use Rattle.std.specs.Prelude.{◌≡◌, ◌≢◌, ◌≤◌, ℕ, List, true, Some, None, Ok, IsErrOf, IsTrue, IfOk, IfErr, OnOk, is_ok};
+ghost use Rattle.ov_host.specs.Host.{Calls, Rose, State};
+ghost use Rattle.ov_host.specs.Tape.{Prints};
+ghost use Rattle.ov_lines.specs.Asked.{IsAsked};
+ghost use Rattle.ov_model.specs.Act.{deed};
+ghost use Rattle.ov_model.specs.Forms.{built_forms};
+ghost use Rattle.ov_model.specs.Line.{Asks, line_of};
+ghost use Rattle.ov_model.specs.declared.command.Command.{Command as CommandValue};
+ghost use Rattle.ov_model.specs.Replies.{reply_text};
+ghost use Rattle.ov_model.specs.World.{World};
+ghost use Rattle.ov_value.specs.Naming.{is_name};
+ghost use Rattle.ov_core.specs.AtWorld.{IsAtWorld};
+ghost use Rattle.ov_course.specs.Serving.{Serves, is_error as is_error_of, session_of};
+ghost use Rattle.ov_store.specs.Kept.{Kept, MayCall};
+ghost use Rattle.ov_session.specs.Commands.{Acts, Attended, Goes, IsDamageOf, IsDamaged, IsNoDamage, IsSaid, IsUnsaid, is_comment_in, is_comment_of, is_refused};
+
+use crate::changing::{commit, drop_cvd, init};
+use crate::errors::EndErr;
+use crate::lines::refusal;
+use crate::reading::{checkout, log, ls};
+use ov_cmd::read_built_line;
+use ov_host::{Host, Stage};
+use ov_model::{Command, Reply};
+use ov_reply::{is_error, reply as reply_text};
+use ov_store::Store;
+use ov_value::Txt;
+use std::alloc::Global;
+
+/// What came of a line.
+#[derive(Clone, Copy, Debug, PartialEq, Eq)]
+pub enum Served {
+    /// It is a comment, and has no reply.
+    Comment,
+    /// Its reply is no error.
+    Done,
+    /// Its reply is an error.
+    Refused,
+}
+
+// Does what a command asks. Its reply isn't printed yet.
+fn answer<H: Host, T: Stage>(
+    alloc: Global,
+    store: &mut Store,
+    host: &mut H,
+    stage: &mut T,
+    command: Command,
+) -> Result<Reply, EndErr>
+    requires call { MayCall store.old (H.state host.old) }
+    requires asked { IsAsked command }
+    ensures goes { Goes (H.state host.old) (H.state host.new) }
+    ensures attended { Attended (T.staged stage.old) (T.staged stage.new) }
+    ensures cause { IsErrOf result EndErr.Host → Rose (H.state host.old).faults (H.state host.new).faults }
+    ensures stage { IsErrOf result EndErr.Stage → Rose (T.staged stage.old).faults (T.staged stage.new).faults }
+    ensures damaged { IfErr result (IsDamageOf (IsDamaged command store.old.held (H.state host.new))) }
+    ensures usable { OnOk result (MayCall store.new (H.state host.new)) }
+    ensures undamaged { (w : World) → IsAtWorld w store.old.held (H.state host.old) → IfErr result IsNoDamage }
+    ensures acts { (w : World) (user : List ℕ) → (T.staged stage.old).tells ≡ true → IsAtWorld w store.old.held (H.state host.old)
+        → Acts (deed w (session_of (T.staged stage.old).files user) command) (session_of (T.staged stage.old).files user)
+        (session_of (T.staged stage.new).files user) w result store.old.held store.new.held (H.state host.old) (H.state host.new) }
+{
+    match command {
+        Command::Init { cvd, schema, file } => init(alloc, store, host, stage, cvd, schema, file),
+        Command::Commit {
+            cvd,
+            vids,
+            file,
+            message,
+            added: _,
+        } => commit(
+            alloc,
+            store,
+            host,
+            stage,
+            cvd,
+            vids.as_slice(),
+            &file,
+            &message,
+        ),
+        Command::Checkout {
+            cvd,
+            vids,
+            file,
+            table: _,
+        } => checkout(alloc, store, host, stage, cvd, vids.as_slice(), file),
+        Command::Log { cvd } => Ok(log(alloc, store, cvd)?),
+        Command::Ls => Ok(ls(alloc, store)?),
+        Command::DropCvd { cvd } => drop_cvd(store, host, cvd),
+        _ => unreachable!(),
+    }
+}
+
+// Prints a reply, in one print.
+fn print_reply<H: Host>(alloc: Global, host: &mut H, reply: &Reply) -> Result<Served, EndErr>
+    ensures goes { Goes (H.state host.old) (H.state host.new) }
+    ensures cause { IsErrOf result EndErr.Host → Rose (H.state host.old).faults (H.state host.new).faults }
+    ensures host_alone { IfErr result IsUnsaid }
+    ensures served { IfOk result (IsSaid (is_error_of reply.now)) }
+    ensures unsaid { IsErrOf result EndErr.Memory → H.state host.new ≡ H.state host.old }
+    ensures said { (IsErrOf result EndErr.Memory → ⊥) → Calls (Prints (reply_text reply.now)) (is_ok result) (H.state host.old) (H.state host.new) }
+    ensures usable { (store : Kept) → MayCall store (H.state host.old) → OnOk result (MayCall store (H.state host.new)) }
+{
+    let text = reply_text(alloc, reply)?;
+    if host.print(text.as_slice()).is_err() {
+        return Err(EndErr::Host);
+    }
+    if is_error(reply) {
+        return Ok(Served::Refused);
+    }
+    Ok(Served::Done)
+}
+
+// Prints a reply, and gives its memory back.
+fn say<H: Host>(alloc: Global, host: &mut H, reply: Reply) -> Result<Served, EndErr>
+    ensures goes { Goes (H.state host.old) (H.state host.new) }
+    ensures cause { IsErrOf result EndErr.Host → Rose (H.state host.old).faults (H.state host.new).faults }
+    ensures host_alone { IfErr result IsUnsaid }
+    ensures served { IfOk result (IsSaid (is_error_of reply)) }
+    ensures unsaid { IsErrOf result EndErr.Memory → H.state host.new ≡ H.state host.old }
+    ensures said { (IsErrOf result EndErr.Memory → ⊥) → Calls (Prints (reply_text reply)) (is_ok result) (H.state host.old) (H.state host.new) }
+    ensures usable { (store : Kept) → MayCall store (H.state host.old) → OnOk result (MayCall store (H.state host.new)) }
+{
+    print_reply(alloc, host, &reply)
+}
+
+/// Serves a line: does what it asks, and prints its one reply; a comment has none.
+///
+/// Migration steps are taken after a command where a plan runs. No plan can run yet, so there are none to take, whatever their
+/// number. The user is the one that the line acts as.
+pub fn serve<H: Host, T: Stage>(
+    alloc: Global,
+    store: &mut Store,
+    host: &mut H,
+    stage: &mut T,
+    line: &[u8],
+    steps: u32,
+    user: &mut Txt,
+) -> Result<Served, EndErr>
+    requires call { MayCall store.old (H.state host.old) }
+    requires steps { steps ≤ 1000 }
+    requires user { IsTrue (is_name user.old) }
+    ensures goes { Goes (H.state host.old) (H.state host.new) }
+    ensures attended { Attended (T.staged stage.old) (T.staged stage.new) }
+    ensures cause { IsErrOf result EndErr.Host → Rose (H.state host.old).faults (H.state host.new).faults }
+    ensures stage { IsErrOf result EndErr.Stage → Rose (T.staged stage.old).faults (T.staged stage.new).faults }
+    ensures damaged { IfErr result (IsDamageOf (λ page. (command : CommandValue) × (line_of built_forms line.now ≡ Asks command)
+        × IsDamaged command store.old.held (H.state host.new) page)) }
+    ensures undamaged { (w : World) → IsAtWorld w store.old.held (H.state host.old) → IfErr result IsNoDamage }
+    ensures usable { OnOk result (MayCall store.new (H.state host.new)) }
+    ensures user { user.new ≡ user.old }
+    ensures comment { IfOk result (λ served. is_comment_of served ≡ is_comment_in (line_of built_forms line.now)) }
+    ensures serves { (w : World) → (T.staged stage.old).tells ≡ true → IsAtWorld w store.old.held (H.state host.old)
+        → Serves steps w (session_of (T.staged stage.old).files user.old) (session_of (T.staged stage.new).files user.new) line.now
+        (is_ok result) (is_refused result) store.old.held store.new.held (H.state host.old) (H.state host.new) }
+{
+    // No plan can run yet, so no step is taken, and the user stays.
+    let _ = steps;
+    let _ = user.as_str();
+    match read_built_line(alloc, line) {
+        Ok(None) => Ok(Served::Comment),
+        Ok(Some(command)) => {
+            let reply = answer(alloc, store, host, stage, command)?;
+            say(alloc, host, reply)
+        }
+        Err(off) => {
+            let reply = Reply::Refused(refusal(off)?);
+            say(alloc, host, reply)
+        }
+    }
+}

@@ -1,0 +1,53 @@
+-- The lines of a script, served one after another.
+--     AllServed steps w s t lines taken still result ..      where the store is at a World
+--     IsRunDamage s why      what a command read is damaged
+--     status_by ran, status_by_opening off      the status
+use Rattle.std.specs.Prelude.{◌≡◌, ℕ, Bool, true, false, List, Result, Ok, Err}
+use Rattle.ov_host.specs.declared.area.Area.TheVariants.{Pages}
+use Rattle.ov_host.specs.Host.{State}
+use Rattle.ov_core.specs.Held.{Held}
+use Rattle.ov_course.specs.Serving.{Ends, Halts, Runs}
+use Rattle.ov_model.specs.Act.{Session}
+use Rattle.ov_model.specs.World.{World}
+use Rattle.ov_model.specs.declared.command.Command.{Command}
+use Rattle.ov_open.specs.declared.errors.OpenErr.{OpenErr}
+use Rattle.ov_open.specs.declared.errors.OpenErr.TheVariants as opening
+use Rattle.ov_session.specs.Commands.{IsDamaged}
+use Rattle.ov_top.specs.declared.errors.RunErr.{RunErr}
+use Rattle.ov_top.specs.declared.errors.RunErr.TheVariants as running
+use Rattle.ov_top.specs.declared.status.Status.{Status}
+use Rattle.ov_top.specs.declared.status.Status.TheVariants.{Done, Refused, HostFault, InputFault, Memory, NotAStore, Damaged, Format, ScriptTooLong}
+
+-- it ended between two lines, when these were served
+abbrev pub IsHalted : ℕ → World → Session → Session → List (List ℕ) → List (List ℕ) → Held → State → State → Type 0
+IsHalted steps w s t gone lines before old new = (now : Held) × (failed : Bool) × Halts steps w s t gone lines failed before now old new
+
+-- Of all the lines, those whose line feed was taken are `taken`. Where it was reading that failed, and the stage didn't fail
+-- (`still`), just these were served.
+abbrev pub AllServed : ℕ → World → Session → Session → List (List ℕ) → List (List ℕ) → Type 0 → Result Bool RunErr → Held → State → State → Type 0
+AllServed steps w s t lines taken still (Ok failed) before old new = (now : Held) × Ends steps w s t lines failed before now old new
+AllServed steps w s t lines taken still (Err (running.Damaged area at)) before old new = ⊥
+AllServed steps w s t lines taken still (Err running.Input) before old new =
+    Runs steps w s lines before old new × (still → IsHalted steps w s t taken lines before old new)
+AllServed steps w s t lines taken still (Err running.TooLong) before old new = IsHalted steps w s t taken lines before old new
+AllServed steps w s t lines taken still (Err _) before old new = Runs steps w s lines before old new
+
+abbrev pub IsRunDamage : State → RunErr → Type 0
+IsRunDamage s (running.Damaged area at) = (area ≡ Pages) × (command : Command) × (held : Held) × IsDamaged command held s at
+IsRunDamage s _ = Unit {0}
+
+abbrev pub status_by : Result Bool RunErr → Status
+status_by (Ok false) = Done
+status_by (Ok true) = Refused
+status_by (Err running.Host) = HostFault
+status_by (Err running.Input) = InputFault
+status_by (Err running.Memory) = Memory
+status_by (Err (running.Damaged area at)) = Damaged area at
+status_by (Err running.TooLong) = ScriptTooLong
+
+abbrev pub status_by_opening : OpenErr → Status
+status_by_opening opening.Host = HostFault
+status_by_opening opening.Memory = Memory
+status_by_opening opening.NotAStore = NotAStore
+status_by_opening (opening.Format found) = Format found
+status_by_opening (opening.Damaged area at) = Damaged area at

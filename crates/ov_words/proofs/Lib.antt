@@ -1,0 +1,4 @@
+pub mod Forms
+pub mod OnForms
+pub mod Deciding
+pub mod Numbers
