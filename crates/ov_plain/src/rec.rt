@@ -99,6 +99,13 @@ impl Version {
         self.parents.as_slice()
     }
 
+    /// Its message.
+    pub fn message(&self) -> &Txt
+        ensures { result.now ≡ self.now.message }
+    {
+        &self.message
+    }
+
     /// Its rows.
     pub fn rows(&self) -> &[Row]
         ensures { result.now ≡ self.now.rows }

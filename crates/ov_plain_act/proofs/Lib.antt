@@ -1,0 +1,6 @@
+pub mod Accepting
+pub mod Changing
+pub mod Counting
+pub mod Logging
+pub mod Onward
+pub mod Resting

@@ -1,0 +1,63 @@
+-- Sessions, moves and deeds as the programs keep them, and what of the definitions each one is.
+use Rattle.std.specs.Prelude.{◌+◌, Bool, true, false, List, [], ◌∷◌, ◌++◌, length, map, Some, None, Result, Ok, Err}
+use Rattle.ov_model.specs.Act.{Files, put, refuses, Session as KnownSession, Deed as KnownDeed}
+use Rattle.ov_model.specs.Book.{Row, Version}
+use Rattle.ov_model.specs.Moves.{Move as KnownMove, Init, Commit, Drop}
+use Rattle.ov_model.specs.Records.{Rec, records_of, fresh_in}
+use Rattle.ov_model.specs.declared.command.Command.{Command}
+use Rattle.ov_model.specs.declared.command.Command.TheVariants as asks
+use Rattle.ov_model.specs.declared.refusal.Refusal.{Refusal}
+use Rattle.ov_model.specs.declared.reply.LogLine.{LogLine}
+use Rattle.ov_plain_act.specs.declared.deed.Deed.{Deed}
+use Rattle.ov_plain_act.specs.declared.deed.Move.{Move}
+use Rattle.ov_plain_act.specs.declared.deed.Move.TheVariants as kept
+use Rattle.ov_plain_act.specs.declared.session.File.{File}
+use Rattle.ov_plain_act.specs.declared.session.Session.{Session}
+
+-- the files of a list, the newest first
+abbrev pub files_of : List File → Files
+files_of [] = λ name. None
+files_of (file ∷ files) = put (files_of files) file.name file.bytes
+
+abbrev pub session_of : Session → KnownSession
+session_of s = record { files = files_of s.files; user = s.user }
+
+abbrev pub move_of : Move → KnownMove
+move_of (kept.Init name schema rows) = Init name schema rows
+move_of (kept.Commit cvd version) = Commit cvd version.parents version.message [] version.rows
+move_of (kept.Drop cvd) = Drop cvd
+
+abbrev pub deed_of : Deed → KnownDeed
+deed_of d = record {
+  moves = map move_of d.moves;
+  reply = d.reply;
+  counts_steps = d.counts_steps;
+  session = session_of d.session;
+}
+
+-- a refusal, or what comes of these rows
+abbrev pub came : KnownSession → (List Row → KnownDeed) → Result (List Row) Refusal → KnownDeed
+came s next (Err refusal) = refuses s refusal
+came s next (Ok rows) = next rows
+
+-- Whether a command's act is computed here: it is none of plans, and it adds no columns.
+abbrev pub is_plain : Command → Bool
+is_plain (asks.Commit cvd vids file message (Some added)) = false
+is_plain (asks.Optimize cvd p q) = false
+is_plain (asks.Migrate count) = false
+is_plain (asks.Layout cvd) = false
+is_plain asks.Checkpoint = false
+is_plain (asks.Generate cvd seed rows versions) = false
+is_plain _ = true
+
+-- the lines of a log, by the records of the versions before
+abbrev pub lines_after : List (List Rec) → List Version → List LogLine
+lines_after done [] = []
+lines_after done (v ∷ vs) =
+    record {
+      vid = length done + 1;
+      rows = length v.rows;
+      fresh = length (fresh_in (records_of v done) (length done + 1));
+      parents = v.parents;
+      message = v.message;
+    } ∷ lines_after (done ++ records_of v done ∷ []) vs

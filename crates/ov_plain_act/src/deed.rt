@@ -1,0 +1,116 @@
+//! What a command does: its moves, its reply and the session after it.
+
+ghost use Rattle.std.specs.Prelude.{◌≡◌, [], ◌∷◌, IfOk};
+ghost use Rattle.ov_model.specs.Act.{tells, refuses, does};
+ghost use Rattle.ov_plain_act.specs.Acts.{deed_of, move_of, session_of};
+ghost use Rattle.ov_plain_act.specs.Small.{AreSmallMoves, IsSmallMove};
+
+use crate::copies::{copies_of, copy_of};
+use crate::session::Session;
+use ov_model::{Refusal, Reply};
+use ov_plain::Version;
+use ov_value::{Row, Schema, Txt};
+use sqlite_items::Items;
+use std::alloc::{AllocError, Global};
+
+/// A move of a World.
+#[derive(Drop)]
+pub enum Move {
+    /// A dataset with these rows as its version 1.
+    Init {
+        name: Txt,
+        schema: Schema,
+        rows: Items<Row>,
+    },
+    /// A version more of the dataset of this number, with no columns added.
+    Commit {
+        cvd: u32,
+        version: Version,
+    },
+    /// The dataset of this number goes.
+    Drop {
+        cvd: u32,
+    },
+}
+
+impl Move {
+    /// A copy of it.
+    pub fn copy(&self, alloc: Global) -> Result<Move, AllocError>
+        ensures { IfOk result (λ made. made ≡ self.now) }
+    {
+        match self {
+            Move::Init { name, schema, rows } => {
+                let name = name.copy(alloc)?;
+                let schema = schema.copy(alloc)?;
+                let rows = copies_of(alloc, rows.as_slice())?;
+                Ok(Move::Init { name, schema, rows })
+            }
+            Move::Commit { cvd, version } => {
+                let version = copy_of(alloc, version)?;
+                Ok(Move::Commit { cvd: *cvd, version })
+            }
+            Move::Drop { cvd } => Ok(Move::Drop { cvd: *cvd }),
+        }
+    }
+}
+
+/// The moves in their order, the reply once all of them took place, whether a refusal for room tells the steps taken and left,
+/// and the session then.
+#[derive(Drop)]
+pub struct Deed {
+    pub moves: Items<Move>,
+    pub reply: Reply,
+    pub counts_steps: bool,
+    pub session: Session,
+}
+
+/// A reply, over this session.
+pub fn tells_in(alloc: Global, session: Session, reply: Reply) -> Deed
+    ensures is { deed_of result ≡ tells (session_of session) reply }
+    ensures small { AreSmallMoves result.moves }
+{
+    Deed {
+        moves: Items::new(alloc),
+        reply,
+        counts_steps: false,
+        session,
+    }
+}
+
+/// A reply.
+pub fn tells(alloc: Global, session: &Session, reply: Reply) -> Result<Deed, AllocError>
+    ensures is { IfOk result (λ deed. deed_of deed ≡ tells (session_of session.now) reply) }
+    ensures small { IfOk result (λ deed. AreSmallMoves deed.moves) }
+{
+    Ok(tells_in(alloc, session.copy(alloc)?, reply))
+}
+
+/// A refusal.
+pub fn refuses(alloc: Global, session: &Session, refusal: Refusal) -> Result<Deed, AllocError>
+    ensures is { IfOk result (λ deed. deed_of deed ≡ refuses (session_of session.now) refusal) }
+    ensures small { IfOk result (λ deed. AreSmallMoves deed.moves) }
+{
+    tells(alloc, session, Reply::Refused(refusal))
+}
+
+/// A move and a reply.
+pub fn does(
+    alloc: Global,
+    session: &Session,
+    the_move: Move,
+    reply: Reply,
+) -> Result<Deed, AllocError>
+    requires { IsSmallMove the_move }
+    ensures is { IfOk result (λ deed. deed_of deed ≡ does (session_of session.now) (move_of the_move) reply) }
+    ensures small { IfOk result (λ deed. AreSmallMoves deed.moves) }
+{
+    let mut moves = Items::new(alloc);
+    moves.push(the_move)?;
+    let session = session.copy(alloc)?;
+    Ok(Deed {
+        moves,
+        reply,
+        counts_steps: false,
+        session,
+    })
+}
