@@ -20,6 +20,7 @@ use file_host::FileHost;
 use folder_stage::FolderStage;
 use ov_top::{Status, WordsErr, options, run};
 use ov_value::Txt;
+use std::alloc::AllocError;
 use std::env;
 use std::io::ErrorKind;
 use std::process::ExitCode;
@@ -31,8 +32,8 @@ fn words(rt: HostRuntime) -> Result<Vec<Txt>, Status> {
         Ok(all) => all
             .skip(1)
             .map(Txt::from_string)
-            .collect(rt.alloc())
-            .map_err(|_| Status::Memory),
+            .try_collect(rt.alloc())
+            .map_err(|_: AllocError| Status::Memory),
         Err(e) if e.kind() == ErrorKind::OutOfMemory => Err(Status::Memory),
         Err(_) => Err(Status::Usage),
     }
@@ -42,7 +43,7 @@ fn words(rt: HostRuntime) -> Result<Vec<Txt>, Status> {
 fn folder(rt: HostRuntime, words: &[Txt]) -> Result<Txt, Status> {
     match options(rt.alloc(), words) {
         Ok(options) => Ok(options.folder),
-        Err(WordsErr::Usage) => Ok(Txt::from_string(String::new(rt.alloc()))),
+        Err(WordsErr::Usage) => Txt::new(rt.alloc(), "").map_err(|_| Status::Memory),
         Err(WordsErr::Memory) => Err(Status::Memory),
     }
 }

@@ -132,7 +132,7 @@ fn sixty_five_columns_are_too_many(rt: HostRuntime) -> Result<(), Fail> {
         for i in 0..count {
             let name = format!(in rt.alloc(); "c{i}")?;
             columns.push(Column {
-                name: Txt::from_string(name),
+                name: Txt::from_string(name)?,
                 kind: Kind::Flag,
             })?;
         }
@@ -369,15 +369,37 @@ fn keys_are_compared_from_the_left(rt: HostRuntime) -> Result<(), Fail> {
     Ok(())
 }
 
+// A text of up to 14 bytes stands in place.
+#[test]
+fn texts_keep_their_bytes_around_the_length_in_place(rt: HostRuntime) -> Result<(), Fail> {
+    let alloc = rt.alloc();
+    for text in [
+        "",
+        "a",
+        "0123456789abc",
+        "0123456789abcd",
+        "0123456789abcdé",
+        "éééééééé",
+    ] {
+        let made = Txt::new(alloc, text)?;
+        let same = Txt::from_string(String::from_str(alloc, text)?)?;
+        assert_eq!(rt; made.as_str(), text);
+        assert_eq!(rt; same.as_str(), text);
+        assert_eq!(rt; made.len(), text.len());
+        assert!(rt; made == same);
+    }
+    Ok(())
+}
+
 #[test]
 fn copies_and_conversions_keep_the_value(rt: HostRuntime) -> Result<(), Fail> {
     let alloc = rt.alloc();
-    let name = Txt::from_string(String::from_str(alloc, "héé")?);
+    let name = Txt::from_string(String::from_str(alloc, "héé")?)?;
     assert_eq!(rt; name.len(), 5);
     assert!(rt; !name.is_empty());
     assert_eq!(rt; name.as_bytes(), "héé".as_bytes());
     assert!(rt; name.copy(alloc)? == name);
-    assert_eq!(rt; name.into_string().as_str(), "héé");
+    assert_eq!(rt; name.as_str(), "héé");
     let value = text(alloc, "x")?;
     assert!(rt; value.copy(alloc)? == value);
     assert!(rt; !value.is_null());

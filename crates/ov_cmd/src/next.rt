@@ -91,7 +91,7 @@ fn quoted<'a>(alloc: Global, text: &'a str) -> Result<Next<'a>, AllocError>
             escaped = false;
         } else if *b == b'"' {
             let behind = &text[i + 1..];
-            let word = Word::own(text_of(word));
+            let word = Word::own(text_of(word)?);
             return Ok(Next::Word { word, behind });
         } else if *b == b'\\' {
             escaped = true;
@@ -102,9 +102,9 @@ fn quoted<'a>(alloc: Global, text: &'a str) -> Result<Next<'a>, AllocError>
     Ok(Next::Unclosed)
 }
 
-fn text_of(bytes: Vec<u8>) -> Txt
+fn text_of(bytes: Vec<u8>) -> Result<Txt, AllocError>
     requires { IsUtf8 bytes.items }
-    ensures { result ≡ bytes.items }
+    ensures { IfOk result (λ text. text ≡ bytes.items) }
 {
     Txt::from_string(String::from_utf8(bytes).unwrap())
 }

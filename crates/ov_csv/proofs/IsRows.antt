@@ -37,7 +37,7 @@ and-right : (a b : Bool) → (a && b) ≡ true → b ≡ true
 and-right true b e = e
 and-right false b e = cc
 
-int-choice : (P : Value → Type 0) (field : List ℕ) → P Null
+pub int-choice : (P : Value → Type 0) (field : List ℕ) → P Null
     → (is_64_bits (signed_digits_value 10 field) ≡ true → P (Int (signed_digits_value 10 field))) → P (or_null (int_value field))
 int-choice P [] n h = n
 int-choice P (b ∷ bs) n h = choice P _ _ n (λ e. h (and-right _ _ e))
@@ -48,11 +48,11 @@ two-choices P true t n h = h true
 two-choices P false true n h = h false
 two-choices P false false n h = n
 
-flag-choice : (P : Value → Type 0) (field : List ℕ) → P Null → ((b : Bool) → P (Flag b)) → P (or_null (flag_value field))
+pub flag-choice : (P : Value → Type 0) (field : List ℕ) → P Null → ((b : Bool) → P (Flag b)) → P (or_null (flag_value field))
 flag-choice P [] n h = n
 flag-choice P (b ∷ bs) n h = two-choices P _ _ n h
 
-mark-choice : (P : Value → Type 0) (s t one : Bool) (rest field : List ℕ) → P Null → P (Text field) → (t ≡ true → P (Text rest))
+pub mark-choice : (P : Value → Type 0) (s t one : Bool) (rest field : List ℕ) → P Null → P (Text field) → (t ≡ true → P (Text rest))
     → P (if s && t then (if one then Null else Text rest) else Text field)
 mark-choice P true true true rest field n h m = n
 mark-choice P true true false rest field n h m = m refl

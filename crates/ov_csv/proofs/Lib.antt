@@ -1,9 +1,10 @@
 pub mod Between
 pub mod Steps
 pub mod Spelled
-pub mod Texts
+pub mod Ascii
 pub mod Flexible
 pub mod IsRows
 pub mod Lists
 pub mod Places
 pub mod Rows
+pub mod Sizes

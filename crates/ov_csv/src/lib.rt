@@ -15,6 +15,7 @@ mod reading;
 mod records;
 mod scans;
 mod spelling;
+mod texts;
 
 pub use csv_err::CsvErr;
 pub use csv_text::{CsvText, write_rows};

@@ -107,5 +107,5 @@ fn unescaped(alloc: Global, inner: &str) -> Result<Txt, AllocError>
         }
     }
     text.push_str(rest)?;
-    Ok(Txt::from_string(text))
+    Txt::from_string(text)
 }

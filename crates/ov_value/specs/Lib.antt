@@ -5,3 +5,4 @@ pub mod Making
 pub mod Order
 pub mod Spelling
 pub mod Reading
+pub mod Texts

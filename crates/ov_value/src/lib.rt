@@ -17,6 +17,7 @@ mod reading;
 mod row;
 mod schema;
 mod schema_err;
+mod short;
 mod sorting;
 mod spelled;
 mod txt;

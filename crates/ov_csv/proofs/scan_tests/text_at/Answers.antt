@@ -4,7 +4,6 @@ use Rattle.std.proofs.lemmas.List.Elements.{All-nil}
 use Rattle.ov_value.specs.Shapes.{Shape}
 use Rattle.ov_segment.specs.declared.numbered.Record.{Record}
 use Rattle.ov_segment.specs.Segments.{AreRecords}
-use Rattle.ov_fetch.specs.declared.scan.Scan.{Scan}
 use Rattle.ov_fetch.specs.Scans.{IsSound, AllStand, InKeyOrder, rows_at}
 use Rattle.ov_fetch.proofs.Fitting.{records_fit}
 use Rattle.ov_csv.proofs.scan_tests.text_at.Goals as goal

@@ -1,0 +1,11 @@
+-- The test of std is the test of the definition.
+use Rattle.std.proofs.Common.{sym}
+use Rattle.std.proofs.lemmas.Str.{is_utf8-from_IsUtf8}
+use Rattle.ov_csv.proofs.Ascii.{no-text}
+use Rattle.ov_csv.proofs.texts.is_text.Goals as goal
+
+pub returns-in-Ok : goal.returns-in-Ok
+returns-in-Ok c = sym (is_utf8-from_IsUtf8 _ c.in-Ok.ensures.cases.1)
+
+pub returns-in-Err : goal.returns-in-Err
+returns-in-Err c = sym (no-text _ c.in-Err.ensures.cases.0)
