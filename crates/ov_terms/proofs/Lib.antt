@@ -1,0 +1,5 @@
+pub mod Values
+pub mod Free
+pub mod ThreeValues
+pub mod Among
+pub mod Spots

@@ -1,0 +1,90 @@
+-- The values of a column in a group, from a place on.
+use Rattle.std.proofs.Common.{◌≡◌, ◌<◌, ◌+◌, ◌∷◌, ℕ, List, Bool, true, false, ap, refl, add-one, length, drop, get_or, drop-cons}
+use Rattle.std.specs.Prelude.{ℤ, if◌then◌else◌, not}
+use Rattle.ov_value.specs.declared.value.Value.{Value}
+use Rattle.ov_value.specs.declared.value.Value.TheVariants as value
+use Rattle.ov_value.specs.Shapes.{Shape}
+use Rattle.ov_segment.specs.declared.numbered.Record.{Record}
+use Rattle.ov_model.specs.Answers.{cell_order, first_by, greatest_from, is_below, is_null_cell, is_present, least_from, plus, present, sum_from, value_in, value_order}
+use Rattle.ov_model.specs.declared.answer.Cell.{Cell}
+use Rattle.ov_model.specs.declared.answer.Cell.TheVariants as cell
+use Rattle.ov_model.specs.declared.query.Col.{Col}
+use Rattle.ov_terms.specs.declared.spot.Spot.{Spot}
+use Rattle.ov_terms.specs.Best.{better}
+use Rattle.ov_terms.specs.Standing.{pair_at, pairs_at}
+
+abbrev pub onto : Value → List Value → List Value
+onto v vs = if is_present v then v ∷ vs else vs
+
+abbrev pub values : Shape → List Record → Col → List Spot → List Value
+values schema records col group = present schema (pairs_at records group) col
+
+-- the value at a place, in front of those behind it
+pub values-more : (schema : Shape) (records : List Record) (col : Col) (group : List Spot) (i : ℕ) (d : Spot) → i < length group
+    → values schema records col (drop i group) ≡ onto (value_in schema (pair_at records (get_or group i d)) col) (values schema records col (drop (i + 1) group))
+values-more schema records col group i d lt =
+    let here : drop i group ≡ get_or group i d ∷ drop (i + 1) group = rw (add-one i) (drop-cons group i d lt) in
+    ap (values schema records col) here
+
+pub null-absent : (v : Value) → is_null_cell (cell.Value v) ≡ not (is_present v)
+null-absent (value.Int n) = refl
+null-absent (value.Text text) = refl
+null-absent (value.Flag flag) = refl
+null-absent value.Null = refl
+
+-- a value that isn't an int leaves a sum, and so does one that isn't there
+pub sum-onto : (n : ℤ) (v : Value) (vs : List Value) → sum_from n (onto v vs) ≡ sum_from (plus n v) vs
+sum-onto n (value.Int m) vs = refl
+sum-onto n (value.Text text) vs = refl
+sum-onto n (value.Flag flag) vs = refl
+sum-onto n value.Null vs = refl
+
+-- the best so far, before these values
+abbrev pub onward : (Value → List Value → Value) → Cell → List Value → Cell
+onward pick cell.Nothing vs = first_by pick vs
+onward pick (cell.Value v) vs = cell.Value (pick v vs)
+onward pick (cell.Sum n) vs = cell.Nothing
+
+-- nothing yet, or a value that isn't NULL
+abbrev pub IsBest : Cell → Type 0
+IsBest cell.Nothing = Unit {0}
+IsBest (cell.Value v) = is_present v ≡ true
+IsBest (cell.Sum n) = ⊥
+
+-- of two values one is the best so far
+chosen : (pick : Value → List Value → Value) (t : Bool) (v w : Value) (vs : List Value) → is_present v ≡ true → is_present w ≡ true
+    → IsBest (if t then cell.Value v else cell.Value w)
+    × (cell.Value (pick (if t then v else w) vs) ≡ onward pick (if t then cell.Value v else cell.Value w) vs)
+chosen pick true v w vs p q = (p, refl)
+chosen pick false v w vs p q = (q, refl)
+
+least-present : (best : Cell) (v : Value) (vs : List Value) → is_present v ≡ true → IsBest best
+    → IsBest (better cell_order best (cell.Value v))
+    × (onward least_from best (v ∷ vs) ≡ onward least_from (better cell_order best (cell.Value v)) vs)
+least-present cell.Nothing v vs p b = rw (null-absent v, p) (p, refl)
+least-present (cell.Value w) v vs p b = rw (null-absent v, p, null-absent w, b) (chosen least_from (is_below (value_order v w)) v w vs p b)
+least-present (cell.Sum n) v vs p b = absurd b
+
+greatest-present : (best : Cell) (v : Value) (vs : List Value) → is_present v ≡ true → IsBest best
+    → IsBest (better (λ x y. cell_order y x) best (cell.Value v))
+    × (onward greatest_from best (v ∷ vs) ≡ onward greatest_from (better (λ x y. cell_order y x) best (cell.Value v)) vs)
+greatest-present cell.Nothing v vs p b = rw (null-absent v, p) (p, refl)
+greatest-present (cell.Value w) v vs p b = rw (null-absent v, p, null-absent w, b) (chosen greatest_from (is_below (value_order w v)) v w vs p b)
+greatest-present (cell.Sum n) v vs p b = absurd b
+
+-- one value more, or one that is NULL
+pub least-more : (best : Cell) (v : Value) (vs : List Value) → IsBest best
+    → IsBest (better cell_order best (cell.Value v))
+    × (onward least_from best (onto v vs) ≡ onward least_from (better cell_order best (cell.Value v)) vs)
+least-more best (value.Int n) vs b = least-present best (value.Int n) vs refl b
+least-more best (value.Text t) vs b = least-present best (value.Text t) vs refl b
+least-more best (value.Flag f) vs b = least-present best (value.Flag f) vs refl b
+least-more best value.Null vs b = (b, refl)
+
+pub greatest-more : (best : Cell) (v : Value) (vs : List Value) → IsBest best
+    → IsBest (better (λ x y. cell_order y x) best (cell.Value v))
+    × (onward greatest_from best (onto v vs) ≡ onward greatest_from (better (λ x y. cell_order y x) best (cell.Value v)) vs)
+greatest-more best (value.Int n) vs b = greatest-present best (value.Int n) vs refl b
+greatest-more best (value.Text t) vs b = greatest-present best (value.Text t) vs refl b
+greatest-more best (value.Flag f) vs b = greatest-present best (value.Flag f) vs refl b
+greatest-more best value.Null vs b = (b, refl)

@@ -1,0 +1,4 @@
+pub mod Seeing
+pub mod Standing
+pub mod Summing
+pub mod Best

@@ -1,0 +1,26 @@
+//! What the terms and conditions of a query are over rows, which stay where they are: among the records of a scan.
+//!
+//! A `Spot` is a version's number and the position of one of its rows, and a group is a list of spots. `Table` says what a term
+//! is over a group and whether a condition holds of it, as the definitions of `ov_model` do over whole rows; it takes no memory
+//! and copies no value.
+#![tactic(auto)]
+
+mod aggregates;
+mod lineages;
+mod order;
+mod rows;
+mod seen;
+mod spot;
+mod table;
+mod truth;
+mod truths;
+
+pub use lineages::{free_by_cases, is_free, is_guard_free};
+pub use order::cmp_seen;
+pub use rows::spots_of;
+pub use seen::Seen;
+pub use spot::Spot;
+pub use table::Table;
+
+#[cfg(test)]
+mod tests;
