@@ -13,8 +13,8 @@ use std::str;
 
 /// A record that was found to be texts. Contracts see it as the list of its fields.
 ///
-/// The `StringRecord` of the `csv` crate owns its record: to move a reused record into one and back, row by row, costs as much
-/// as to read half of a short row.
+/// The `StringRecord` of the `csv` crate owns its record, so that a reused record would be moved into one and back for each
+/// row.
 #[derive(Drop)]
 pub(crate) struct Texts<'a> {
     line: &'a ByteRecord,

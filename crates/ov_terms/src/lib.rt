@@ -1,8 +1,8 @@
 //! What the terms and conditions of a query are over rows, which stay where they are: among the records of a scan.
 //!
 //! A `Spot` is a version's number and the position of one of its rows, and a group is a list of spots. `Table` says what a term
-//! is over a group and whether a condition holds of it, as the definitions of `ov_model` do over whole rows; it takes no memory
-//! and copies no value.
+//! is over a group and whether a condition holds of it, as the definitions of `ov_model` do over whole rows, without memory and
+//! without a copy. Only a row of an answer (`Table::shown`) has values of its own.
 #![tactic(auto)]
 
 mod aggregates;
