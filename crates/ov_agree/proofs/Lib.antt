@@ -5,5 +5,4 @@ pub mod Agreed
 pub mod Same
 pub mod Listed
 pub mod Room
-pub mod Seen
 pub mod Kept

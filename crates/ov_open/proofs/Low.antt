@@ -15,7 +15,7 @@ use Rattle.ov_catalog.specs.Raw.{event_in, place_in, shape_in}
 use Rattle.ov_catalog.proofs.Filling.{applied_each}
 use Rattle.ov_fitting.specs.Fitting.{IsSoundEvent}
 use Rattle.ov_fitting.proofs.Asking.{applies_sound}
-use Rattle.ov_replay.specs.Replaying.{IsReplay}
+use Rattle.ov_open.specs.Replaying.{IsReplay}
 
 -- ---- an extent that is too high goes; so what stays as it is isn't
 

@@ -16,7 +16,7 @@ ghost use Rattle.ov_versions.specs.Sizes.{bytes_for};
 ghost use Rattle.ov_parents.specs.Parents.{IsCounted, IsParent, RefusesParents};
 
 use crate::taking::take_parents;
-use ov_agree::first_disagreeing;
+use crate::disagreeing::first_disagreeing;
 use ov_catalog::Cvd;
 use ov_fetch::FetchErr;
 use ov_host::Host;

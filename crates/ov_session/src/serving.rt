@@ -2,7 +2,7 @@
 ghost use Rattle.std.specs.Prelude.{◌≡◌, ◌≢◌, ◌≤◌, ℕ, List, true, Some, None, Ok, IsErrOf, IsTrue, IfOk, IfErr, OnOk, is_ok};
 ghost use Rattle.ov_host.specs.Host.{Calls, Rose, State};
 ghost use Rattle.ov_host.specs.Tape.{Prints};
-ghost use Rattle.ov_lines.specs.Asked.{IsAsked};
+ghost use Rattle.ov_cmd.specs.Asked.{IsAsked};
 ghost use Rattle.ov_model.specs.Act.{deed};
 ghost use Rattle.ov_model.specs.Forms.{built_forms};
 ghost use Rattle.ov_model.specs.Line.{Asks, line_of};

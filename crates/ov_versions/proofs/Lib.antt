@@ -10,3 +10,4 @@ pub mod Passed
 pub mod Keeping
 pub mod Ending
 pub mod Shows
+pub mod PickFacts

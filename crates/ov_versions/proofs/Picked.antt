@@ -21,7 +21,7 @@ use Rattle.ov_fetch.specs.Scans.{AllStand, InKeyOrder, row_at, rows_at, rows_of}
 use Rattle.ov_fetch.proofs.Lacking.{get_at}
 use Rattle.ov_fetch.proofs.Ordered.{has_record}
 use Rattle.ov_fetch.proofs.Running.{ascend_rise}
-use Rattle.ov_scan.specs.Picking.{ArePicks, IsPick, places_from, places_of}
+use Rattle.ov_versions.specs.Picking.{ArePicks, IsPick, places_from, places_of}
 use Rattle.ov_versions.specs.Found.{AreFirst, IsPicked}
 use Rattle.ov_versions.specs.Gathering.{AreFull, IsNotFull, IsRowsOf}
 use Rattle.ov_versions.proofs.Bearing.{kept_all}

@@ -7,3 +7,5 @@ pub mod Partitions
 pub mod Gathering
 pub mod Gathered
 pub mod OfWorld
+pub mod Lines
+pub mod Picking

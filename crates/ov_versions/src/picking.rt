@@ -11,7 +11,7 @@ ghost use Rattle.ov_versions.specs.Gathering.{AreFull, ArePut, IsNotFull, IsRows
 use ov_fetch::{FetchErr, Pick, Scan, SegmentsRead, Vids, rows_and_rids_of};
 use ov_host::{Extent, Host};
 use ov_member::Members;
-use ov_scan::scan_of;
+use crate::scanning::scan_of;
 use ov_value::Schema;
 use std::alloc::{AllocError, Global};
 

@@ -6,7 +6,7 @@ use Rattle.ov_session.specs.declared.serving.Served.{Served}
 use Rattle.ov_cmd.specs.Errors.{refusal_of}
 use Rattle.ov_course.proofs.Lines.{serves_broken, serves_comment}
 use Rattle.ov_course.specs.Serving.{Serves, session_of}
-use Rattle.ov_lines.proofs.Asking.{asked}
+use Rattle.ov_cmd.proofs.Asking.{asked}
 use Rattle.ov_model.specs.Forms.{built_forms}
 use Rattle.ov_model.specs.Line.{Asks, Refused, line_of}
 use Rattle.ov_session.proofs.Saying.{comment_none, line_unserved, says_refusal, says_reply}
