@@ -1,6 +1,6 @@
 -- Each command that a line asks for, by the forms that the program has.
 use Rattle.std.proofs.Common.{◌≡◌, ℕ, Bool, true, false, List, [], ◌∷◌, length, refl, sym, ap, subst}
-use Rattle.std.specs.Prelude.{◌≢◌, ◌≤◌, ◌&&◌, not, if◌then◌else◌, nat_lt, codes, Option, Some, None, Result, Ok, Err}
+use Rattle.std.specs.Prelude.{◌≢◌, ◌≤◌, ◌&&◌, not, if◌then◌else◌, nat_lt, codes, Option, Some, None, Result, Ok, Err, IfOk}
 use Rattle.std.specs.Option.{option_map}
 use Rattle.std.specs.Str.{bytes_eq, is_utf8}
 use Rattle.ov_value.specs.Making.{schema_of}
@@ -17,6 +17,7 @@ use Rattle.ov_model.specs.declared.refusal.Refusal.{Refusal}
 use Rattle.ov_model.specs.declared.refusal.Refusal.TheVariants as no
 use Rattle.ov_cmd.specs.Asked.{IsAsked, AsksBuilt}
 use Rattle.ov_cmd.specs.Said.{said}
+use Rattle.ov_cmd.specs.declared.line_err.LineErr.{LineErr}
 use Rattle.ov_cmd.proofs.FormValues.{AreGood, AllRead, words_good, no_table, no_added, versions_there, message_short}
 
 -- what is made is a command with what is known of it, or a refusal
@@ -189,3 +190,7 @@ asked line command e = subst AsksWell e (line_well built_forms line built_are)
 pub asks_built : (line : List ℕ) (c : Option Command) → line_of built_forms line ≡ said c → AsksBuilt c
 asks_built line None e = tt
 asks_built line (Some command) e = asked line command e
+
+pub asks_all : (line : List ℕ) (r : Result (Option Command) LineErr) → IfOk r (λ c. line_of built_forms line ≡ said c) → IfOk r AsksBuilt
+asks_all line (Ok c) e = asks_built line c e
+asks_all line (Err why) e = tt

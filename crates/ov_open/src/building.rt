@@ -8,12 +8,12 @@ ghost use Rattle.ov_open.specs.Building.{AreThere, IsBuilt, NotBuilt, NotReplaye
 use crate::errors::OpenErr;
 use crate::extents::live;
 use crate::missing::first_missing;
+use crate::replaying::{ReplayErr, replay};
 use ov_catalog::Catalog;
 use ov_core::Core;
 use ov_host::{Area, Extent};
 use ov_journal::{Journal, Payload};
 use ov_pages::Pages;
-use crate::replaying::{ReplayErr, replay};
 use std::alloc::Global;
 
 // The bytes of a record beside its payload: its gate, and the payload's length.

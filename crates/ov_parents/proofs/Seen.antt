@@ -17,9 +17,9 @@ use Rattle.ov_model.proofs.Counting.{one_same, times-append}
 use Rattle.ov_model.proofs.Growing.{same_row-refl}
 use Rattle.ov_records.specs.Records.{pairs_of}
 use Rattle.ov_catalog.proofs.Members.{left_in, right_in, of_append}
-use Rattle.ov_agree.specs.Differing.{rids_of, HasNoRidTwice, NoneDiffer, Clash}
+use Rattle.law_commits.specs.Differing.{rids_of, HasNoRidTwice, NoneDiffer, Clash}
 use Rattle.ov_parents.specs.Seeing.{Maps}
-use Rattle.ov_agree.proofs.Times.{in_times, pairs_rid}
+use Rattle.law_commits.proofs.Times.{in_times, pairs_rid}
 
 module _ {V : Type 0} (entry : V → Row) where
   -- a rid is mapped to one row

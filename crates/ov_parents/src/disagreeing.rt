@@ -6,7 +6,7 @@ ghost use Rattle.ov_model.specs.Assigned.{stored_parents};
 ghost use Rattle.ov_model.specs.Book.{Row as ModelRow, Version};
 ghost use Rattle.ov_model.specs.Records.{recs, order_of};
 ghost use Rattle.ov_records.specs.Records.{pairs_of, lists_of};
-ghost use Rattle.ov_agree.specs.Differing.{HasNoRidTwice, Clash, IsFirstDisagreeing};
+ghost use Rattle.law_commits.specs.Differing.{HasNoRidTwice, Clash, IsFirstDisagreeing};
 ghost use Rattle.ov_parents.specs.Seeing.{Maps};
 
 use ov_segment::{Record, Records};

@@ -11,7 +11,7 @@ ghost use Rattle.ov_model.specs.Replies.{reply_text};
 ghost use Rattle.ov_model.specs.World.{World};
 ghost use Rattle.ov_value.specs.Naming.{is_name};
 ghost use Rattle.ov_core.specs.AtWorld.{IsAtWorld};
-ghost use Rattle.ov_course.specs.Serving.{Serves, is_error as is_error_of, session_of};
+ghost use Rattle.law_runs.specs.Serving.{Serves, is_error as is_error_of, session_of};
 ghost use Rattle.ov_store.specs.Kept.{Kept, MayCall};
 ghost use Rattle.ov_session.specs.Commands.{Acts, Attended, Goes, IsDamageOf, IsDamaged, IsNoDamage, IsSaid, IsUnsaid, is_comment_in, is_comment_of, is_refused};
 

@@ -1,10 +1,10 @@
 use Rattle.std.proofs.Common.{◌++◌, Some, subst, take, arith}
 use Rattle.ov_model.specs.Lists.{joined}
 use Rattle.ov_records.specs.Records.{pairs_of, lists_of}
-use Rattle.ov_agree.specs.Differing.{Clash}
+use Rattle.law_commits.specs.Differing.{Clash}
 use Rattle.ov_parents.specs.Seeing.{Maps}
-use Rattle.ov_agree.proofs.Kept.{joined_more, none_more, is_first, is_none, none_disagrees}
-use Rattle.ov_agree.proofs.Same.{versions_agree}
+use Rattle.law_commits.proofs.Kept.{joined_more, none_more, is_first, is_none, none_disagrees}
+use Rattle.law_commits.proofs.Same.{versions_agree}
 use Rattle.ov_parents.proofs.Seen.{one_row}
 use Rattle.ov_parents.proofs.disagreeing.first_disagreeing.Goals as goal
 
