@@ -18,6 +18,3 @@ pub use disagreeing::first_disagreeing;
 pub use edges::the_tree_parent_is_a_parent;
 pub use rids_left::rids_are_left;
 pub use worlds::records_of_versions_agree;
-
-#[cfg(test)]
-mod tests;

@@ -7,6 +7,3 @@
 mod text;
 
 pub use text::{Checkout, checkout_of, checkout_text};
-
-#[cfg(test)]
-mod tests;

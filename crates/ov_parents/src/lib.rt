@@ -11,6 +11,3 @@ mod taking;
 
 pub use counting::records_are_counted;
 pub use reading::{ParentsRead, parents_of};
-
-#[cfg(test)]
-mod tests;

@@ -1,28 +1,10 @@
 //! Texts from worked examples and near them, read by a person.
 
-use ov_lex::{LexErr, tokens};
+use crate::asked::read;
 use ov_model::{Col, Cond, Items, Operand, Query, Src, Term};
-use ov_parse::*;
 use ov_value::Value;
 use std::alloc::Global;
 use std::test::Fail;
-
-/// The query of a text, `None` where it is none, or the byte at which no token begins.
-fn read(alloc: Global, text: &str) -> Result<Result<Option<Query>, u32>, Fail> {
-    if text.len() > 65_536 {
-        return Ok(Ok(None));
-    }
-    let found = match tokens(alloc, text) {
-        Ok(found) => found,
-        Err(LexErr::BadByte { at }) => return Ok(Err(at)),
-        Err(LexErr::Memory) => return Err("no memory")?,
-    };
-    match parse(alloc, text, &found) {
-        Ok(query) => Ok(Ok(Some(query))),
-        Err(ParseErr::NotAQuery) => Ok(Ok(None)),
-        Err(ParseErr::Memory) => Err("no memory")?,
-    }
-}
 
 fn column(alloc: Global, column: &Col) -> Result<String, Fail> {
     Ok(match column {
@@ -150,11 +132,11 @@ fn line(alloc: Global, query: &Query) -> Result<String, Fail> {
     Ok(shown)
 }
 
-/// A text as the line of its query; nothing where it is none.
+/// A text that has tokens as the line of its query; nothing where it is none.
 fn shown(alloc: Global, text: &str) -> Result<String, Fail> {
     match read(alloc, text)? {
-        Ok(Some(query)) => line(alloc, &query),
-        _ => Ok(String::new(alloc)),
+        Some(query) => line(alloc, &query),
+        None => Ok(String::new(alloc)),
     }
 }
 
@@ -219,44 +201,28 @@ const QUERIES: &[(&str, &str)] = &[
         "SELECT COUNT(a) FROM CVD x WHERE a != 1 AND a <= 2 AND a >= 3 AND a < FALSE GROUP BY a, b",
         "count(.a) of x; where [.a Ne 1 & .a Le 2 & .a Ge 3 & .a Lt false]; by .a; by .b",
     ),
+    // No queries.
+    ("", ""),
+    ("SELECT", ""),
+    ("SELECT a, FROM CVD p", ""),
+    ("SELECT a FROM CVD p;;", ""),
+    ("SELECT a FROM VERSION -1 OF CVD p", ""),
+    ("SELECT a FROM CVD p WHERE COUNT(*) > 1", ""),
+    ("SELECT a FROM CVD p HAVING COUNT(*) > 1", ""),
+    ("SELECT a FROM CVD p WHERE a = NULL", ""),
+    ("SELECT a FROM CVD p WHERE (a = 1", ""),
+    ("SELECT a FROM CVD p WHERE id IN PARENTS(1)", ""),
+    ("SELECT a FROM CVD p LIMIT 1 ORDER BY a", ""),
+    ("SELECT group FROM CVD p", ""),
+    ("SELECT SUM(*) FROM CVD p", ""),
 ];
 
 #[test]
-fn queries(rt: HostRuntime) -> Result<(), Fail> {
+fn texts_and_their_queries(rt: HostRuntime) -> Result<(), Fail> {
     let alloc = rt.alloc();
     for (text, wanted) in QUERIES {
         let got = shown(alloc, text)?;
         assert_eq!(rt; got.as_str(), *wanted);
-    }
-    Ok(())
-}
-
-const NO_QUERIES: &[&str] = &[
-    "",
-    "SELECT",
-    "SELECT a, FROM CVD p",
-    "SELECT a FROM CVD p;;",
-    "SELECT a FROM VERSION -1 OF CVD p",
-    "SELECT a FROM CVD p WHERE COUNT(*) > 1",
-    "SELECT a FROM CVD p HAVING COUNT(*) > 1",
-    "SELECT a FROM CVD p WHERE a = NULL",
-    "SELECT a FROM CVD p WHERE (a = 1",
-    "SELECT a FROM CVD p WHERE id IN PARENTS(1)",
-    "SELECT a FROM CVD p LIMIT 1 ORDER BY a",
-    "SELECT group FROM CVD p",
-    "SELECT SUM(*) FROM CVD p",
-];
-
-/// Whether a text has tokens, and is no query.
-fn is_no_query(alloc: Global, text: &str) -> Result<bool, Fail> {
-    Ok(matches!(read(alloc, text)?, Ok(None)))
-}
-
-#[test]
-fn no_queries(rt: HostRuntime) -> Result<(), Fail> {
-    let alloc = rt.alloc();
-    for text in NO_QUERIES {
-        assert!(rt; is_no_query(alloc, text)?);
     }
     Ok(())
 }
@@ -271,7 +237,7 @@ fn repeated(alloc: Global, part: &str, after: &str, count: usize) -> Result<bool
     for _ in 0..count {
         text.push_str(after)?;
     }
-    Ok(matches!(read(alloc, text.as_str())?, Ok(Some(_))))
+    Ok(read(alloc, text.as_str())?.is_some())
 }
 
 const DEPTHS: &[(&str, &str, usize, bool)] = &[

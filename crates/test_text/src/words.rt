@@ -1,9 +1,9 @@
 //! Lists of words with what comes of each.
 
-use super::*;
 use ov_value::Txt;
+use ov_words::{WordsErr, options};
 use std::alloc::{AllocError, Global};
-use std::test::*;
+use std::test::Fail;
 
 fn words(alloc: Global, texts: &[&str]) -> Result<Vec<Txt>, AllocError> {
     let mut words = Vec::new(alloc);

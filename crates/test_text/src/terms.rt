@@ -1,57 +1,42 @@
+//! Terms and conditions over a few people, and the rows of a scan of them.
+
 ghost use Rattle.std.specs.Prelude.{◌≡◌, IfOk, length};
 
-use super::*;
+use crate::asked::query;
+use crate::schemas::people_with_flags;
 use ov_fetch::{Pick, Picks, Scan, Vids};
-use ov_lex::{LexErr, tokens};
-use ov_model::{Cell, Cond, Items, Query, Term};
-use ov_parse::{ParseErr, parse};
+use ov_model::{Cell, Cond, Items, Term};
 use ov_segment::{Record, Records};
-use ov_value::{Column, Kind, Row, Schema, Txt, Value};
+use ov_terms::{Seen, Spot, Table, cmp_seen, is_guard_free, spots_of};
+use ov_value::{Row, Schema, Txt, Value};
 use std::alloc::{AllocError, Global};
 use std::cmp::Ordering;
-use std::test::*;
+use std::test::Fail;
 
-fn column(alloc: Global, name: &str, kind: Kind) -> Result<Column, AllocError> {
-    Ok(Column {
-        name: Txt::new(alloc, name)?,
-        kind,
-    })
-}
-
-fn people(alloc: Global) -> Result<Schema, Fail> {
-    let mut columns = Vec::new(alloc);
-    columns.push(column(alloc, "id", Kind::Int)?)?;
-    columns.push(column(alloc, "name", Kind::Text)?)?;
-    columns.push(column(alloc, "score", Kind::Int)?)?;
-    columns.push(column(alloc, "ok", Kind::Flag)?)?;
-    let mut key = Vec::new(alloc);
-    key.push(Txt::new(alloc, "id")?)?;
-    Ok(Schema::new(alloc, columns, key)?)
-}
-
-fn record(
-    alloc: Global,
-    rid: u32,
-    name: &str,
-    score: Value,
-    ok: Value,
-) -> Result<Record, AllocError> {
-    let mut values = Vec::new(alloc);
-    values.push(Value::Int(i64::from(rid)))?;
-    values.push(Value::Text(Txt::new(alloc, name)?))?;
-    values.push(score)?;
-    values.push(ok)?;
-    Ok(Record {
-        rid,
-        row: Row::new(values),
-    })
-}
+// Rids, names, scores and flags.
+const PEOPLE: [(u32, &str, Option<i64>, Option<bool>); 3] = [
+    (1, "ann", Some(10), Some(true)),
+    (2, "bob", None, Some(false)),
+    (3, "cy", Some(30), None),
+];
 
 fn three(alloc: Global) -> Result<Vec<Record>, AllocError> {
     let mut records = Vec::new(alloc);
-    records.push(record(alloc, 1, "ann", Value::Int(10), Value::Flag(true))?)?;
-    records.push(record(alloc, 2, "bob", Value::Null, Value::Flag(false))?)?;
-    records.push(record(alloc, 3, "cy", Value::Int(30), Value::Null)?)?;
+    for (rid, name, score, ok) in PEOPLE {
+        let mut values = Vec::new(alloc);
+        values.push(Value::Int(i64::from(rid)))?;
+        values.push(Value::Text(Txt::new(alloc, name)?))?;
+        values.push(match score {
+            Some(score) => Value::Int(score),
+            None => Value::Null,
+        })?;
+        values.push(match ok {
+            Some(ok) => Value::Flag(ok),
+            None => Value::Null,
+        })?;
+        let row = Row::new(values);
+        records.push(Record { rid, row })?;
+    }
     Ok(records)
 }
 
@@ -62,22 +47,6 @@ fn spots(alloc: Global) -> Result<Vec<Spot>, AllocError> {
         spots.push(Spot { vid, place })?;
     }
     Ok(spots)
-}
-
-fn query(alloc: Global, text: &str) -> Result<Query, Fail> {
-    if text.len() > 65_536 {
-        return Err("a long text")?;
-    }
-    let found = match tokens(alloc, text) {
-        Ok(found) => found,
-        Err(LexErr::BadByte { .. }) => return Err("no tokens")?,
-        Err(LexErr::Memory) => return Err("no memory")?,
-    };
-    match parse(alloc, text, &found) {
-        Ok(query) => Ok(query),
-        Err(ParseErr::NotAQuery) => Err("no query")?,
-        Err(ParseErr::Memory) => Err("no memory")?,
-    }
 }
 
 fn shown(alloc: Global, seen: Seen<'_>) -> Result<String, Fail> {
@@ -109,36 +78,39 @@ fn term_said(alloc: Global, table: &Table<'_>, group: &[Spot], text: &str) -> Re
     }
 }
 
+// A term, and what it is over all spots and over none.
+const TERMS: &[(&str, &str, &str)] = &[
+    ("COUNT(*)", "sum 5", "sum 0"),
+    ("COUNT(score)", "sum 3", "sum 0"),
+    ("SUM(score)", "sum 50", "nothing"),
+    ("SUM(id)", "sum 9", "nothing"),
+    ("SUM(vid)", "sum 8", "nothing"),
+    ("MIN(name)", "ann", "nothing"),
+    ("MAX(name)", "cy", "nothing"),
+    ("MIN(score)", "10", "nothing"),
+    ("MAX(score)", "30", "nothing"),
+    ("MIN(ok)", "false", "nothing"),
+    ("MAX(vid)", "version 2", "nothing"),
+    ("vid", "version 1", "nothing"),
+    ("name", "ann", "nothing"),
+    ("nobody", "null", "nothing"),
+];
+
 #[test]
 fn terms_over_a_group(rt: HostRuntime) -> Result<(), Fail> {
     let alloc = rt.alloc();
-    let schema = people(alloc)?;
+    let schema = people_with_flags(alloc)?;
     let records = three(alloc)?;
     let spots = spots(alloc)?;
     let table = Table {
         schema: &schema,
         records: records.as_slice(),
     };
-    for (text, want, of_none) in [
-        ("COUNT(*)", "sum 5", "sum 0"),
-        ("COUNT(score)", "sum 3", "sum 0"),
-        ("SUM(score)", "sum 50", "nothing"),
-        ("SUM(id)", "sum 9", "nothing"),
-        ("SUM(vid)", "sum 8", "nothing"),
-        ("MIN(name)", "ann", "nothing"),
-        ("MAX(name)", "cy", "nothing"),
-        ("MIN(score)", "10", "nothing"),
-        ("MAX(score)", "30", "nothing"),
-        ("MIN(ok)", "false", "nothing"),
-        ("MAX(vid)", "version 2", "nothing"),
-        ("vid", "version 1", "nothing"),
-        ("name", "ann", "nothing"),
-        ("nobody", "null", "nothing"),
-    ] {
+    for (text, want, of_none) in TERMS {
         let got = term_said(alloc, &table, spots.as_slice(), text)?;
-        assert_eq!(rt; got.as_str(), want);
+        assert_eq!(rt; got.as_str(), *want);
         let got = term_said(alloc, &table, &[], text)?;
-        assert_eq!(rt; got.as_str(), of_none);
+        assert_eq!(rt; got.as_str(), *of_none);
     }
     Ok(())
 }
@@ -179,32 +151,34 @@ fn where_said(
     Ok(guard_said(alloc, &table, spots.as_slice(), &query.filter)?)
 }
 
+const CONDITIONS: &[(&str, &str)] = &[
+    ("score > 10", "--+"),
+    ("NOT score > 10", "+--"),
+    ("score > 10 OR id = 2", "-++"),
+    ("score > 10 AND id = 2", "---"),
+    ("NOT (score > 10 AND id = 2)", "+-+"),
+    ("score IS NULL", "-+-"),
+    ("score IS NOT NULL AND (ok = FALSE OR id = 3)", "--+"),
+    ("name >= 'bob'", "-++"),
+    ("ok = TRUE OR NOT ok = TRUE", "++-"),
+    ("vid = 2", "+++"),
+    ("2 > vid", "---"),
+    ("id <> 2", "+-+"),
+    ("vid <= id", "-++"),
+    ("NOT vid IN PARENTS(1)", "a lineage"),
+    (
+        "id = 1 OR NOT (id = 2 AND vid NOT IN ANCESTORS(2))",
+        "a lineage",
+    ),
+];
+
 #[test]
 fn conditions_over_rows(rt: HostRuntime) -> Result<(), Fail> {
-    let schema = people(rt.alloc())?;
+    let schema = people_with_flags(rt.alloc())?;
     let records = three(rt.alloc())?;
-    for (text, want) in [
-        ("score > 10", "--+"),
-        ("NOT score > 10", "+--"),
-        ("score > 10 OR id = 2", "-++"),
-        ("score > 10 AND id = 2", "---"),
-        ("NOT (score > 10 AND id = 2)", "+-+"),
-        ("score IS NULL", "-+-"),
-        ("score IS NOT NULL AND (ok = FALSE OR id = 3)", "--+"),
-        ("name >= 'bob'", "-++"),
-        ("ok = TRUE OR NOT ok = TRUE", "++-"),
-        ("vid = 2", "+++"),
-        ("2 > vid", "---"),
-        ("id <> 2", "+-+"),
-        ("vid <= id", "-++"),
-        ("NOT vid IN PARENTS(1)", "a lineage"),
-        (
-            "id = 1 OR NOT (id = 2 AND vid NOT IN ANCESTORS(2))",
-            "a lineage",
-        ),
-    ] {
+    for (text, want) in CONDITIONS {
         let got = where_said(rt.alloc(), &schema, records.as_slice(), text)?;
-        assert_eq!(rt; got.as_str(), want);
+        assert_eq!(rt; got.as_str(), *want);
     }
     Ok(())
 }
@@ -259,7 +233,7 @@ fn row_said(alloc: Global, cells: &[Cell]) -> Result<String, Fail> {
 #[test]
 fn rows_of_a_scan(rt: HostRuntime) -> Result<(), Fail> {
     let alloc = rt.alloc();
-    let schema = people(alloc)?;
+    let schema = people_with_flags(alloc)?;
     let scan = scan(alloc)?;
     let table = Table {
         schema: &schema,
