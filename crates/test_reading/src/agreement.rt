@@ -4,42 +4,12 @@ ghost use Rattle.std.specs.Bool.{OnTrue};
 ghost use Rattle.std.specs.List.{All};
 ghost use Rattle.ov_agree.specs.Differing.{HasNoRidTwice};
 
-use crate::first_disagreeing;
+use crate::pairs::{Listed, parents_of, row_of};
+use ov_agree::first_disagreeing;
 use ov_segment::{Record, Records};
-use ov_value::{Row, Txt, Value};
 use std::alloc::{AllocError, Global};
-use std::test::*;
+use std::test::Fail;
 use std::time::Instant;
-
-// A row of a number and a text; of the number and NULL where there is no text.
-fn row_of(alloc: Global, text: &str) -> Result<Row, AllocError> {
-    let mut values = Vec::with_capacity(alloc, 2)?;
-    values.push(Value::Int(7))?;
-    if text.is_empty() {
-        values.push(Value::Null)?;
-    } else {
-        values.push(Value::Text(Txt::new(alloc, text)?))?;
-    }
-    Ok(Row::new(values))
-}
-
-// The records of one parent among those of several, each with the number of its parent before it.
-fn records_of(
-    alloc: Global,
-    parent: usize,
-    listed: &[(usize, u32, &str)],
-) -> Result<Records, AllocError> {
-    let mut records = Vec::new(alloc);
-    for (number, rid, text) in listed {
-        if *number == parent {
-            records.push(Record {
-                rid: *rid,
-                row: row_of(alloc, text)?,
-            })?;
-        }
-    }
-    Ok(Records::new(records))
-}
 
 fn ascend(records: &[Record]) -> bool
     ensures { OnTrue result (HasNoRidTwice records.now) }
@@ -77,11 +47,10 @@ fn first_if_ascending(
     }
 }
 
-// Records each stand behind the number of their parent, from 0.
 #[derive(Clone, Copy)]
 struct Case<'a> {
-    parents: usize,
-    records: &'a [(usize, u32, &'a str)],
+    parents: u32,
+    records: &'a [Listed<'a>],
     first: Option<usize>,
 }
 
@@ -98,96 +67,101 @@ const CASES: [Case; 14] = [
     },
     Case {
         parents: 1,
-        records: &[(0, 1, "ann,10"), (0, 2, "bob,20")],
+        records: &[(1, 1, 7, "ann,10"), (1, 2, 7, "bob,20")],
         first: None,
     },
     // The first two versions of `people`: bob's row is a new record.
     Case {
         parents: 2,
         records: &[
-            (0, 1, "ann,10"),
-            (0, 2, "bob,20"),
-            (1, 1, "ann,10"),
-            (1, 3, "bob,25"),
-            (1, 4, "cy,30"),
+            (1, 1, 7, "ann,10"),
+            (1, 2, 7, "bob,20"),
+            (2, 1, 7, "ann,10"),
+            (2, 3, 7, "bob,25"),
+            (2, 4, 7, "cy,30"),
         ],
         first: None,
     },
     // One rid, two rows.
     Case {
         parents: 2,
-        records: &[(0, 1, "ann,10"), (1, 1, "ann,11")],
+        records: &[(1, 1, 7, "ann,10"), (2, 1, 7, "ann,11")],
         first: Some(1),
     },
     // One row, two rids.
     Case {
         parents: 2,
-        records: &[(0, 1, "ann,10"), (1, 2, "ann,10")],
+        records: &[(1, 1, 7, "ann,10"), (2, 2, 7, "ann,10")],
         first: None,
     },
     // NULL is equal to NULL alone.
     Case {
         parents: 3,
-        records: &[(0, 1, ""), (1, 1, ""), (2, 1, "ann")],
+        records: &[(1, 1, 7, ""), (2, 1, 7, ""), (3, 1, 7, "ann")],
         first: Some(2),
     },
     // The one between lacks the rid.
     Case {
         parents: 3,
-        records: &[(0, 5, "a"), (1, 6, "b"), (2, 5, "b")],
+        records: &[(1, 5, 7, "a"), (2, 6, 7, "b"), (3, 5, 7, "b")],
         first: Some(2),
     },
     // The later one disagrees at the lower rid.
     Case {
         parents: 3,
         records: &[
-            (0, 1, "a"),
-            (0, 9, "a"),
-            (1, 9, "b"),
-            (2, 1, "b"),
-            (2, 9, "a"),
+            (1, 1, 7, "a"),
+            (1, 9, 7, "a"),
+            (2, 9, 7, "b"),
+            (3, 1, 7, "b"),
+            (3, 9, 7, "a"),
         ],
         first: Some(1),
     },
     // Two that agree with each other, and with no other.
     Case {
         parents: 4,
-        records: &[(0, 3, "a"), (1, 4, "a"), (2, 3, "b"), (3, 3, "b")],
+        records: &[
+            (1, 3, 7, "a"),
+            (2, 4, 7, "a"),
+            (3, 3, 7, "b"),
+            (4, 3, 7, "b"),
+        ],
         first: Some(2),
     },
     // Only the last record of the last parent.
     Case {
         parents: 3,
         records: &[
-            (0, 1, "a"),
-            (0, 2, "b"),
-            (1, 1, "a"),
-            (1, 2, "b"),
-            (2, 1, "a"),
-            (2, 2, "c"),
+            (1, 1, 7, "a"),
+            (1, 2, 7, "b"),
+            (2, 1, 7, "a"),
+            (2, 2, 7, "b"),
+            (3, 1, 7, "a"),
+            (3, 2, 7, "c"),
         ],
         first: Some(2),
     },
     // A parent without records between others.
     Case {
         parents: 3,
-        records: &[(0, 1, "a"), (2, 1, "b")],
+        records: &[(1, 1, 7, "a"), (3, 1, 7, "b")],
         first: Some(2),
     },
     // The greatest rid, and rids past it.
     Case {
         parents: 2,
         records: &[
-            (0, 0x8000_0000, "a"),
-            (0, u32::MAX, "b"),
-            (1, 0x8000_0000, "a"),
-            (1, u32::MAX, "b"),
+            (1, 0x8000_0000, 7, "a"),
+            (1, u32::MAX, 7, "b"),
+            (2, 0x8000_0000, 7, "a"),
+            (2, u32::MAX, 7, "b"),
         ],
         first: None,
     },
     Case {
         parents: 2,
-        records: &[(0, u32::MAX, "a"), (1, u32::MAX, "b")],
+        records: &[(1, u32::MAX, 7, "a"), (2, u32::MAX, 7, "b")],
         first: Some(1),
     },
 ];
@@ -196,10 +170,7 @@ const CASES: [Case; 14] = [
 fn the_first_parent_with_another_row_is_named(rt: HostRuntime) -> Result<(), Fail> {
     let alloc = rt.alloc();
     for (i, case) in CASES.iter().enumerate() {
-        let mut parents = Vec::new(alloc);
-        for parent in 0..case.parents {
-            parents.push(records_of(alloc, parent, case.records)?)?;
-        }
+        let parents = parents_of(alloc, case.parents, case.records)?;
         let found = first_if_ascending(alloc, &parents).ok_or("rids ascend")??;
         assert!(rt; found == case.first, "case {i}");
     }
@@ -207,27 +178,25 @@ fn the_first_parent_with_another_row_is_named(rt: HostRuntime) -> Result<(), Fai
 }
 
 // All parents have all records; the last row of the last parent differs.
-#[test]
-fn many_records_take_a_moment(rt: HostRuntime) -> Result<(), Fail> {
-    let alloc = rt.alloc();
+fn many_parents(alloc: Global) -> Result<Vec<Records>, AllocError> {
     let mut parents = Vec::new(alloc);
     for parent in 0..10u32 {
         let mut records = Vec::new(alloc);
         for rid in 1..=20_000u32 {
-            let text = if parent == 9 && rid == 20_000 {
-                "other"
-            } else {
-                "same"
-            };
-            records.push(Record {
-                rid,
-                row: row_of(alloc, text)?,
-            })?;
+            let is_last = parent == 9 && rid == 20_000;
+            let row = row_of(alloc, 7, if is_last { "other" } else { "same" })?;
+            records.push(Record { rid, row })?;
         }
         parents.push(Records::new(records))?;
     }
+    Ok(parents)
+}
+
+#[test]
+fn many_records_take_a_moment(rt: HostRuntime) -> Result<(), Fail> {
+    let parents = many_parents(rt.alloc())?;
     let start = Instant::now(&rt)?;
-    let found = first_if_ascending(alloc, &parents).ok_or("rids ascend")??;
+    let found = first_if_ascending(rt.alloc(), &parents).ok_or("rids ascend")??;
     let taken = start.elapsed(&rt)?.as_millis();
     println!(rt; "200,000 records of 10 parents: {taken} ms")?;
     assert!(rt; found == Some(9));

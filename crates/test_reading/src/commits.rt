@@ -7,34 +7,15 @@ ghost use Rattle.ov_value.specs.Rows.{key_cmp};
 ghost use Rattle.ov_model.specs.Lists.{Rises};
 ghost use Rattle.ov_records.specs.Records.{InKeyOrder};
 
-use crate::{AssignErr, Assigned, assign};
+use crate::pairs::{COLUMNS, Listed, parents_of, row_of};
+use crate::schemas::schema;
+use ov_records::{AssignErr, Assigned, assign};
 use ov_segment::{Record, Records};
-use ov_value::{Column, Kind, Row, Schema, SchemaErr, Txt, Value};
+use ov_value::{Row, Schema};
 use std::alloc::{AllocError, Global};
 use std::cmp::Ordering;
-use std::test::*;
+use std::test::Fail;
 use std::time::Instant;
-
-// An int `k`, which is the key, and a text `x`.
-fn schema_of_pairs(alloc: Global) -> Result<Schema, SchemaErr> {
-    let mut columns = Vec::new(alloc);
-    for (name, kind) in [("k", Kind::Int), ("x", Kind::Text)] {
-        let name = Txt::new(alloc, name)?;
-        columns
-            .push(Column { name, kind })
-            .map_err(AllocError::from)?;
-    }
-    let mut key = Vec::new(alloc);
-    key.push(Txt::new(alloc, "k")?).map_err(AllocError::from)?;
-    Schema::new(alloc, columns, key)
-}
-
-fn row_of(alloc: Global, k: i64, x: &str) -> Result<Row, AllocError> {
-    let mut values = Vec::with_capacity(alloc, 2)?;
-    values.push(Value::Int(k))?;
-    values.push(Value::Text(Txt::new(alloc, x)?))?;
-    Ok(Row::new(values))
-}
 
 fn rows_of(alloc: Global, pairs: &[(i64, &str)]) -> Result<Vec<Row>, AllocError> {
     let mut rows = Vec::new(alloc);
@@ -42,24 +23,6 @@ fn rows_of(alloc: Global, pairs: &[(i64, &str)]) -> Result<Vec<Row>, AllocError>
         rows.push(row_of(alloc, *k, x)?)?;
     }
     Ok(rows)
-}
-
-// The records of one parent among those of several, each with the number of its parent before it.
-fn records_of(
-    alloc: Global,
-    parent: u32,
-    listed: &[(u32, u32, i64, &str)],
-) -> Result<Records, AllocError> {
-    let mut records = Vec::new(alloc);
-    for (number, rid, k, x) in listed {
-        if *number == parent {
-            records.push(Record {
-                rid: *rid,
-                row: row_of(alloc, *k, x)?,
-            })?;
-        }
-    }
-    Ok(Records::new(records))
 }
 
 // Whether each row's key is below the next one's.
@@ -112,11 +75,10 @@ fn assign_if_ordered(
     }
 }
 
-// Records each stand behind the number of their parent, from 1.
 #[derive(Clone, Copy)]
 struct Case<'a> {
     parents: u32,
-    records: &'a [(u32, u32, i64, &'a str)],
+    records: &'a [Listed<'a>],
     rows: &'a [(i64, &'a str)],
     next: u32,
     rids: &'a [u32],
@@ -126,11 +88,8 @@ struct Case<'a> {
 
 // Whether the rows get what the case says.
 fn holds(alloc: Global, case: &Case) -> Result<bool, Fail> {
-    let schema = schema_of_pairs(alloc)?;
-    let mut parents = Vec::new(alloc);
-    for parent in 0..case.parents {
-        parents.push(records_of(alloc, parent + 1, case.records)?)?;
-    }
+    let schema = schema(alloc, COLUMNS)?;
+    let parents = parents_of(alloc, case.parents, case.records)?;
     let rows = rows_of(alloc, case.rows)?;
     let made = assign_if_ordered(alloc, &schema, &parents, &rows, case.next).ok_or("in order")?;
     Ok(match made {
@@ -143,154 +102,148 @@ fn holds(alloc: Global, case: &Case) -> Result<bool, Fail> {
     })
 }
 
-// The dataset `people`: versions 1 and 2, then 3 with parent 2, then 4 with parents 1 and 2.
+const CASES: &[Case] = &[
+    // The dataset `people`: versions 1 and 2, then 3 with parent 2, then 4 with parents 1 and 2. A row of no named parent is a
+    // new record.
+    Case {
+        parents: 0,
+        records: &[],
+        rows: &[(1, "ann,10"), (2, "bob,20")],
+        next: 1,
+        rids: &[1, 2],
+        weights: &[],
+        fresh: 2,
+    },
+    Case {
+        parents: 1,
+        records: &[(1, 1, 1, "ann,10"), (1, 2, 2, "bob,20")],
+        rows: &[(1, "ann,10"), (2, "bob,25"), (3, "cy,30")],
+        next: 3,
+        rids: &[1, 3, 4],
+        weights: &[1],
+        fresh: 2,
+    },
+    Case {
+        parents: 1,
+        records: &[(1, 1, 1, "ann,10"), (1, 3, 2, "bob,25"), (1, 4, 3, "cy,30")],
+        rows: &[(1, "ann,10"), (2, "bob,20")],
+        next: 5,
+        rids: &[1, 5],
+        weights: &[1],
+        fresh: 1,
+    },
+    Case {
+        parents: 2,
+        records: &[
+            (1, 1, 1, "ann,10"),
+            (1, 2, 2, "bob,20"),
+            (2, 1, 1, "ann,10"),
+            (2, 3, 2, "bob,25"),
+            (2, 4, 3, "cy,30"),
+        ],
+        rows: &[(1, "ann,10"), (2, "bob,20"), (3, "cy,30")],
+        next: 6,
+        rids: &[1, 2, 4],
+        weights: &[2, 2],
+        fresh: 0,
+    },
+    // Equal keys in one parent, and equal rows among them.
+    Case {
+        parents: 1,
+        records: &[
+            (1, 5, 1, "a"),
+            (1, 6, 1, "b"),
+            (1, 7, 1, "b"),
+            (1, 8, 2, "a"),
+        ],
+        rows: &[(1, "b"), (2, "b")],
+        next: 9,
+        rids: &[6, 9],
+        weights: &[1],
+        fresh: 1,
+    },
+    // One rid twice.
+    Case {
+        parents: 1,
+        records: &[(1, 5, 1, "a"), (1, 5, 2, "b")],
+        rows: &[(1, "a"), (2, "b")],
+        next: 6,
+        rids: &[5, 5],
+        weights: &[2],
+        fresh: 0,
+    },
+    // The first parent gives the rid; the others have the row under another rid, or the rid at another row.
+    Case {
+        parents: 4,
+        records: &[
+            (1, 1, 1, "a"),
+            (2, 9, 1, "a"),
+            (3, 1, 1, "b"),
+            (4, 1, 2, "a"),
+        ],
+        rows: &[(1, "a")],
+        next: 10,
+        rids: &[1],
+        weights: &[1, 0, 0, 0],
+        fresh: 0,
+    },
+    // A later one of equal rows is the shared record.
+    Case {
+        parents: 2,
+        records: &[(1, 1, 1, "a"), (2, 9, 1, "a"), (2, 1, 1, "a")],
+        rows: &[(1, "a")],
+        next: 10,
+        rids: &[1],
+        weights: &[1, 1],
+        fresh: 0,
+    },
+    // A parent that has the next rid already shares no new record.
+    Case {
+        parents: 1,
+        records: &[(1, 3, 1, "a")],
+        rows: &[(1, "b")],
+        next: 3,
+        rids: &[3],
+        weights: &[0],
+        fresh: 1,
+    },
+    // No rows, and a parent without records.
+    Case {
+        parents: 2,
+        records: &[(1, 1, 1, "a")],
+        rows: &[],
+        next: 2,
+        rids: &[],
+        weights: &[0, 0],
+        fresh: 0,
+    },
+];
+
 #[test]
-fn a_row_of_no_named_parent_is_a_new_record(rt: HostRuntime) -> Result<(), Fail> {
-    let cases = [
-        Case {
-            parents: 0,
-            records: &[],
-            rows: &[(1, "ann,10"), (2, "bob,20")],
-            next: 1,
-            rids: &[1, 2],
-            weights: &[],
-            fresh: 2,
-        },
-        Case {
-            parents: 1,
-            records: &[(1, 1, 1, "ann,10"), (1, 2, 2, "bob,20")],
-            rows: &[(1, "ann,10"), (2, "bob,25"), (3, "cy,30")],
-            next: 3,
-            rids: &[1, 3, 4],
-            weights: &[1],
-            fresh: 2,
-        },
-        Case {
-            parents: 1,
-            records: &[(1, 1, 1, "ann,10"), (1, 3, 2, "bob,25"), (1, 4, 3, "cy,30")],
-            rows: &[(1, "ann,10"), (2, "bob,20")],
-            next: 5,
-            rids: &[1, 5],
-            weights: &[1],
-            fresh: 1,
-        },
-        Case {
-            parents: 2,
-            records: &[
-                (1, 1, 1, "ann,10"),
-                (1, 2, 2, "bob,20"),
-                (2, 1, 1, "ann,10"),
-                (2, 3, 2, "bob,25"),
-                (2, 4, 3, "cy,30"),
-            ],
-            rows: &[(1, "ann,10"), (2, "bob,20"), (3, "cy,30")],
-            next: 6,
-            rids: &[1, 2, 4],
-            weights: &[2, 2],
-            fresh: 0,
-        },
-    ];
-    for (i, case) in cases.iter().enumerate() {
+fn the_first_of_equal_rows_counts(rt: HostRuntime) -> Result<(), Fail> {
+    for (i, case) in CASES.iter().enumerate() {
         assert!(rt; holds(rt.alloc(), case)?, "case {i}");
     }
     Ok(())
 }
 
-#[test]
-fn the_first_of_equal_rows_counts(rt: HostRuntime) -> Result<(), Fail> {
-    let cases = [
-        // Equal keys in one parent, and equal rows among them.
-        Case {
-            parents: 1,
-            records: &[
-                (1, 5, 1, "a"),
-                (1, 6, 1, "b"),
-                (1, 7, 1, "b"),
-                (1, 8, 2, "a"),
-            ],
-            rows: &[(1, "b"), (2, "b")],
-            next: 9,
-            rids: &[6, 9],
-            weights: &[1],
-            fresh: 1,
-        },
-        // One rid twice.
-        Case {
-            parents: 1,
-            records: &[(1, 5, 1, "a"), (1, 5, 2, "b")],
-            rows: &[(1, "a"), (2, "b")],
-            next: 6,
-            rids: &[5, 5],
-            weights: &[2],
-            fresh: 0,
-        },
-        // The first parent gives the rid; the others have the row under another rid, or the rid at another row.
-        Case {
-            parents: 4,
-            records: &[
-                (1, 1, 1, "a"),
-                (2, 9, 1, "a"),
-                (3, 1, 1, "b"),
-                (4, 1, 2, "a"),
-            ],
-            rows: &[(1, "a")],
-            next: 10,
-            rids: &[1],
-            weights: &[1, 0, 0, 0],
-            fresh: 0,
-        },
-        // A later one of equal rows is the shared record.
-        Case {
-            parents: 2,
-            records: &[(1, 1, 1, "a"), (2, 9, 1, "a"), (2, 1, 1, "a")],
-            rows: &[(1, "a")],
-            next: 10,
-            rids: &[1],
-            weights: &[1, 1],
-            fresh: 0,
-        },
-        // A parent that has the next rid already shares no new record.
-        Case {
-            parents: 1,
-            records: &[(1, 3, 1, "a")],
-            rows: &[(1, "b")],
-            next: 3,
-            rids: &[3],
-            weights: &[0],
-            fresh: 1,
-        },
-        // No rows, and a parent without records.
-        Case {
-            parents: 2,
-            records: &[(1, 1, 1, "a")],
-            rows: &[],
-            next: 2,
-            rids: &[],
-            weights: &[0, 0],
-            fresh: 0,
-        },
-    ];
-    for (i, case) in cases.iter().enumerate() {
-        assert!(rt; holds(rt.alloc(), case)?, "case {i}");
-    }
-    Ok(())
-}
+// How many rows there are, the next rid, and whether they are refused.
+const NEXT: [(usize, u32, bool); 6] = [
+    (3, 0x7fff_ffff, false),
+    (3, 0x8000_0000, true),
+    (2, 0x8000_0000, false),
+    (2, 0x8000_0001, true),
+    (1, 0x8000_0001, false),
+    (3, u32::MAX, true),
+];
 
 #[test]
 fn no_rid_passes_the_greatest(rt: HostRuntime) -> Result<(), Fail> {
     let alloc = rt.alloc();
-    let schema = schema_of_pairs(alloc)?;
-    let mut parents = Vec::new(alloc);
-    parents.push(records_of(alloc, 1, &[(1, 1, 1, "a")])?)?;
+    let schema = schema(alloc, COLUMNS)?;
+    let parents = parents_of(alloc, 1, &[(1, 1, 1, "a")])?;
     let rows = rows_of(alloc, &[(1, "a"), (2, "b"), (3, "c")])?;
-    for (count, next, refused) in [
-        (3, 0x7fff_ffff, false),
-        (3, 0x8000_0000, true),
-        (2, 0x8000_0000, false),
-        (2, 0x8000_0001, true),
-        (1, 0x8000_0001, false),
-        (3, u32::MAX, true),
-    ] {
+    for (count, next, refused) in NEXT {
         let some = rows.as_slice().get(..count).ok_or("there are as many")?;
         let made = assign_if_ordered(alloc, &schema, &parents, some, next).ok_or("in order")?;
         match made {
@@ -304,23 +257,26 @@ fn no_rid_passes_the_greatest(rt: HostRuntime) -> Result<(), Fail> {
     Ok(())
 }
 
-// Every hundredth row differs.
-#[test]
-fn a_million_rows_take_about_a_second(rt: HostRuntime) -> Result<(), Fail> {
-    let alloc = rt.alloc();
-    let schema = schema_of_pairs(alloc)?;
+// The records of one parent, and rows of which every hundredth differs.
+fn many(alloc: Global) -> Result<(Vec<Records>, Vec<Row>), AllocError> {
     let mut records = Vec::new(alloc);
     let mut rows = Vec::new(alloc);
     for i in 0..1_000_000u32 {
         let k = i64::from(i);
-        records.push(Record {
-            rid: i + 1,
-            row: row_of(alloc, k, "same")?,
-        })?;
+        let row = row_of(alloc, k, "same")?;
+        records.push(Record { rid: i + 1, row })?;
         rows.push(row_of(alloc, k, if i % 100 == 0 { "other" } else { "same" })?)?;
     }
     let mut parents = Vec::new(alloc);
     parents.push(Records::new(records))?;
+    Ok((parents, rows))
+}
+
+#[test]
+fn a_million_rows_take_about_a_second(rt: HostRuntime) -> Result<(), Fail> {
+    let alloc = rt.alloc();
+    let schema = schema(alloc, COLUMNS)?;
+    let (parents, rows) = many(alloc)?;
     let start = Instant::now(&rt)?;
     let made = assign_if_ordered(alloc, &schema, &parents, &rows, 1_000_001).ok_or("in order")?;
     let taken = start.elapsed(&rt)?.as_millis();

@@ -1,25 +1,19 @@
-use ov_fetch::*;
+//! Fetching where an area has no bytes, or fails, and the parts of a scan.
+
+use crate::schemas::schema;
+use ov_fetch::{FetchErr, Pick, Picks, Scan, Vids, list_of, rids_of, rows_of};
 use ov_host::{Extent, NullHost};
 use ov_member::Members;
 use ov_segment::Records;
-use ov_value::{Column, Kind, Schema, Txt};
+use ov_value::Kind;
 use std::alloc::Global;
-use std::test::*;
+use std::test::Fail;
 
 const NOTHING: Extent = Extent { page: 0, bytes: 0 };
 
 const SOMETHING: Extent = Extent { page: 7, bytes: 8 };
 
-fn schema_of_ids(alloc: Global) -> Result<Schema, Fail> {
-    let mut columns = Vec::new(alloc);
-    columns.push(Column {
-        name: Txt::new(alloc, "id")?,
-        kind: Kind::Int,
-    })?;
-    let mut key = Vec::new(alloc);
-    key.push(Txt::new(alloc, "id")?)?;
-    Ok(Schema::new(alloc, columns, key)?)
-}
+const COLUMNS: &[(&str, Kind)] = &[("id", Kind::Int)];
 
 fn set(alloc: Global, rids: &[u32]) -> Result<Members, Fail> {
     Ok(Members::of(alloc, rids)?.ok_or("they ascend")?)
@@ -28,7 +22,7 @@ fn set(alloc: Global, rids: &[u32]) -> Result<Members, Fail> {
 #[test]
 fn an_area_without_bytes_has_empty_extents_alone(rt: HostRuntime) -> Result<(), Fail> {
     let alloc = rt.alloc();
-    let schema = schema_of_ids(alloc)?;
+    let schema = schema(alloc, COLUMNS)?;
     let mut host = NullHost::new(false);
     let damaged = Some(FetchErr::Damaged { page: 7 });
     assert_eq!(rt; list_of(alloc, &mut host, NOTHING)?.len(), 0);
@@ -52,7 +46,7 @@ fn an_area_without_bytes_has_empty_extents_alone(rt: HostRuntime) -> Result<(), 
 #[test]
 fn a_host_that_fails_is_no_damage(rt: HostRuntime) -> Result<(), Fail> {
     let alloc = rt.alloc();
-    let schema = schema_of_ids(alloc)?;
+    let schema = schema(alloc, COLUMNS)?;
     let mut host = NullHost::new(true);
     let failed = Some(FetchErr::Host);
     assert_eq!(rt; list_of(alloc, &mut host, SOMETHING).err(), failed);

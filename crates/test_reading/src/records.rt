@@ -1,62 +1,17 @@
-// Rows fetched from pages in memory.
+//! Rows fetched from pages in memory.
+
+use crate::pages::{area, host_of, rids};
+use crate::people::{COLUMNS, LISTS, PARTS, SEGMENT_1, SEGMENTS};
+use crate::schemas::schema;
 use ov_fetch::{FetchErr, list_of, rids_of, rows_of};
 use ov_host::Extent;
 use ov_member::Members;
 use ov_memhost::MemHost;
 use ov_segment::{Record, Records};
-use ov_value::{Column, Kind, Schema, Txt, Value};
+use ov_value::{Schema, Value};
 use std::alloc::Global;
 use std::test::Fail;
 use std::time::Instant;
-
-// Version 1 of the people has the records 1 and 2, version 2 the records 1, 3 and 4.
-const LIST_1: &[u8] = b"\0\0\0\x01\0\0\0\x02";
-
-const LIST_2: &[u8] = b"\0\0\0\x01\0\0\0\x01\0\0\0\x03\0\0\0\x02";
-
-// (1, ann, 10) and (2, bob, 20), and then (2, bob, 25) and (3, cy, 30).
-const SEGMENT_1: &[u8] = b"\0\0\0\x01\0\0\0\x17\0\0\0\0\0\0\0\x01\0\0\0\x03ann\0\0\0\0\0\0\0\x0a\
-\0\0\0\x02\0\0\0\x17\0\0\0\0\0\0\0\x02\0\0\0\x03bob\0\0\0\0\0\0\0\x14";
-
-const SEGMENT_2: &[u8] = b"\0\0\0\x03\0\0\0\x17\0\0\0\0\0\0\0\x02\0\0\0\x03bob\0\0\0\0\0\0\0\x19\
-\0\0\0\x04\0\0\0\x16\0\0\0\0\0\0\0\x03\0\0\0\x02cy\0\0\0\0\0\0\0\x1e";
-
-// Each stands at the front of a page, in this order.
-const PARTS: [&[u8]; 4] = [LIST_1, SEGMENT_1, LIST_2, SEGMENT_2];
-
-const LISTS: [Extent; 2] = [Extent { page: 0, bytes: 8 }, Extent { page: 2, bytes: 16 }];
-
-const SEGMENTS: [Extent; 2] = [Extent { page: 1, bytes: 62 }, Extent { page: 3, bytes: 61 }];
-
-fn schema_of_people(alloc: Global) -> Result<Schema, Fail> {
-    let mut columns = Vec::new(alloc);
-    for (name, kind) in [
-        ("id", Kind::Int),
-        ("name", Kind::Text),
-        ("score", Kind::Int),
-    ] {
-        let name = Txt::new(alloc, name)?;
-        columns.push(Column { name, kind })?;
-    }
-    let mut key = Vec::new(alloc);
-    key.push(Txt::new(alloc, "id")?)?;
-    Ok(Schema::new(alloc, columns, key)?)
-}
-
-fn area(alloc: Global) -> Result<Vec<u8>, Fail> {
-    let mut bytes = Vec::new(alloc);
-    let mut end = 0usize;
-    for part in PARTS {
-        bytes.resize(end, 0)?;
-        bytes.extend_from_slice(part)?;
-        end = end.saturating_add(4096);
-    }
-    Ok(bytes)
-}
-
-fn host_of(alloc: Global, pages: Vec<u8>) -> MemHost {
-    MemHost::new(alloc, pages, Vec::new(alloc), Vec::new(alloc))
-}
 
 // The records of both versions.
 fn fetched(alloc: Global, host: &mut MemHost, schema: &Schema) -> Result<Records, FetchErr> {
@@ -67,21 +22,16 @@ fn fetched(alloc: Global, host: &mut MemHost, schema: &Schema) -> Result<Records
     rows_of(alloc, host, schema, &SEGMENTS, &LISTS, &members)
 }
 
-fn rids(alloc: Global, records: &Records) -> Result<Vec<u32>, Fail> {
-    let mut rids = Vec::new(alloc);
-    for record in records.as_slice() {
-        rids.push(record.rid)?;
-    }
-    Ok(rids)
-}
-
 #[test]
 fn people_are_fetched_once_in_the_order_of_their_rids(rt: HostRuntime) -> Result<(), Fail> {
     let alloc = rt.alloc();
-    let schema = schema_of_people(alloc)?;
-    let mut host = host_of(alloc, area(alloc)?);
+    let schema = schema(alloc, COLUMNS)?;
+    let mut host = host_of(alloc, area(alloc, &PARTS, &[])?);
     let records = fetched(alloc, &mut host, &schema)?;
-    assert_eq!(rt; rids(alloc, &records)?.as_slice(), [1, 2, 3, 4].as_slice());
+    assert_eq!(rt;
+        rids(alloc, records.as_slice())?.as_slice(),
+        [1, 2, 3, 4].as_slice()
+    );
     assert_eq!(rt; host.calls(), 4);
     Ok(())
 }
@@ -103,12 +53,9 @@ const DAMAGES: [(usize, u8, u32); 10] = [
 #[test]
 fn damage_is_named_by_its_page(rt: HostRuntime) -> Result<(), Fail> {
     let alloc = rt.alloc();
-    let schema = schema_of_people(alloc)?;
+    let schema = schema(alloc, COLUMNS)?;
     for (place, byte, page) in DAMAGES {
-        let mut pages = area(alloc)?;
-        if place < pages.len() {
-            pages[place] = byte;
-        }
+        let pages = area(alloc, &PARTS, &[(place, byte)])?;
         let damaged = fetched(alloc, &mut host_of(alloc, pages), &schema).err();
         assert_eq!(rt; damaged, Some(FetchErr::Damaged { page }), "byte {place}");
     }
@@ -119,32 +66,30 @@ fn damage_is_named_by_its_page(rt: HostRuntime) -> Result<(), Fail> {
 #[test]
 fn a_damaged_segment_leaves_the_others(rt: HostRuntime) -> Result<(), Fail> {
     let alloc = rt.alloc();
-    let schema = schema_of_people(alloc)?;
-    let mut pages = area(alloc)?;
-    if pages.len() > 4099 {
-        pages[4099] = 0;
-    }
-    let mut host = host_of(alloc, pages);
+    let schema = schema(alloc, COLUMNS)?;
+    let mut host = host_of(alloc, area(alloc, &PARTS, &[(4099, 0)])?);
     assert_eq!(rt; rids_of(alloc, &mut host, &schema, SEGMENTS[1])?.len(), 2);
     let first = rids_of(alloc, &mut host, &schema, SEGMENTS[0]);
     assert_eq!(rt; first.err(), Some(FetchErr::Damaged { page: 1 }));
     Ok(())
 }
 
-// The area without its last bytes, and the page that is named; nothing but the last segment is cut.
+// How much of the area there is, and the page that is named.
+const SHORT: [(usize, u32); 6] = [
+    (12_348, 3),
+    (12_319, 3),
+    (12_288, 3),
+    (8207, 2),
+    (4157, 2),
+    (7, 0),
+];
+
 #[test]
 fn a_short_extent_is_named(rt: HostRuntime) -> Result<(), Fail> {
     let alloc = rt.alloc();
-    let schema = schema_of_people(alloc)?;
-    for (len, page) in [
-        (12348, 3),
-        (12319, 3),
-        (12288, 3),
-        (8207, 2),
-        (4157, 2),
-        (7, 0),
-    ] {
-        let mut pages = area(alloc)?;
+    let schema = schema(alloc, COLUMNS)?;
+    for (len, page) in SHORT {
+        let mut pages = area(alloc, &PARTS, &[])?;
         pages.truncate(len);
         let damaged = fetched(alloc, &mut host_of(alloc, pages), &schema).err();
         assert_eq!(rt; damaged, Some(FetchErr::Damaged { page }), "{len} bytes");
@@ -155,8 +100,8 @@ fn a_short_extent_is_named(rt: HostRuntime) -> Result<(), Fail> {
 #[test]
 fn a_member_without_a_record_names_its_list(rt: HostRuntime) -> Result<(), Fail> {
     let alloc = rt.alloc();
-    let schema = schema_of_people(alloc)?;
-    let mut host = host_of(alloc, area(alloc)?);
+    let schema = schema(alloc, COLUMNS)?;
+    let mut host = host_of(alloc, area(alloc, &PARTS, &[])?);
     let one = list_of(alloc, &mut host, LISTS[0])?;
     let two = list_of(alloc, &mut host, LISTS[1])?;
     let [first, _] = SEGMENTS;
@@ -177,17 +122,16 @@ fn is_bob(record: &Record, score: i64) -> bool {
 #[test]
 fn the_first_segment_gives_the_record(rt: HostRuntime) -> Result<(), Fail> {
     let alloc = rt.alloc();
-    let schema = schema_of_people(alloc)?;
-    let mut pages = area(alloc)?;
-    if pages.len() > 12291 {
-        pages[12291] = 2;
-    }
-    let mut host = host_of(alloc, pages);
+    let schema = schema(alloc, COLUMNS)?;
+    let mut host = host_of(alloc, area(alloc, &PARTS, &[(12_291, 2)])?);
     let [first, second] = SEGMENTS;
     for (segments, score) in [([first, second], 20), ([second, first], 25)] {
         let members = [list_of(alloc, &mut host, LISTS[0])?];
         let records = rows_of(alloc, &mut host, &schema, &segments, &LISTS[..1], &members)?;
-        assert_eq!(rt; rids(alloc, &records)?.as_slice(), [1, 2].as_slice());
+        assert_eq!(rt;
+            rids(alloc, records.as_slice())?.as_slice(),
+            [1, 2].as_slice()
+        );
         assert!(rt; records.as_slice().iter().any(|one| is_bob(one, score)));
     }
     Ok(())
@@ -197,7 +141,7 @@ fn the_first_segment_gives_the_record(rt: HostRuntime) -> Result<(), Fail> {
 #[test]
 fn a_hundred_thousand_rows_of_a_partition(rt: HostRuntime) -> Result<(), Fail> {
     let alloc = rt.alloc();
-    let schema = schema_of_people(alloc)?;
+    let schema = schema(alloc, COLUMNS)?;
     let mut pages = Vec::new(alloc);
     let mut odd = Vec::new(alloc);
     for rid in 1..=200_000u32 {
@@ -217,7 +161,7 @@ fn a_hundred_thousand_rows_of_a_partition(rt: HostRuntime) -> Result<(), Fail> {
     let start = Instant::now(&rt)?;
     let records = rows_of(alloc, &mut host, &schema, &[segment], &[list], &members)?;
     let spent = start.elapsed(&rt)?.as_millis();
-    assert!(rt; rids(alloc, &records)?.as_slice() == odd.as_slice());
+    assert!(rt; rids(alloc, records.as_slice())?.as_slice() == odd.as_slice());
     println!(rt; "100,000 rows out of 200,000 in {spent} ms")?;
     Ok(())
 }

@@ -1,5 +1,5 @@
 use Rattle.std.proofs.Common.{◌≡◌, length}
-use Rattle.ov_checkout.proofs.tests.checkout.Given as goal
+use Rattle.test_reading.proofs.checkouts.checkout.Given as goal
 
 abbrev pub invariant-loop-version : goal.invariant-loop-version
 invariant-loop-version l =

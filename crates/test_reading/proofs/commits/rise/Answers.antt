@@ -6,7 +6,7 @@ use Rattle.ov_value.specs.Shapes.{Shape}
 use Rattle.ov_model.specs.Book.{Row}
 use Rattle.ov_model.specs.Lists.{Rises}
 use Rattle.ov_model.proofs.Merging.{below_all}
-use Rattle.ov_records.proofs.tests.rise.Goals as goal
+use Rattle.test_reading.proofs.commits.rise.Goals as goal
 
 row_at : (rows : List Row) (i : ℕ) (row : Row) → i < length rows → row ≡ get_or rows i row → drop i rows ≡ row ∷ drop (i + 1) rows
 row_at rows i row lt is = drop_more rows i row lt ∙ ap (λ r. r ∷ drop (i + 1) rows) (sym is)

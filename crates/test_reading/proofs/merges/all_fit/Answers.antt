@@ -3,7 +3,7 @@ use Rattle.ov_value.specs.Rows.{Fits}
 use Rattle.ov_value.specs.Shapes.{Shape}
 use Rattle.ov_segment.specs.declared.numbered.Record.{Record}
 use Rattle.ov_fetch.specs.Scans.{AllFit}
-use Rattle.ov_merge.proofs.tests.all_fit.Goals as goal
+use Rattle.test_reading.proofs.merges.all_fit.Goals as goal
 
 rows_fit : (schema : Shape) (records : List Record) → ((k : ℕ) (d : Record) → k < length records → Fits schema (get_or records k d).row) → AllFit schema records
 rows_fit schema [] h k d lt = absurd (omega (arith, lt))

@@ -1,6 +1,6 @@
 use Rattle.std.proofs.Common.{◌<◌, ℕ, List, get_or}
 use Rattle.ov_fetch.specs.Scans.{AllStand, InKeyOrder, rows_at}
-use Rattle.ov_merge.proofs.tests.are_picks.Given as goal
+use Rattle.test_reading.proofs.merges.are_picks.Given as goal
 
 abbrev pub invariant-loop-pick : goal.invariant-loop-pick
 invariant-loop-pick l = record {

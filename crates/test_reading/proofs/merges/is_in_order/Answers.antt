@@ -7,7 +7,7 @@ use Rattle.ov_value.specs.Shapes.{Shape}
 use Rattle.ov_segment.specs.declared.numbered.Record.{Record}
 use Rattle.ov_fetch.specs.Scans.{InKeyOrder, row_at, rows_at}
 use Rattle.ov_merge.specs.Places.{place_cmp}
-use Rattle.ov_merge.proofs.tests.is_in_order.Goals as goal
+use Rattle.test_reading.proofs.merges.is_in_order.Goals as goal
 
 rows_ordered : (schema : Shape) (records : List Record) (places : List ℕ)
     → ((k : ℕ) → k + 1 < length places → is_lt (place_cmp schema records (get_or places (k + 1) 0) (get_or places k 0)) ≡ false)

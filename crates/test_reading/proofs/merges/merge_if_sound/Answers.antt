@@ -1,7 +1,7 @@
 use Rattle.std.proofs.Common.{length, ap, subst, sym, ◌∙◌}
 use Rattle.std.specs.List.{All}
 use Rattle.ov_fetch.specs.Scans.{AllFit, AllStand, InKeyOrder, rows_at}
-use Rattle.ov_merge.proofs.tests.merge_if_sound.Goals as goal
+use Rattle.test_reading.proofs.merges.merge_if_sound.Goals as goal
 
 pub merge-requires : goal.merge-requires
 merge-requires c =

@@ -6,7 +6,7 @@ use Rattle.ov_segment.specs.declared.numbered.Record.{Record}
 use Rattle.ov_segment.specs.Segments.{AreRecords}
 use Rattle.ov_fetch.specs.Scans.{IsSound, AllStand, InKeyOrder, rows_at}
 use Rattle.ov_fetch.proofs.Fitting.{records_fit}
-use Rattle.ov_csv.proofs.scan_tests.text_at.Goals as goal
+use Rattle.test_text.proofs.scans.text_at.Goals as goal
 
 -- a scan of no versions is sound where its rows fit
 sound_of_none : (schema : Shape) (vids : List ℕ) (records : List Record) (picks : List (List ℕ)) → vids ≡ [] → picks ≡ [] → AreRecords schema 0 records → IsSound schema (record { vids = vids; records = records; picks = picks })
