@@ -1,17 +1,14 @@
 //! The text of rows of a scan.
 
-ghost use Rattle.std.specs.Prelude.{◌≡◌, ◌<◌, true};
-ghost use Rattle.std.specs.List.{All};
-ghost use Rattle.ov_segment.specs.Segments.{AreRecords};
+ghost use Rattle.std.specs.Bool.{OnTrue};
 ghost use Rattle.ov_fetch.specs.Scans.{AllStand};
 
 use crate::schemas::{PEOPLE, schema};
 use ov_csv::write_csv;
-use ov_fetch::{Picks, Scan, Vids};
-use ov_segment::{Records, read_segment};
-use ov_value::Schema;
-use std::alloc::{AllocError, Global};
-use std::process::Abort;
+use ov_fetch::Vids;
+use ov_scan::scan_of;
+use ov_segment::{Record, read_segment};
+use std::alloc::Global;
 use std::test::Fail;
 
 // The records 1 to 4: (1, ann, 10), (2, bob, 20), (2, bob, 25), (3, cy, 30).
@@ -20,11 +17,11 @@ const SEGMENT: &[u8] = b"\0\0\0\x01\0\0\0\x17\0\0\0\0\0\0\0\x01\0\0\0\x03ann\0\0
 \0\0\0\x03\0\0\0\x17\0\0\0\0\0\0\0\x02\0\0\0\x03bob\0\0\0\0\0\0\0\x19\
 \0\0\0\x04\0\0\0\x16\0\0\0\0\0\0\0\x03\0\0\0\x02cy\0\0\0\0\0\0\0\x1e";
 
-fn all_below(places: &[usize], len: usize) -> bool
-    ensures { result ≡ true → All (λ place. place < len) places.now }
+fn all_stand(records: &[Record], places: &[usize]) -> bool
+    ensures { OnTrue result (AllStand records.now places.now) }
 {
     for place in places {
-        if *place >= len {
+        if *place >= records.len() {
             return false;
         }
     }
@@ -32,32 +29,16 @@ fn all_below(places: &[usize], len: usize) -> bool
 }
 
 // The text of the records at these places.
-fn text_at(
-    alloc: Global,
-    schema: &Schema,
-    records: Records,
-    places: &[usize],
-) -> Result<Vec<u8>, AllocError>
-    requires fit { AreRecords schema.now 0 records }
-    requires stand { AllStand records places.now }
-{
-    let scan = Scan {
-        vids: Vids::new(Vec::new(alloc)),
-        records,
-        picks: Picks::new(Vec::new(alloc)),
-    };
-    write_csv(alloc, schema, &scan, places)
-}
-
-fn people_at(rt: &impl Abort, alloc: Global, places: &[usize]) -> Result<Vec<u8>, Fail> {
+fn people_at(alloc: Global, places: &[usize]) -> Result<Vec<u8>, Fail> {
     let schema = schema(alloc, PEOPLE)?;
-    match read_segment(alloc, &schema, SEGMENT)? {
-        Some(records) => {
-            assert!(rt; all_below(places, records.as_slice().len()));
-            Ok(text_at(alloc, &schema, records, places)?)
-        }
-        None => Err(AllocError.into()),
+    let Some(records) = read_segment(alloc, &schema, SEGMENT)? else {
+        return Err("no segment")?;
+    };
+    let scan = scan_of(alloc, &schema, Vids::new(Vec::new(alloc)), records, &[])?;
+    if !all_stand(scan.records.as_slice(), places) {
+        return Err("a place without a record")?;
     }
+    Ok(write_csv(alloc, &schema, &scan, places)?)
 }
 
 // Places and their text: those of the rows that versions 1,2 and 2,1 have with precedence on the key, where version 1 has
@@ -71,7 +52,7 @@ const TEXTS: [(&[usize], &[u8]); 3] = [
 #[test]
 fn the_text_of_people(rt: HostRuntime) -> Result<(), Fail> {
     for (places, text) in TEXTS {
-        assert_eq!(rt; people_at(&rt, rt.alloc(), places)?.as_slice(), text);
+        assert_eq!(rt; people_at(rt.alloc(), places)?.as_slice(), text);
     }
     Ok(())
 }
