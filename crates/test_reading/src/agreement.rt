@@ -2,10 +2,10 @@
 
 ghost use Rattle.std.specs.Bool.{OnTrue};
 ghost use Rattle.std.specs.List.{All};
-ghost use Rattle.ov_agree.specs.Differing.{HasNoRidTwice};
+ghost use Rattle.law_commits.specs.Differing.{HasNoRidTwice};
 
 use crate::pairs::{Listed, parents_of, row_of};
-use ov_agree::first_disagreeing;
+use ov_parents::first_disagreeing;
 use ov_segment::{Record, Records};
 use std::alloc::{AllocError, Global};
 use std::test::Fail;

@@ -1,5 +1,5 @@
 //! The tests of reading: rows fetched from pages, versions and commits' parents, merges, checkouts, and the rids of a commit
-//! (`ov_fetch`, `ov_versions`, `ov_parents`, `ov_merge`, `ov_checkout`, `ov_records`, `ov_agree`).
+//! (`ov_fetch`, `ov_read`, `ov_parents`, `ov_merge`, `ov_checkout`, `ov_records`).
 //!
 //! In a crate of their own they are proved without proving those crates once more.
 #![tactic(auto)]

@@ -10,8 +10,8 @@ use ov_catalog::Cvd;
 use ov_fetch::FetchErr;
 use ov_member::Members;
 use ov_parents::parents_of;
+use ov_read::has_version;
 use ov_segment::Records;
-use ov_versions::has_version;
 use std::alloc::Global;
 use std::test::Fail;
 

@@ -6,7 +6,7 @@ use ov_catalog::Cvd;
 use ov_fetch::{FetchErr, Scan};
 use ov_layout::Part;
 use ov_memhost::MemHost;
-use ov_versions::{PartRids, has_version, lists_of, read_versions, rids_together, scan_versions};
+use ov_read::{PartRids, has_version, lists_of, read_versions, rids_together, scan_versions};
 use std::alloc::Global;
 use std::test::Fail;
 

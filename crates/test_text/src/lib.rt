@@ -1,5 +1,5 @@
 //! The tests of texts: the program's words, script lines, tokens, queries with their kinds and terms, replies, and CSV files
-//! (`ov_words`, `ov_cmd`, `ov_lex`, `ov_parse`, `ov_typing`, `ov_terms`, `ov_reply`, `ov_csv`).
+//! (`ov_args`, `ov_cmd`, `ov_lex`, `ov_parse`, `ov_typing`, `ov_terms`, `ov_reply`, `ov_csv`).
 //!
 //! In a crate of their own they are proved without proving those crates once more.
 #![tactic(auto)]

@@ -6,7 +6,7 @@ ghost use Rattle.ov_fetch.specs.Scans.{AllStand};
 use crate::schemas::{PEOPLE, schema};
 use ov_csv::write_csv;
 use ov_fetch::Vids;
-use ov_scan::scan_of;
+use ov_read::scan_of;
 use ov_segment::{Record, read_segment};
 use std::alloc::Global;
 use std::test::Fail;

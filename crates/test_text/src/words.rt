@@ -1,7 +1,7 @@
 //! Lists of words with what comes of each.
 
+use ov_args::{WordsErr, options};
 use ov_value::Txt;
-use ov_words::{WordsErr, options};
 use std::alloc::{AllocError, Global};
 use std::test::Fail;
 

@@ -1,6 +1,6 @@
 use Rattle.std.proofs.Common.{◌<◌, ℕ, List, get_or}
 use Rattle.ov_segment.specs.declared.numbered.Record.{Record}
-use Rattle.ov_agree.specs.Differing.{HasNoRidTwice}
+use Rattle.law_commits.specs.Differing.{HasNoRidTwice}
 use Rattle.test_reading.proofs.agreement.all_ascend.Given as goal
 
 abbrev pub invariant-loop-parent : goal.invariant-loop-parent

@@ -4,7 +4,7 @@ use Rattle.std.proofs.lemmas.List.{map-append, take_all, take_more}
 use Rattle.ov_segment.specs.declared.numbered.Record.{Record}
 use Rattle.ov_model.specs.Placed.{times}
 use Rattle.ov_model.proofs.Counting.{one_if, one_other, times-append}
-use Rattle.ov_agree.specs.Differing.{rids_of}
+use Rattle.law_commits.specs.Differing.{rids_of}
 use Rattle.test_reading.proofs.agreement.ascend.Goals as goal
 
 module _ (records : List Record) (k : ℕ) (r : Record) (low : k < length records) (is : r ≡ get_or records k r) where

@@ -1,6 +1,6 @@
 use Rattle.std.proofs.Common.{◌≡◌, ◌≤◌, ◌<◌, ℕ, take}
 use Rattle.ov_model.specs.Placed.{times}
-use Rattle.ov_agree.specs.Differing.{rids_of}
+use Rattle.law_commits.specs.Differing.{rids_of}
 use Rattle.test_reading.proofs.agreement.ascend.Given as goal
 
 abbrev pub invariant-loop-record : goal.invariant-loop-record
