@@ -8,7 +8,7 @@ use Rattle.ov_memhost.specs.Named.{files_of}
 use Rattle.ov_memhost.specs.Source.{script_of}
 use Rattle.ov_memhost.specs.Stage.{new_staged, staged_of}
 use Rattle.ov_top.specs.Ending.{Ends}
-use Rattle.ov_trials.specs.declared.Trial.{Trial}
+use Rattle.test_program.specs.declared.Trial.{Trial}
 
 abbrev pub fresh_ends : List ℕ → List (String Global × Vec ℕ Global) → Ends
 fresh_ends script files =

@@ -1,12 +1,28 @@
-//! Whole runs over ends in memory: a script and its files in, what is printed and what lies on the disk out.
+//! Whole runs over ends in memory, and the tests of the program's parts (`ov_top`, `ov_files`, `ov_shown`, `ov_reader`).
 //!
-//! The clause of `run_fresh` is that of `run`, with its premises met: it shows that they can be.
+//! A run takes a script and its files, and what is printed and what lies on the disk come out. The clause of `run_fresh` is
+//! that of `run`, with its premises met: it shows that they can be.
 #![tactic(auto)]
 
 ghost use Rattle.std.specs.Prelude.{IfOk};
 ghost use Rattle.ov_model.specs.World.{empty_world};
 ghost use Rattle.ov_top.specs.Ending.{Plays};
-ghost use Rattle.ov_trials.specs.Fresh.{ends_of, fresh_ends};
+ghost use Rattle.test_program.specs.Fresh.{ends_of, fresh_ends};
+
+#[cfg(test)]
+mod ends;
+#[cfg(test)]
+mod files;
+#[cfg(test)]
+mod lines;
+#[cfg(test)]
+mod listings;
+#[cfg(test)]
+mod runs;
+#[cfg(test)]
+mod scripts;
+#[cfg(test)]
+mod stops;
 
 use ov_memhost::{MemHost, MemSource, MemStage};
 use ov_top::{Status, run};
@@ -43,8 +59,3 @@ pub fn run_fresh(
         stage,
     })
 }
-
-#[cfg(test)]
-mod stop_tests;
-#[cfg(test)]
-mod tests;

@@ -1,9 +1,9 @@
-// What is shown of datasets that a few events made.
-use crate::{cvd_lines, log_lines};
+//! What is shown of datasets that a few events made.
 use ov_catalog::Catalog;
 use ov_event::{Event, Items, Placed, RawSchema};
 use ov_host::Extent;
 use ov_model::{CvdLine, LogLine};
+use ov_shown::{cvd_lines, log_lines};
 use ov_value::{Column, Kind, Txt};
 use std::alloc::Global;
 use std::test::Fail;

@@ -1,7 +1,7 @@
-// Stops and failing calls within a run: what the store opened again says is what it said after the lines that were answered,
-// or after one more.
+//! Stops and failing calls within a run: what the store opened again says is what it said after the lines that were answered,
+//! or after one more.
 use crate::Trial;
-use crate::tests::{files, run_words};
+use crate::ends::{NEVER, files, only, run_words};
 use ov_memhost::{MemHost, MemSource, MemStage};
 use ov_top::Status;
 use std::alloc::{AllocError, Global};
@@ -29,14 +29,6 @@ fn script_of(alloc: Global, lines: &[&str]) -> Result<Vec<u8>, AllocError> {
     }
     Ok(script)
 }
-
-// A list of this number.
-fn only(alloc: Global, number: u64) -> Result<Vec<u64>, AllocError> {
-    Vec::from_slice(alloc, &[number])
-}
-
-// A number that no call has.
-const NEVER: u64 = u64::MAX;
 
 // Which calls fail: one of the host, one of the source and one of the stage.
 type Fails = [u64; 3];

@@ -2,9 +2,9 @@ use Rattle.std.proofs.Common.{◌∙◌}
 use Rattle.ov_memhost.specs.Host.{state_of}
 use Rattle.ov_memhost.specs.Source.{script_of}
 use Rattle.ov_memhost.specs.Stage.{staged_of}
-use Rattle.ov_trials.specs.Fresh.{ends_of}
-use Rattle.ov_trials.proofs.Told.{ends_are, new_host, one_word, plays_fresh}
-use Rattle.ov_trials.proofs.run_fresh.Goals as goal
+use Rattle.test_program.specs.Fresh.{ends_of}
+use Rattle.test_program.proofs.Told.{ends_are, new_host, one_word, plays_fresh}
+use Rattle.test_program.proofs.run_fresh.Goals as goal
 
 pub returns : goal.returns
 returns c =

@@ -16,7 +16,7 @@ use Rattle.ov_model.specs.World.{World, empty_world}
 use Rattle.ov_words.specs.Words.{options_of}
 use Rattle.ov_top.specs.Ending.{Ends, IsTold, Plays}
 use Rattle.ov_top.specs.declared.status.Status.{Status}
-use Rattle.ov_trials.specs.Fresh.{fresh_ends}
+use Rattle.test_program.specs.Fresh.{fresh_ends}
 
 pub one_word : (all none : List (List ℕ)) (word : List ℕ) → all ≡ none ++ word ∷ [] → none ≡ [] → word ≡ codes "s" → all ≡ codes "s" ∷ []
 one_word all none word is empty s = is ∙ (ap (λ (x : List (List ℕ)). x ++ word ∷ []) empty ∙ ap (λ (x : List ℕ). x ∷ []) s)

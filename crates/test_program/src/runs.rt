@@ -1,24 +1,14 @@
-// Scripts with their files, and what they print.
-use crate::{Trial, run_fresh};
-use ov_act_trials::scripts::{
-    AGAIN, DROP, FILES, INIT, KEYS, Line, NOBODY, OFF_LINES, PEOPLE, READ_AND_WRITTEN,
-    THERE_AND_BACK,
+//! Scripts with their files, and what they print.
+use crate::ends::{files, run_words};
+use crate::scripts::{
+    AGAIN, DROP, INIT, KEYS, Line, NOBODY, OFF_LINES, PEOPLE, READ_AND_WRITTEN, THERE_AND_BACK,
 };
+use crate::{Trial, run_fresh};
 use ov_host::Area;
 use ov_memhost::{MemHost, MemSource, MemStage};
-use ov_top::{Status, run};
-use ov_value::Txt;
+use ov_top::Status;
 use std::alloc::{AllocError, Global};
 use std::test::Fail;
-
-pub fn files(alloc: Global) -> Result<Vec<(String, Vec<u8>)>, AllocError> {
-    let mut all = Vec::new(alloc);
-    for (name, bytes) in FILES {
-        let name = String::from_str(alloc, name)?;
-        all.push((name, Vec::from_slice(alloc, bytes)?))?;
-    }
-    Ok(all)
-}
 
 /// The bytes of a script, and those that it prints.
 #[derive(Drop)]
@@ -104,26 +94,6 @@ fn a_line_may_be_too_long(rt: HostRuntime) -> Result<(), Fail> {
     Ok(())
 }
 
-fn words_of(alloc: Global, list: &[&str]) -> Result<Vec<Txt>, AllocError> {
-    let mut words = Vec::new(alloc);
-    for word in list {
-        words.push(Txt::new(alloc, word)?)?;
-    }
-    Ok(words)
-}
-
-/// A run with these words over a host, a source and the files.
-pub fn run_words(
-    alloc: Global,
-    list: &[&str],
-    host: &mut MemHost,
-    source: &mut MemSource,
-    stage: &mut MemStage,
-) -> Result<Status, AllocError> {
-    let words = words_of(alloc, list)?;
-    Ok(run(alloc, words.as_slice(), host, source, stage))
-}
-
 // Words, and how a run of one line with them ends.
 const WORDS: [(&[&str], Status); 9] = [
     (&["s"], Status::Done),
@@ -160,39 +130,38 @@ fn words_are_read(rt: HostRuntime) -> Result<(), Fail> {
     Ok(())
 }
 
-// Journals that are no store's, and how a run on each ends.
-const JOURNALS: [(&[u8], Status); 3] = [
+// A journal without records.
+const NEW: &[u8] = b"\xa5orpheus-cvd\xa5\0\0\0\x01\0\0\0\x26\0\0\0\x02\0\0\0\0\0\0\0\0\0\0\0\0\0\0";
+
+const FOREIGN: &[u8] = b"AAAAAAAAAAAAAAAAAAAAAAAAAAAAAAAAAAAAAAAA";
+
+const OF_FORMAT_7: &[u8] =
+    b"\xa5orpheus-cvd\xa5\0\0\0\x01\0\0\0\x26\0\0\0\x07\0\0\0\0\0\0\0\0\0\0\0\0\0\0";
+
+const OF_A_BAD_HALF: &[u8] =
+    b"\xa5orpheus-cvd\xa5\0\0\0\x01\0\0\0\x25\0\0\0\x02\0\0\0\0\0\0\0\0\0\0\0\0\0\0";
+
+// Journals, how a run on each ends, and what the journal is then. One that was never whole is new.
+const JOURNALS: [(&[u8], Status, &[u8]); 4] = [
+    (FOREIGN, Status::NotAStore, FOREIGN),
+    (OF_FORMAT_7, Status::Format { found: 7 }, OF_FORMAT_7),
     (
-        b"AAAAAAAAAAAAAAAAAAAAAAAAAAAAAAAAAAAAAAAA",
-        Status::NotAStore,
-    ),
-    (
-        b"\xa5orpheus-cvd\xa5\0\0\0\x01\0\0\0\x26\0\0\0\x07\0\0\0\0\0\0\0\0\0\0\0\0\0\0",
-        Status::Format { found: 7 },
-    ),
-    (
-        b"\xa5orpheus-cvd\xa5\0\0\0\x01\0\0\0\x25\0\0\0\x02\0\0\0\0\0\0\0\0\0\0\0\0\0\0",
+        OF_A_BAD_HALF,
         Status::Damaged {
             area: Area::Journal,
             at: 12,
         },
+        OF_A_BAD_HALF,
     ),
+    (b"\0AAAAAAAAAAAAAAAA", Status::Done, NEW),
 ];
 
 #[test]
 fn a_journal_that_is_no_stores_is_kept(rt: HostRuntime) -> Result<(), Fail> {
-    for (journal, status) in JOURNALS {
+    for (journal, status, after) in JOURNALS {
         let mut host = host_of(rt.alloc(), journal)?;
         assert_eq!(rt; ended(rt.alloc(), &["s"], &mut host)?, status);
-        assert_eq!(rt; host.bytes(Area::Journal), journal);
+        assert_eq!(rt; host.bytes(Area::Journal), after);
     }
-    Ok(())
-}
-
-#[test]
-fn a_short_journal_is_new(rt: HostRuntime) -> Result<(), Fail> {
-    let mut host = host_of(rt.alloc(), b"\0AAAAAAAAAAAAAAAA")?;
-    assert_eq!(rt; ended(rt.alloc(), &["s"], &mut host)?, Status::Done);
-    assert_eq!(rt; host.bytes(Area::Journal).len(), 39);
     Ok(())
 }

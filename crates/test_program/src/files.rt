@@ -1,6 +1,7 @@
-// Files of a stage in memory: what is said of each, what is put, and calls that fail.
-use crate::{FileErr, FileRows, put_file, rows_of_file};
+//! Files of a stage in memory: what is said of each, what is put, and calls that fail.
+use crate::ends::{NEVER, only};
 use ov_csv::write_rows;
+use ov_files::{FileErr, FileRows, put_file, rows_of_file};
 use ov_memhost::MemStage;
 use ov_model::Refusal;
 use ov_value::{Column, Kind, Schema, Txt};
@@ -33,11 +34,8 @@ fn schema(alloc: Global) -> Result<Schema, Fail> {
 fn stage_of(alloc: Global, name: &str, bytes: Vec<u8>, fails: u64) -> Result<MemStage, Fail> {
     let mut files = Vec::new(alloc);
     files.push((String::from_str(alloc, name)?, bytes))?;
-    Ok(MemStage::new(alloc, files, vec![in alloc; fails]?))
+    Ok(MemStage::new(alloc, files, only(alloc, fails)?))
 }
-
-// A number that no call has.
-const NEVER: u64 = u64::MAX;
 
 // What is said of the file of this name: the text of its rows, or the refusal.
 fn said(alloc: Global, stage: &mut MemStage, name: &str) -> Result<Vec<u8>, Fail> {

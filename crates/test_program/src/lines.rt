@@ -1,6 +1,6 @@
 //! Scripts by their lines.
-use crate::Reader;
 use ov_memhost::MemSource;
+use ov_reader::Reader;
 use std::alloc::{AllocError, Global};
 use std::test::Fail;
 
