@@ -99,29 +99,29 @@ const EARLIER_FIRST: &[u8] = b"id,name,score\n1,ann,10\n2,bob,20\n3,cy,30\n";
 
 const LATER_FIRST: &[u8] = b"id,name,score\n1,ann,10\n2,bob,21\n3,cy,30\n";
 
-// Versions, how many pages they take, and checkouts: of a key that several versions have, the row of the version that is
+// Versions, how many bytes of pages they take, and checkouts: of a key that several versions have, the row of the version that is
 // listed first.
 struct History {
     steps: &'static [Step],
-    pages: usize,
+    bytes: usize,
     texts: &'static [(&'static [u64], &'static [u8])],
 }
 
-// A list that isn't empty takes a page, and so does a segment.
+// Each list and each segment takes a page, unless it is empty.
 const HISTORIES: [History; 5] = [
     History {
         steps: &[FIRST],
-        pages: 2,
+        bytes: 2 * PAGE,
         texts: &[(&[1], PEOPLE), (&[], NOBODY)],
     },
     History {
         steps: &WITHOUT_ROWS,
-        pages: 0,
+        bytes: 0,
         texts: &[(&[1], NOBODY)],
     },
     History {
         steps: &NEW_ROWS,
-        pages: 4,
+        bytes: 4 * PAGE,
         texts: &[
             (&[1], PEOPLE),
             (&[2], SECOND),
@@ -131,12 +131,12 @@ const HISTORIES: [History; 5] = [
     },
     History {
         steps: &SAME_ROWS,
-        pages: 3,
+        bytes: 3 * PAGE,
         texts: &[(&[1], PEOPLE), (&[2], PEOPLE)],
     },
     History {
         steps: &FOUR_VERSIONS,
-        pages: 7,
+        bytes: 7 * PAGE,
         texts: &[
             (&[1], PEOPLE),
             (&[2], RAISED),
@@ -171,11 +171,7 @@ fn after(alloc: Global, steps: &[Step]) -> Result<MemHost, Fail> {
 fn versions_are_checked_out_alone_and_together(rt: HostRuntime) -> Result<(), Fail> {
     for (nth, history) in HISTORIES.iter().enumerate() {
         let host = after(rt.alloc(), history.steps)?;
-        assert_eq!(rt;
-            host.bytes(Area::Pages).len(),
-            history.pages * PAGE,
-            "{nth}"
-        );
+        assert_eq!(rt; host.bytes(Area::Pages).len(), history.bytes, "{nth}");
         let mut store = Opened::on(rt.alloc(), host)?;
         assert_eq!(rt; versions_of(&store), history.steps.len(), "{nth}");
         for (vids, want) in history.texts {
