@@ -1,4 +1,4 @@
-//! Whole runs over ends in memory, and the tests of the program's parts (`ov_top`, `ov_files`, `ov_shown`, `ov_reader`).
+//! Whole runs over ends in memory, and the tests of the program's parts (`ov_top`, `ov_files`, `ov_listing`, `ov_script`).
 //!
 //! A run takes a script and its files, and what is printed and what lies on the disk come out. The clause of `run_fresh` is
 //! that of `run`, with its premises met: it shows that they can be.

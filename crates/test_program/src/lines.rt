@@ -1,6 +1,6 @@
 //! Scripts by their lines.
 use ov_memhost::MemSource;
-use ov_reader::Reader;
+use ov_script::Reader;
 use std::alloc::{AllocError, Global};
 use std::test::Fail;
 

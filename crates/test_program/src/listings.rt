@@ -2,8 +2,8 @@
 use ov_catalog::Catalog;
 use ov_event::{Event, Items, Placed, RawSchema};
 use ov_host::Extent;
+use ov_listing::{cvd_lines, log_lines};
 use ov_model::{CvdLine, LogLine};
-use ov_shown::{cvd_lines, log_lines};
 use ov_value::{Column, Kind, Txt};
 use std::alloc::Global;
 use std::test::Fail;

@@ -2,23 +2,23 @@
 
 ghost use Rattle.std.specs.Prelude.{[], ◌∷◌};
 ghost use Rattle.std.specs.List.{All};
-ghost use Rattle.ov_agree.specs.Agreeing.{ParentsAgree};
+ghost use Rattle.law_commits.specs.Agreeing.{ParentsAgree};
 ghost use Rattle.ov_catalog.specs.Ready.{IsSet};
 ghost use Rattle.ov_catalog.specs.Sets.{set_in};
 ghost use Rattle.ov_records.specs.Records.{InKeyOrder};
-ghost use Rattle.ov_versions.specs.Agreement.{IsThere};
+ghost use Rattle.ov_read.specs.Agreement.{IsThere};
 
 use crate::people::{JOURNAL, RAISED, RAISED_LIST, RAISED_SEGMENT, pages_of_people, rows_in};
 use ov_catalog::Cvd;
-use ov_committing::{Commit, CommitErr, Wanted, commit_of};
 use ov_event::{Event, Placed};
 use ov_member::Members;
 use ov_memhost::MemHost;
+use ov_new_version::{Commit, CommitErr, Wanted, commit_of};
 use ov_open::open;
 use ov_parents::parents_of;
+use ov_read::{PartRids, has_version};
 use ov_segment::Records;
 use ov_value::Txt;
-use ov_versions::{PartRids, has_version};
 use std::alloc::Global;
 use std::test::Fail;
 

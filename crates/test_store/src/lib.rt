@@ -1,4 +1,4 @@
-//! The tests of the store, and of what its commits bring (`ov_store`, `ov_committing`, `ov_writing`).
+//! The tests of the store, and of what its commits bring (`ov_store`, `ov_new_version`, `ov_version_bytes`).
 //!
 //! In a crate of their own they are proved without proving those crates once more.
 #![tactic(auto)]

@@ -8,7 +8,7 @@ use ov_member::Members;
 use ov_place::Place;
 use ov_records::{Assigned, Numbers};
 use ov_value::{Schema, Txt, is_name};
-use ov_writing::{Next, are_given, first_version, next_version};
+use ov_version_bytes::{Next, are_given, first_version, next_version};
 use std::alloc::Global;
 use std::test::Fail;
 
