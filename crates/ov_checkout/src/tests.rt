@@ -4,7 +4,7 @@ use crate::checkout_text;
 use ov_fetch::{FetchErr, Vids, list_of, rows_of};
 use ov_host::Extent;
 use ov_memhost::MemHost;
-use ov_scan::scan_of;
+use ov_read::scan_of;
 use ov_value::{Column, Kind, Schema, Txt};
 use std::alloc::Global;
 use std::test::Fail;

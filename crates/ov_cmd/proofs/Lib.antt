@@ -5,3 +5,5 @@ pub mod Boundaries
 pub mod Splitting
 pub mod Reading
 pub mod Lines
+pub mod FormValues
+pub mod Asking

@@ -5,3 +5,4 @@ pub mod Table
 pub mod Gathered
 pub mod Said
 pub mod Whole
+pub mod Asked

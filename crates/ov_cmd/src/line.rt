@@ -5,6 +5,7 @@ ghost use Rattle.std.specs.Option.{option_map};
 ghost use Rattle.ov_model.specs.Forms.{all_forms, built_forms};
 ghost use Rattle.ov_model.specs.Line.{line_of, by_form, by_name, form_of as form_of_name, first_of, has_second as has_second_of, made_by, read_words as read_words_of, Asks};
 ghost use Rattle.ov_model.specs.Words.{words_of as words_in_text, is_note as is_note_of, next_word as next_word_of, without_blanks as without_blanks_of};
+ghost use Rattle.ov_cmd.specs.Asked.{AsksBuilt};
 ghost use Rattle.ov_cmd.specs.Errors.{Refuses};
 ghost use Rattle.ov_cmd.specs.Following.{next_of};
 ghost use Rattle.ov_cmd.specs.Said.{said, RefusesLine};
@@ -182,9 +183,11 @@ pub fn read_line(alloc: Global, line: &[u8]) -> Result<Option<Command>, LineErr>
     read_line_of(alloc, all(), line)
 }
 
-/// The same, of the commands that the program has so far.
+/// The same, of the commands that the program has so far. A command has what its form reads: a name to begin under, at least
+/// one version, a message of up to 1,024 bytes, no staged table and no added column.
 pub fn read_built_line(alloc: Global, line: &[u8]) -> Result<Option<Command>, LineErr>
     ensures ok { IfOk result (λ c. line_of built_forms line.now ≡ said c) }
+    ensures asked { IfOk result AsksBuilt }
     ensures err { IfErr result (RefusesLine (line_of built_forms line.now)) }
 {
     read_line_of(alloc, built(), line)

@@ -8,9 +8,9 @@ use Rattle.ov_event.specs.Spelling.{IsEvent, spelling}
 use Rattle.ov_journal.specs.Held.{IsAt, kept_by}
 use Rattle.ov_journal.specs.Journal.{Kept, and_one}
 use Rattle.ov_layout.specs.Changes.{extents_of}
-use Rattle.ov_step.specs.declared.run.Run.{Run}
-use Rattle.ov_step.specs.Pages.{range_of, with_run, AreOff}
-use Rattle.ov_step.specs.Steps.{IsAdded, IsFree, IsStored, ranges_of, with_runs}
+use Rattle.ov_publish.specs.declared.run.Run.{Run}
+use Rattle.ov_publish.specs.Pages.{range_of, with_run, AreOff}
+use Rattle.ov_publish.specs.Steps.{IsAdded, IsFree, IsStored, ranges_of, with_runs}
 use Rattle.ov_model.specs.Moves.{Move, moved}
 use Rattle.ov_model.specs.World.{World}
 use Rattle.ov_catalog.specs.Applying.{first_off}
@@ -19,9 +19,9 @@ use Rattle.ov_catalog.specs.Extents.{brought, covers, live}
 use Rattle.ov_catalog.specs.Numbers.{Numbers}
 use Rattle.ov_catalog.specs.Raw.{event_in, numbers_in}
 use Rattle.ov_catalog.specs.Stands.{IsMove}
-use Rattle.ov_image.specs.Pages.{SameLive, pages_in, readings_of}
-use Rattle.ov_fitting.proofs.Asking.{applies_sound}
-use Rattle.ov_fitting.proofs.Committing.{is_move}
+use Rattle.law_image.specs.Pages.{SameLive, pages_in, readings_of}
+use Rattle.law_events.proofs.Asking.{applies_sound}
+use Rattle.law_events.proofs.Committing.{is_move}
 use Rattle.ov_core.specs.declared.brought.Brought.{Brought}
 use Rattle.ov_core.specs.AtWorld.{IsAtWorld, IsAtNext, IsEither}
 use Rattle.ov_core.specs.Brought.{with_extents, Brings, IsUnplaced}

@@ -9,7 +9,7 @@ use Rattle.ov_journal.specs.Held.{IsAt, kept_by}
 use Rattle.ov_journal.specs.Journal.{Kept, and_one}
 use Rattle.ov_pages.specs.Sets.{Reserved}
 use Rattle.ov_pages.specs.Live.{AreReserved}
-use Rattle.ov_step.specs.Steps.{IsAdded, IsFree, IsStored}
+use Rattle.ov_publish.specs.Steps.{IsAdded, IsFree, IsStored}
 use Rattle.ov_model.specs.Moves.{Drop, moved}
 use Rattle.ov_model.specs.World.{World}
 use Rattle.ov_catalog.specs.Applying.{first_off}
@@ -20,8 +20,8 @@ use Rattle.ov_catalog.specs.Raw.{event_in, numbers_in}
 use Rattle.ov_catalog.specs.Reached.{Fits}
 use Rattle.ov_catalog.specs.Stands.{IsMove}
 use Rattle.ov_catalog.proofs.Covering.{live_applied}
-use Rattle.ov_image.specs.Pages.{SameLive, pages_in, readings_of}
-use Rattle.ov_fitting.proofs.Committing.{is_move}
+use Rattle.law_image.specs.Pages.{SameLive, pages_in, readings_of}
+use Rattle.law_events.proofs.Committing.{is_move}
 use Rattle.ov_core.specs.AtWorld.{IsAtWorld, IsAtNext, IsEither}
 use Rattle.ov_core.specs.Held.{Held, IsReplayed}
 use Rattle.ov_core.proofs.Keeping.{replayed_more, served}

@@ -11,7 +11,7 @@ use Rattle.ov_event.specs.Spelling.{spelling, schema, parents, place, IsEvent}
 use Rattle.ov_catalog.specs.Numbers.{SetNumbers, Numbers}
 use Rattle.ov_catalog.specs.Applying.{first_off, commit_off, of_live, set_numbered, is_extent, is_list, is_segment, is_same}
 use Rattle.ov_catalog.specs.Raw.{place_in}
-use Rattle.ov_fitting.proofs.Asking.{applies_sound}
+use Rattle.law_events.proofs.Asking.{applies_sound}
 use Rattle.ov_core.specs.declared.brought.Brought.{Brought}
 use Rattle.ov_core.specs.Brought.{extent_at, with_extents, BringsRuns, IsUnplaced}
 use Rattle.ov_core.specs.Rooms.{ArePlaced, IsRun, PassesEnd}

@@ -14,9 +14,9 @@ use Rattle.ov_journal.specs.Held as journals
 use Rattle.ov_journal.specs.Held.{IsAt, kept_by}
 use Rattle.ov_journal.specs.Journal.{Kept, IsJournal, Holds, and_one, end_of}
 use Rattle.ov_journal.proofs.Unique.{one_thing}
-use Rattle.ov_step.specs.Pages.{SameOn}
-use Rattle.ov_step.specs.Puts.{PagesAtRest}
-use Rattle.ov_step.specs.Steps.{IsAdded, IsFree, IsStored}
+use Rattle.ov_publish.specs.Pages.{SameOn}
+use Rattle.ov_publish.specs.Puts.{PagesAtRest}
+use Rattle.ov_publish.specs.Steps.{IsAdded, IsFree, IsStored}
 use Rattle.ov_core.specs.Brought.{with_extents}
 use Rattle.ov_core.proofs.Extents.{spelled_same}
 

@@ -9,16 +9,16 @@ use Rattle.ov_host.specs.Disk.{IsWritten}
 use Rattle.ov_event.specs.declared.event.Event as raw
 use Rattle.ov_event.specs.declared.event.Event.TheVariants as says
 use Rattle.ov_layout.specs.Changes.{extents_of}
-use Rattle.ov_step.specs.Pages.{whole_pages, range_of, with_run, AreOff, AreThere, SameOn}
-use Rattle.ov_step.proofs.Overwriting.{run_is_read, run_there, run_longer, first_read, both_same}
+use Rattle.ov_publish.specs.Pages.{whole_pages, range_of, with_run, AreOff, AreThere, SameOn}
+use Rattle.ov_publish.proofs.Overwriting.{run_is_read, run_there, run_longer, first_read, both_same}
 use Rattle.ov_catalog.specs.Extents.{brought, covers, has_page}
 use Rattle.ov_catalog.specs.Events.{Init, Commit}
 use Rattle.ov_catalog.specs.Raw.{event_in, place_in, shape_in}
 use Rattle.ov_catalog.specs.Stands.{seen_event}
-use Rattle.ov_image.specs.Lists.{list_in}
-use Rattle.ov_image.specs.Pages.{SameLive, pages_in, extent_bytes, read_whole, readings_of}
-use Rattle.ov_image.specs.Segments.{segment_in}
-use Rattle.ov_image.proofs.Standing.{same_pages}
+use Rattle.law_image.specs.Lists.{list_in}
+use Rattle.law_image.specs.Pages.{SameLive, pages_in, extent_bytes, read_whole, readings_of}
+use Rattle.law_image.specs.Segments.{segment_in}
+use Rattle.law_image.proofs.Standing.{same_pages}
 use Rattle.ov_core.specs.Brought.{content, segments_in, with_extents, BringsRuns}
 use Rattle.ov_core.specs.Rooms.{ArePlaced, IsRun}
 

@@ -10,17 +10,17 @@ use Rattle.ov_event.specs.declared.event.Event as raw
 use Rattle.ov_event.specs.Spelling.{IsEvent, spelling}
 use Rattle.ov_journal.specs.Held.{kept_by}
 use Rattle.ov_journal.specs.Journal.{Kept, IsJournal, and_one}
-use Rattle.ov_step.specs.Pages.{AreOff, SameOn}
-use Rattle.ov_step.specs.Steps.{IsAdded, IsFree, IsStored}
+use Rattle.ov_publish.specs.Pages.{AreOff, SameOn}
+use Rattle.ov_publish.specs.Steps.{IsAdded, IsFree, IsStored}
 use Rattle.ov_model.specs.Moves.{Move, moved}
 use Rattle.ov_model.specs.World.{World}
 use Rattle.ov_catalog.specs.Events.{applied}
 use Rattle.ov_catalog.specs.Extents.{live}
 use Rattle.ov_catalog.specs.Raw.{event_in, numbers_in}
 use Rattle.ov_catalog.specs.Stands.{IsMove, StandsFor}
-use Rattle.ov_image.specs.Images.{StandsBy, StandsAs}
-use Rattle.ov_image.specs.Pages.{SameLive, readings_of}
-use Rattle.ov_image.proofs.Standing.{same_world, other_pages, one_more}
+use Rattle.law_image.specs.Images.{StandsBy, StandsAs}
+use Rattle.law_image.specs.Pages.{SameLive, readings_of}
+use Rattle.law_image.proofs.Standing.{same_world, other_pages, one_more}
 use Rattle.ov_core.specs.AtWorld.{IsAtWorld, IsAtNext, IsEither}
 use Rattle.ov_core.specs.Held.{Held}
 use Rattle.ov_core.proofs.Growing as growing

@@ -7,10 +7,10 @@ use Rattle.ov_host.specs.Disk.{Image, as_read}
 use Rattle.ov_host.specs.Host.{State}
 use Rattle.ov_event.specs.declared.event.Event.{Event}
 use Rattle.ov_journal.specs.Held.{IsAt, kept_by}
-use Rattle.ov_step.specs.Puts.{PagesAtRest}
+use Rattle.ov_publish.specs.Puts.{PagesAtRest}
 use Rattle.ov_model.specs.World.{World}
 use Rattle.ov_catalog.specs.Raw.{numbers_in}
-use Rattle.ov_image.specs.Images.{StandsAs, StandsBy}
+use Rattle.law_image.specs.Images.{StandsAs, StandsBy}
 use Rattle.ov_core.specs.Held.{Held}
 
 pub record IsAtWorld (w : World) (held : Held) (s : State) : Type 0 where

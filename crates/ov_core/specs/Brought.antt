@@ -14,8 +14,8 @@ use Rattle.ov_catalog.specs.Raw.{event_in}
 use Rattle.ov_catalog.specs.Reached.{Fits}
 use Rattle.ov_catalog.specs.Shown.{Rids, Records}
 use Rattle.ov_catalog.specs.Stands.{asked_event}
-use Rattle.ov_image.specs.Lists.{list_in}
-use Rattle.ov_image.specs.Segments.{segment_in}
+use Rattle.law_image.specs.Lists.{list_in}
+use Rattle.law_image.specs.Segments.{segment_in}
 use Rattle.ov_core.specs.declared.brought.Brought.{Brought}
 
 -- bytes from a page on; where there are none, the page is 0

@@ -12,7 +12,7 @@ use Rattle.ov_catalog.specs.Applying.{AllApply}
 use Rattle.ov_catalog.specs.Extents.{covers, live}
 use Rattle.ov_catalog.specs.Numbers.{Numbers, nothing_yet}
 use Rattle.ov_catalog.specs.Raw.{numbers_in}
-use Rattle.ov_image.specs.Pages.{pages_in}
+use Rattle.law_image.specs.Pages.{pages_in}
 
 pub record Held : Type 0 where
   pub journal : journals.Numbers

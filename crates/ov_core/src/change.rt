@@ -4,7 +4,7 @@ ghost use Rattle.ov_event.specs.declared.event.Event.TheVariants as says;
 ghost use Rattle.ov_event.specs.Spelling.{IsEvent, spelling};
 ghost use Rattle.ov_host.specs.Stops.{Only};
 ghost use Rattle.ov_journal.specs.Held.{Passes, IsAt};
-ghost use Rattle.ov_step.specs.Puts.{PagesAtRest};
+ghost use Rattle.ov_publish.specs.Puts.{PagesAtRest};
 ghost use Rattle.ov_model.specs.Moves.{Move, Drop as DropMove, moved};
 ghost use Rattle.ov_model.specs.World.{World};
 ghost use Rattle.ov_catalog.specs.Applying.{first_off};
@@ -21,7 +21,7 @@ use crate::runs::{free_all, free_runs, reserve_runs};
 use crate::writing::{placed, ready, write_change};
 use ov_event::Event;
 use ov_host::Host;
-use ov_step::{Run, add_bare};
+use ov_publish::{Run, add_bare};
 use std::alloc::Global;
 
 impl Core {

@@ -6,7 +6,7 @@ ghost use Rattle.ov_event.specs.Fitting.{Fits};
 ghost use Rattle.ov_event.specs.Spelling.{spelling};
 ghost use Rattle.ov_journal.specs.Held.{Passes, IsAt, kept_by};
 ghost use Rattle.ov_journal.specs.Journal.{and_one};
-ghost use Rattle.ov_step.specs.Steps.{IsAdded, IsFree, IsStored, with_runs, ranges_of};
+ghost use Rattle.ov_publish.specs.Steps.{IsAdded, IsFree, IsStored, with_runs, ranges_of};
 ghost use Rattle.ov_catalog.specs.Applying.{first_off};
 ghost use Rattle.ov_catalog.specs.Events.{applied};
 ghost use Rattle.ov_catalog.specs.Extents.{given_up};
@@ -21,7 +21,7 @@ use ov_catalog::Catalog;
 use ov_event::{Event, bytes_of};
 use ov_host::{Area, Extent, Host};
 use ov_journal::{Framed, Journal, frame};
-use ov_step::Run;
+use ov_publish::Run;
 use std::alloc::Global;
 
 // The greatest length of the journal, in bytes.
@@ -153,7 +153,7 @@ pub fn write_change<H: Host>(
 {
     let mut freed = Vec::new(alloc);
     let framed = ready(alloc, journal, catalog, &event, &mut freed)?;
-    ov_step::add(journal, host, list, segment, &framed)?;
+    ov_publish::add(journal, host, list, segment, &framed)?;
     catalog.apply_reserved(event, &mut freed);
     Ok(())
 }

@@ -20,8 +20,8 @@ use Rattle.ov_journal.specs.Opened.{HasStood, IsMade, ArePagesSettled}
 use Rattle.ov_catalog.specs.Extents.{AreApart, covers, live}
 use Rattle.ov_catalog.specs.Numbers.{Numbers, nothing_yet}
 use Rattle.ov_catalog.specs.Raw.{numbers_in}
-use Rattle.ov_image.specs.Pages.{pages_in}
-use Rattle.ov_replay.specs.Replaying.{IsReplay, IsStopped}
+use Rattle.law_image.specs.Pages.{pages_in}
+use Rattle.ov_open.specs.Replaying.{IsReplay, IsStopped}
 use Rattle.ov_core.specs.Held.{Held, IsBeside}
 use Rattle.ov_open.specs.declared.errors.OpenErr.{OpenErr}
 use Rattle.ov_open.specs.declared.errors.OpenErr.TheVariants as errors

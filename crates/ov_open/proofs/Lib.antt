@@ -4,3 +4,4 @@ pub mod Counting
 pub mod Worlds
 pub mod Answers
 pub mod Built
+pub mod Taking

@@ -13,9 +13,9 @@ use Rattle.ov_catalog.specs.Extents.{of_plan, of_set, live}
 use Rattle.ov_catalog.specs.Numbers.{VersionNumbers, PartNumbers, PlanNumbers, SetNumbers, Numbers, each_version, each_part, each_plan, each_set, each, nothing_yet}
 use Rattle.ov_catalog.specs.Raw.{event_in, place_in, shape_in}
 use Rattle.ov_catalog.proofs.Filling.{applied_each}
-use Rattle.ov_fitting.specs.Fitting.{IsSoundEvent}
-use Rattle.ov_fitting.proofs.Asking.{applies_sound}
-use Rattle.ov_replay.specs.Replaying.{IsReplay}
+use Rattle.law_events.specs.Fitting.{IsSoundEvent}
+use Rattle.law_events.proofs.Asking.{applies_sound}
+use Rattle.ov_open.specs.Replaying.{IsReplay}
 
 -- ---- an extent that is too high goes; so what stays as it is isn't
 

@@ -1,3 +1,4 @@
 pub mod Opening
 pub mod Refusing
 pub mod Building
+pub mod Replaying

@@ -9,9 +9,9 @@ use Rattle.ov_journal.specs.Held.{IsAt}
 use Rattle.ov_journal.specs.Opened.{HasStood, IsMade, ArePagesSettled}
 use Rattle.ov_model.specs.World.{World}
 use Rattle.ov_catalog.specs.Extents.{AreApart, live}
-use Rattle.ov_image.specs.Images.{StandsAs}
-use Rattle.ov_image.specs.Pages.{pages_in}
-use Rattle.ov_replay.specs.Replaying.{IsReplay}
+use Rattle.law_image.specs.Images.{StandsAs}
+use Rattle.law_image.specs.Pages.{pages_in}
+use Rattle.ov_open.specs.Replaying.{IsReplay}
 use Rattle.ov_core.specs.Held.{Held}
 use Rattle.ov_open.specs.declared.errors.OpenErr.{OpenErr}
 use Rattle.ov_open.specs.declared.errors.OpenErr.TheVariants as errors

@@ -10,8 +10,8 @@ use Rattle.ov_journal.specs.Journal.{Kept, AreaIs, Unmade, Foreign, OfFormat, Da
 use Rattle.ov_journal.specs.Opened.{IsMaking}
 use Rattle.ov_catalog.specs.Extents.{covers, live}
 use Rattle.ov_catalog.specs.Numbers.{Numbers}
-use Rattle.ov_image.specs.Pages.{pages_in}
-use Rattle.ov_replay.specs.Replaying.{IsReplay, IsStopped}
+use Rattle.law_image.specs.Pages.{pages_in}
+use Rattle.ov_open.specs.Replaying.{IsReplay, IsStopped}
 use Rattle.ov_open.specs.declared.errors.OpenErr.{OpenErr}
 use Rattle.ov_open.specs.declared.errors.OpenErr.TheVariants as errors
 

@@ -2,18 +2,18 @@
 
 ghost use Rattle.std.specs.Prelude.{◌≡◌, None, MatchResult};
 ghost use Rattle.ov_pages.specs.Live.{AreReserved, too_high_page};
-ghost use Rattle.ov_replay.specs.Replaying.{IsReplay};
+ghost use Rattle.ov_open.specs.Replaying.{IsReplay};
 ghost use Rattle.ov_open.specs.Building.{AreThere, IsBuilt, NotBuilt, NotReplayed, NotReserved, gate_within};
 
 use crate::errors::OpenErr;
 use crate::extents::live;
 use crate::missing::first_missing;
+use crate::replaying::{ReplayErr, replay};
 use ov_catalog::Catalog;
 use ov_core::Core;
 use ov_host::{Area, Extent};
 use ov_journal::{Journal, Payload};
 use ov_pages::Pages;
-use ov_replay::{ReplayErr, replay};
 use std::alloc::Global;
 
 // The bytes of a record beside its payload: its gate, and the payload's length.

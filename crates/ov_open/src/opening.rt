@@ -7,7 +7,7 @@ ghost use Rattle.ov_host.specs.Stops.{Only};
 ghost use Rattle.ov_journal.specs.Held.{Passes};
 ghost use Rattle.ov_journal.specs.Opened.{IsLeftByOpen};
 ghost use Rattle.ov_model.specs.World.{World};
-ghost use Rattle.ov_image.specs.Images.{StandsAs};
+ghost use Rattle.law_image.specs.Images.{StandsAs};
 ghost use Rattle.ov_core.specs.AtWorld.{IsAtWorld};
 ghost use Rattle.ov_core.specs.Held.{IsBeside};
 ghost use Rattle.ov_open.specs.Opening.{IsOpened, IsOutside, IsWorld};

@@ -1,4 +1,4 @@
-//! The tests of steps on a disk, replays and openings (`ov_step`, `ov_replay`, `ov_open`).
+//! The tests of steps on a disk, replays and openings (`ov_publish`, `ov_replay`, `ov_open`).
 //!
 //! In a crate of their own they are proved without proving those crates once more.
 #![tactic(auto)]

@@ -2,7 +2,7 @@
 use ov_catalog::{ApplyErr, Catalog, Field};
 use ov_event::{Event, read_event};
 use ov_journal::Payload;
-use ov_replay::{ReplayErr, replay};
+use ov_open::{ReplayErr, replay};
 use std::alloc::Global;
 use std::test::Fail;
 use std::time::Instant;

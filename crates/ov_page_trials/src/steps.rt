@@ -2,7 +2,7 @@
 use ov_host::Area;
 use ov_journal::{Journal, frame};
 use ov_memhost::MemHost;
-use ov_step::{Run, add};
+use ov_publish::{Run, add};
 use std::alloc::Global;
 use std::process::Abort;
 use std::test::Fail;

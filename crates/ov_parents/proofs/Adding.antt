@@ -14,7 +14,7 @@ use Rattle.ov_catalog.specs.Events.{numbered, version_of, with_version, change, 
 use Rattle.ov_catalog.specs.Numbers.{VersionNumbers, nothing_yet}
 use Rattle.ov_catalog.specs.Numbers.{Numbers as Catalog}
 use Rattle.ov_catalog.specs.Raw.{place_in, event_in, numbers_in}
-use Rattle.ov_versions.specs.Agreement.{Numbers}
+use Rattle.ov_read.specs.Agreement.{Numbers}
 use Rattle.ov_parents.specs.Parents.{IsCounted}
 
 abbrev IsSum : Numbers → Type 0

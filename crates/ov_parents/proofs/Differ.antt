@@ -7,10 +7,10 @@ use Rattle.ov_segment.specs.declared.numbered.Record.{Record}
 use Rattle.ov_fetch.specs.declared.errors.FetchErr.{FetchErr}
 use Rattle.ov_fetch.specs.declared.errors.FetchErr.TheVariants.{Host, Memory, Damaged}
 use Rattle.ov_records.specs.Records.{lists_of, pairs_of}
-use Rattle.ov_agree.specs.Agreeing.{EachAgrees}
-use Rattle.ov_agree.specs.Differing.{HasNoRidTwice, IsFirstDisagreeing}
-use Rattle.ov_versions.specs.Agreement.{Numbers, list_of}
-use Rattle.ov_versions.specs.Damages.{RefusesScan}
+use Rattle.law_commits.specs.Agreeing.{EachAgrees}
+use Rattle.law_commits.specs.Differing.{HasNoRidTwice, IsFirstDisagreeing}
+use Rattle.ov_read.specs.Agreement.{Numbers, list_of}
+use Rattle.ov_read.specs.Damages.{RefusesScan}
 use Rattle.ov_parents.specs.Parents.{IsParent, RefusesParents}
 
 pub none_twice : (s : Numbers) (vids : List ℕ) (parents : List (List Record)) → EachAgrees s vids parents → All HasNoRidTwice parents

@@ -3,3 +3,4 @@ mod Repeats
 mod Places
 mod Taken
 mod Differ
+pub mod Seen

@@ -11,8 +11,8 @@ use Rattle.ov_model.specs.Placed.{times}
 use Rattle.ov_model.proofs.Counting.{one_if, one_other, one_same, times-append}
 use Rattle.ov_catalog.proofs.Members.{of_append}
 use Rattle.ov_member.specs.Rids.{RiseFrom}
-use Rattle.ov_agree.specs.Agreeing.{AreRids}
-use Rattle.ov_agree.proofs.Times.{in_times, times_in}
+use Rattle.law_commits.specs.Agreeing.{AreRids}
+use Rattle.law_commits.proofs.Times.{in_times, times_in}
 
 -- ---- a walk in order
 

@@ -20,12 +20,12 @@ use Rattle.ov_fetch.proofs.Gathered.{is_among, same_default}
 use Rattle.ov_model.specs.Lists.{IsIn}
 use Rattle.ov_catalog.proofs.Members.{all_at}
 use Rattle.ov_records.specs.Records.{InKeyOrder}
-use Rattle.ov_agree.specs.Agreeing.{AreRids, EachAgrees}
-use Rattle.ov_agree.specs.Differing.{HasNoRidTwice, rids_of}
-use Rattle.ov_versions.specs.Agreement.{Agrees, Numbers, records_after}
-use Rattle.ov_versions.specs.Damages.{RefusesScan}
-use Rattle.ov_versions.specs.Found.{HasRows, IsScanned}
-use Rattle.ov_versions.proofs.Gatherings.{zip_at}
+use Rattle.law_commits.specs.Agreeing.{AreRids, EachAgrees}
+use Rattle.law_commits.specs.Differing.{HasNoRidTwice, rids_of}
+use Rattle.ov_read.specs.Agreement.{Agrees, Numbers, records_after}
+use Rattle.ov_read.specs.Damages.{RefusesScan}
+use Rattle.ov_read.specs.Found.{HasRows, IsScanned}
+use Rattle.ov_read.proofs.Gatherings.{zip_at}
 use Rattle.ov_parents.specs.Parents.{IsCounted, IsParent}
 use Rattle.ov_parents.specs.Taking.{AreTaken, HasOtherRids, HaveRids, RefusesTaken, StandAt}
 use Rattle.ov_parents.proofs.Places.{all_fit, count_is, in_order, same_found}

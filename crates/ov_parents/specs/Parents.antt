@@ -8,10 +8,10 @@ use Rattle.ov_segment.specs.declared.numbered.Record.{Record}
 use Rattle.ov_fetch.specs.declared.errors.FetchErr.{FetchErr}
 use Rattle.ov_fetch.specs.declared.errors.FetchErr.TheVariants.{Host, Memory, Damaged}
 use Rattle.ov_records.specs.Records.{lists_of}
-use Rattle.ov_agree.specs.Differing.{IsFirstDisagreeing}
-use Rattle.ov_versions.specs.Agreement.{Numbers, list_of, records_after}
-use Rattle.ov_versions.specs.Damages.{IsDamage}
-use Rattle.ov_versions.specs.Found.{IsScanned}
+use Rattle.law_commits.specs.Differing.{IsFirstDisagreeing}
+use Rattle.ov_read.specs.Agreement.{Numbers, list_of, records_after}
+use Rattle.ov_read.specs.Damages.{IsDamage}
+use Rattle.ov_read.specs.Found.{IsScanned}
 
 abbrev pub IsCounted : Numbers → Type 0
 IsCounted s = (vid : ℕ) → records_after s vid ≤ s.records

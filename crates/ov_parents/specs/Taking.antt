@@ -8,9 +8,9 @@ use Rattle.ov_segment.specs.declared.numbered.Record.{Record}
 use Rattle.ov_fetch.specs.declared.errors.FetchErr.{FetchErr}
 use Rattle.ov_fetch.specs.declared.errors.FetchErr.TheVariants.{Host, Memory, Damaged}
 use Rattle.ov_fetch.specs.declared.scan.Scan.{Scan}
-use Rattle.ov_agree.specs.Agreeing.{AreRids}
-use Rattle.ov_agree.specs.Differing.{rids_of}
-use Rattle.ov_versions.specs.Agreement.{Numbers, list_of}
+use Rattle.law_commits.specs.Agreeing.{AreRids}
+use Rattle.law_commits.specs.Differing.{rids_of}
+use Rattle.ov_read.specs.Agreement.{Numbers, list_of}
 
 abbrev pub StandAt : List Record → List ℕ → List Record → Type 0
 StandAt records pick found = map (slice_get records) pick ≡ map Some found

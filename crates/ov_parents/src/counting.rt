@@ -6,7 +6,7 @@ ghost use Rattle.ov_model.specs.Lists.{IsIn};
 ghost use Rattle.ov_catalog.specs.Applying.{AllApply};
 ghost use Rattle.ov_catalog.specs.Numbers.{nothing_yet};
 ghost use Rattle.ov_catalog.specs.Raw.{numbers_in};
-ghost use Rattle.ov_versions.specs.Agreement.{Numbers};
+ghost use Rattle.ov_read.specs.Agreement.{Numbers};
 ghost use Rattle.ov_parents.specs.Parents.{IsCounted};
 
 /// After events that applied, each dataset has at least as many records as it had directly after any of its versions.

@@ -5,11 +5,13 @@
 #![tactic(auto)]
 
 mod counting;
+mod disagreeing;
 mod reading;
 mod repeating;
 mod taking;
 
 pub use counting::records_are_counted;
+pub use disagreeing::first_disagreeing;
 pub use reading::{ParentsRead, parents_of};
 
 #[cfg(test)]

@@ -8,20 +8,20 @@ ghost use Rattle.ov_model.specs.Placed.{times};
 ghost use Rattle.ov_fetch.specs.Extents.{Looked, page_bytes};
 ghost use Rattle.ov_fetch.specs.Scans.{AllFit};
 ghost use Rattle.ov_records.specs.Records.{InKeyOrder};
-ghost use Rattle.ov_agree.specs.Agreeing.{EachAgrees, ParentsAgree};
-ghost use Rattle.ov_versions.specs.Agreement.{IsThere, is_served, list_of};
-ghost use Rattle.ov_versions.specs.Damages.{RefusesScan};
-ghost use Rattle.ov_versions.specs.Partitions.{AreHeld};
-ghost use Rattle.ov_versions.specs.Sizes.{bytes_for};
+ghost use Rattle.law_commits.specs.Agreeing.{EachAgrees, ParentsAgree};
+ghost use Rattle.ov_read.specs.Agreement.{IsThere, is_served, list_of};
+ghost use Rattle.ov_read.specs.Damages.{RefusesScan};
+ghost use Rattle.ov_read.specs.Partitions.{AreHeld};
+ghost use Rattle.ov_read.specs.Sizes.{bytes_for};
 ghost use Rattle.ov_parents.specs.Parents.{IsCounted, IsParent, RefusesParents};
 
+use crate::disagreeing::first_disagreeing;
 use crate::taking::take_parents;
-use ov_agree::first_disagreeing;
 use ov_catalog::Cvd;
 use ov_fetch::FetchErr;
 use ov_host::Host;
+use ov_read::{PartRids, VersionsRead, read_versions};
 use ov_segment::Records;
-use ov_versions::{PartRids, VersionsRead, read_versions};
 use std::alloc::Global;
 
 /// What was read of a commit's parents.

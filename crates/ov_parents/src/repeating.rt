@@ -2,8 +2,8 @@
 
 ghost use Rattle.std.specs.Prelude.{◌≡◌, ◌↔◌, IfOk, IsTrue, length};
 ghost use Rattle.std.specs.List.Sorted.{IsNonDecreasing};
-ghost use Rattle.ov_agree.specs.Agreeing.{AreRids};
-ghost use Rattle.ov_agree.specs.Differing.{rids_of};
+ghost use Rattle.law_commits.specs.Agreeing.{AreRids};
+ghost use Rattle.law_commits.specs.Differing.{rids_of};
 ghost use Rattle.ov_parents.specs.Taking.{HaveRids};
 
 use ov_segment::Record;

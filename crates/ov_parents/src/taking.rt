@@ -3,7 +3,7 @@
 ghost use Rattle.std.specs.Prelude.{◌≡◌, ◌<◌, All, IfOk, MatchResult, length};
 ghost use Rattle.ov_catalog.specs.Sets.{set_in};
 ghost use Rattle.ov_fetch.specs.Scans.{AllStand};
-ghost use Rattle.ov_versions.specs.Agreement.{IsThere};
+ghost use Rattle.ov_read.specs.Agreement.{IsThere};
 ghost use Rattle.ov_parents.specs.Taking.{AreTaken, RefusesTaken, StandAt};
 
 use crate::reading::list_page;

@@ -12,9 +12,9 @@ use ov_host::Extent;
 use ov_layout::Layout;
 use ov_member::Members;
 use ov_memhost::MemHost;
+use ov_read::has_version;
 use ov_segment::Records;
 use ov_value::{Column, Kind, Schema, Txt};
-use ov_versions::has_version;
 use std::alloc::{AllocError, Global};
 use std::test::Fail;
 

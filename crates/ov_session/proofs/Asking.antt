@@ -8,8 +8,8 @@ use Rattle.ov_host.specs.Stage.{Files as Map}
 use Rattle.ov_catalog.specs.Reached.{IfThere}
 use Rattle.ov_core.specs.AtWorld.{IsAtWorld}
 use Rattle.ov_core.specs.Held.{Held}
-use Rattle.ov_course.proofs.Doing.{breaks_looked, does_told}
-use Rattle.ov_course.specs.Serving.{Does, files_of}
+use Rattle.law_runs.proofs.Doing.{breaks_looked, does_told}
+use Rattle.law_runs.specs.Serving.{Does, files_of}
 use Rattle.ov_files.specs.Files.{file_rows}
 use Rattle.ov_model.specs.Act.{Deed, Session, commit_deed, commit_refusal, commit_rows, from_file, init_deed, init_refusal, refuses, unless, with_file, with_rows}
 use Rattle.ov_model.specs.Book.{Row}

@@ -8,11 +8,11 @@ use Rattle.ov_host.specs.Host.{State}
 use Rattle.ov_host.specs.Disk.{Image}
 use Rattle.ov_host.specs.Stops.{Only}
 use Rattle.ov_host.proofs.Stops.{only_wider}
-use Rattle.ov_image.specs.Images.{StandsAs}
+use Rattle.law_image.specs.Images.{StandsAs}
 use Rattle.ov_core.specs.AtWorld.{IsAtNext, IsAtWorld, IsEither}
 use Rattle.ov_core.specs.Held.{Held}
-use Rattle.ov_course.specs.Serving.{Breaks, Does}
-use Rattle.ov_course.specs.Stops.{printed_of}
+use Rattle.law_runs.specs.Serving.{Breaks, Does}
+use Rattle.law_runs.specs.Stops.{printed_of}
 use Rattle.ov_fetch.specs.Extents.{Looked}
 use Rattle.ov_model.specs.Act.{Deed, Session, commit_refusal, commit_rows, does, drop_deed, init_refusal, refuses, rows_refusal, with_rows}
 use Rattle.ov_model.specs.Book.{Row}
@@ -23,14 +23,14 @@ use Rattle.ov_model.specs.declared.refusal.Refusal.TheVariants as no
 use Rattle.ov_model.specs.declared.reply.Reply.{Reply}
 use Rattle.ov_model.specs.declared.reply.Reply.TheVariants as says
 use Rattle.ov_open.specs.Opening.{IsWorld}
-use Rattle.ov_room.specs.Room.{Entry, IsWithin, Made}
+use Rattle.law_room.specs.Room.{Entry, IsWithin, Made}
 use Rattle.ov_session.proofs.Calls.{acts_by, change_broken, change_done, change_refused_still, stays_still}
 use Rattle.ov_session.proofs.Deeds.{begin_done, begin_refused, commit_done, commit_refused}
 use Rattle.ov_session.specs.Commands.{Acts, begun}
 use Rattle.ov_session.specs.Errors.{reply_of}
 use Rattle.ov_session.specs.declared.errors.EndErr.{EndErr}
 use Rattle.ov_catalog.specs.Numbers.{SetNumbers}
-use Rattle.ov_sights.specs.Sights.{HasNumbers}
+use Rattle.law_reads.specs.Sights.{HasNumbers}
 use Rattle.ov_store.proofs.Deciding.{counts, set_found}
 use Rattle.ov_store.specs.Beginning.{first_move}
 use Rattle.ov_store.specs.Committing.{IsCommitted, Set, Wish, commit_move, committed, fresh_in_world, with_commit}

@@ -5,9 +5,9 @@ use Rattle.ov_host.specs.Host.{State}
 use Rattle.ov_host.specs.Stops.{Only}
 use Rattle.ov_core.specs.AtWorld.{IsAtNext, IsAtWorld, IsEither}
 use Rattle.ov_core.specs.Held.{Held}
-use Rattle.ov_course.specs.Serving.{Breaks, Does}
-use Rattle.ov_course.specs.Stops.{printed_of}
-use Rattle.ov_course.proofs.Doing.{breaks_move, breaks_where, does_full, does_move, does_no_run, does_told}
+use Rattle.law_runs.specs.Serving.{Breaks, Does}
+use Rattle.law_runs.specs.Stops.{printed_of}
+use Rattle.law_runs.proofs.Doing.{breaks_move, breaks_where, does_full, does_move, does_no_run, does_told}
 use Rattle.ov_fetch.specs.Extents.{Looked}
 use Rattle.ov_model.specs.Act.{Deed, Session, does, refuses}
 use Rattle.ov_model.specs.Moves.{Move, moved}
@@ -16,7 +16,7 @@ use Rattle.ov_model.specs.declared.refusal.Refusal.{Refusal}
 use Rattle.ov_model.specs.declared.reply.Reply.{Reply}
 use Rattle.ov_model.specs.declared.reply.Reply.TheVariants as says
 use Rattle.ov_open.specs.Opening.{IsWorld}
-use Rattle.ov_room.specs.Room.{Entry, IsWithin, Made}
+use Rattle.law_room.specs.Room.{Entry, IsWithin, Made}
 use Rattle.ov_session.specs.Commands.{Acts}
 use Rattle.ov_session.specs.Errors.{reply_of}
 use Rattle.ov_session.specs.declared.errors.EndErr.{EndErr}

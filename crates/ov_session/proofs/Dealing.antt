@@ -8,7 +8,7 @@ use Rattle.ov_host.specs.Tape.{Tape}
 use Rattle.ov_fetch.specs.Extents.{Looked, page_bytes}
 use Rattle.ov_fetch.specs.declared.errors.FetchErr.TheVariants as fetch
 use Rattle.ov_parents.specs.Parents.{IsParent, RefusesParents}
-use Rattle.ov_committing.specs.Joined.{RefusesJoined, joined_of}
+use Rattle.ov_new_version.specs.Joined.{RefusesJoined, joined_of}
 use Rattle.ov_value.specs.declared.column.Column.{Column}
 use Rattle.ov_core.specs.AtWorld.{IsAtWorld}
 use Rattle.ov_core.specs.Held.{Held}

@@ -15,10 +15,10 @@ use Rattle.ov_catalog.specs.Numbers.{SetNumbers}
 use Rattle.ov_checkout.specs.declared.text.Checkout.{Checkout}
 use Rattle.ov_core.specs.AtWorld.{IsAtWorld}
 use Rattle.ov_core.specs.Held.{Held}
-use Rattle.ov_course.specs.Serving.{Breaks, Does, files_of, session_of}
-use Rattle.ov_course.proofs.Doing.{breaks_looked, does_told}
+use Rattle.law_runs.specs.Serving.{Breaks, Does, files_of, session_of}
+use Rattle.law_runs.proofs.Doing.{breaks_looked, does_told}
 use Rattle.ov_fetch.specs.Extents.{Looked}
-use Rattle.ov_image.specs.Pages.{readings_of}
+use Rattle.law_image.specs.Pages.{readings_of}
 use Rattle.ov_model.specs.Act.{Deed, Session, checkout_deed, gives, log_deed, ls_line, merge_of, put, refuses, rows_listed, tells, unless, vids_refusal}
 use Rattle.ov_model.specs.Book.{Row}
 use Rattle.ov_model.specs.Csv.{text_of}
@@ -32,8 +32,8 @@ use Rattle.ov_session.specs.Commands.{Acts, IsMergeOf}
 use Rattle.ov_session.specs.Errors.{reply_of}
 use Rattle.ov_session.specs.declared.errors.EndErr.{EndErr}
 use Rattle.ov_session.proofs.Calls.{acts_by}
-use Rattle.ov_shown.specs.Listed.{shown_cvds, shown_log}
-use Rattle.ov_shown.proofs.Showing.{cvds_shown, log_shown}
+use Rattle.ov_listing.specs.Listed.{shown_cvds, shown_log}
+use Rattle.ov_listing.proofs.Showing.{cvds_shown, log_shown}
 use Rattle.ov_store.specs.Refusals.{refusal_of, refused, vids_off}
 use Rattle.ov_store.specs.Scanning.{IsUnscanned, scan_off, set_in, versions_off}
 use Rattle.ov_store.specs.declared.errors.StoreErr.{StoreErr}

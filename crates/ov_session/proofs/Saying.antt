@@ -5,11 +5,11 @@ use Rattle.ov_host.specs.Host.{Calls, State}
 use Rattle.ov_host.specs.Tape.{Prints}
 use Rattle.ov_core.specs.AtWorld.{IsAtWorld}
 use Rattle.ov_core.specs.Held.{Held}
-use Rattle.ov_course.proofs.Lines.{serves_broken, serves_comment, serves_refusal, serves_refusal_silent, serves_refusal_unsaid, serves_reply, serves_silent, serves_unsaid}
-use Rattle.ov_course.specs.Serving.{Does, Serves, is_error}
+use Rattle.law_runs.proofs.Lines.{serves_broken, serves_comment, serves_refusal, serves_refusal_silent, serves_refusal_unsaid, serves_reply, serves_silent, serves_unsaid}
+use Rattle.law_runs.specs.Serving.{Does, Serves, is_error}
 use Rattle.ov_model.specs.Act.{Session, deed}
 use Rattle.ov_model.specs.Forms.{built_forms}
-use Rattle.ov_course.proofs.Doing.{breaks_looked}
+use Rattle.law_runs.proofs.Doing.{breaks_looked}
 use Rattle.ov_model.specs.Line.{Asks, Comment, Line, Refused, line_of}
 use Rattle.ov_model.specs.Replies.{reply_text}
 use Rattle.ov_model.specs.World.{World}

@@ -9,7 +9,7 @@ use Rattle.ov_host.specs.declared.area.Area.TheVariants.{Pages}
 use Rattle.ov_host.specs.Host.{State}
 use Rattle.ov_host.specs.Stage.{Staged}
 use Rattle.ov_core.specs.Held.{Held}
-use Rattle.ov_course.specs.Serving.{Breaks, Does}
+use Rattle.law_runs.specs.Serving.{Breaks, Does}
 use Rattle.ov_catalog.specs.Reached.{IfThere}
 use Rattle.ov_checkout.specs.declared.text.Checkout.{Checkout}
 use Rattle.ov_model.specs.Act.{Deed, Session, commit_deed, commit_refusal, commit_rows, does, merge_of, refuses, with_rows}

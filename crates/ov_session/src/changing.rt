@@ -7,7 +7,7 @@ ghost use Rattle.ov_value.specs.Spelling.{IsRow};
 ghost use Rattle.ov_model.specs.Act.{Session, commit_deed, commit_refusal, commit_rows, drop_deed, init_deed, init_refusal, with_rows};
 ghost use Rattle.ov_model.specs.World.{World, Dataset, set_named};
 ghost use Rattle.ov_core.specs.AtWorld.{IsAtWorld};
-ghost use Rattle.ov_course.specs.Serving.{files_of, session_of};
+ghost use Rattle.law_runs.specs.Serving.{files_of, session_of};
 ghost use Rattle.ov_store.specs.Beginning.{IsShort};
 ghost use Rattle.ov_store.specs.Committing.{IfSet, IsDamagedAt, Set};
 ghost use Rattle.ov_store.specs.Kept.{MayCall};

@@ -1,7 +1,7 @@
 //! A session: each line of a script is read, done over the store, and answered by one reply.
 //!
 //! What a command means is `deed` of `ov_model`, and what is left by a stop while it is served stands in
-//! `ov_course`'s `Serves`: the World before one of its moves or after it, and of the replies a prefix.
+//! `law_runs`'s `Serves`: the World before one of its moves or after it, and of the replies a prefix.
 #![tactic(auto)]
 
 mod changing;

@@ -2,7 +2,7 @@
 ghost use Rattle.std.specs.Prelude.{◌≡◌, ◌≢◌, ◌≤◌, ℕ, List, true, Some, None, Ok, IsErrOf, IsTrue, IfOk, IfErr, OnOk, is_ok};
 ghost use Rattle.ov_host.specs.Host.{Calls, Rose, State};
 ghost use Rattle.ov_host.specs.Tape.{Prints};
-ghost use Rattle.ov_lines.specs.Asked.{IsAsked};
+ghost use Rattle.ov_cmd.specs.Asked.{IsAsked};
 ghost use Rattle.ov_model.specs.Act.{deed};
 ghost use Rattle.ov_model.specs.Forms.{built_forms};
 ghost use Rattle.ov_model.specs.Line.{Asks, line_of};
@@ -11,7 +11,7 @@ ghost use Rattle.ov_model.specs.Replies.{reply_text};
 ghost use Rattle.ov_model.specs.World.{World};
 ghost use Rattle.ov_value.specs.Naming.{is_name};
 ghost use Rattle.ov_core.specs.AtWorld.{IsAtWorld};
-ghost use Rattle.ov_course.specs.Serving.{Serves, is_error as is_error_of, session_of};
+ghost use Rattle.law_runs.specs.Serving.{Serves, is_error as is_error_of, session_of};
 ghost use Rattle.ov_store.specs.Kept.{Kept, MayCall};
 ghost use Rattle.ov_session.specs.Commands.{Acts, Attended, Goes, IsDamageOf, IsDamaged, IsNoDamage, IsSaid, IsUnsaid, is_comment_in, is_comment_of, is_refused};
 

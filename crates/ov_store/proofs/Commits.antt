@@ -26,22 +26,22 @@ use Rattle.ov_fetch.specs.Extents.{Looked, page_bytes}
 use Rattle.ov_rows.specs.Refusing.{rows_off}
 use Rattle.ov_rows.specs.declared.rows_err.RowsErr.{RowsErr}
 use Rattle.ov_rows.specs.declared.rows_err.RowsErr.TheVariants as rows_err
-use Rattle.ov_agree.proofs.Kept.{none_disagrees}
-use Rattle.ov_agree.proofs.Rids.{length-assigned}
-use Rattle.ov_agree.proofs.Same.{versions_agree}
-use Rattle.ov_versions.specs.Agreement.{IsThere, Numbers}
-use Rattle.ov_versions.specs.OfWorld.{IsSetOf}
-use Rattle.ov_sights.specs.Sights.{HasNumbers}
-use Rattle.ov_sights.proofs.Scanned.{is_stored}
-use Rattle.ov_sights.proofs.Counted.{numbers}
-use Rattle.ov_sights.proofs.Served.{no_damage}
+use Rattle.law_commits.proofs.Kept.{none_disagrees}
+use Rattle.law_commits.proofs.Rids.{length-assigned}
+use Rattle.law_commits.proofs.Same.{versions_agree}
+use Rattle.ov_read.specs.Agreement.{IsThere, Numbers}
+use Rattle.ov_read.specs.OfWorld.{IsSetOf}
+use Rattle.law_reads.specs.Sights.{HasNumbers}
+use Rattle.law_reads.proofs.Scanned.{is_stored}
+use Rattle.law_reads.proofs.Counted.{numbers}
+use Rattle.law_reads.proofs.Served.{no_damage}
 use Rattle.ov_parents.specs.Parents.{IsParent, RefusesParents}
-use Rattle.ov_committing.specs.declared.errors.CommitErr.{CommitErr}
-use Rattle.ov_committing.specs.declared.errors.CommitErr.TheVariants as commit
-use Rattle.ov_committing.specs.Asked.{Asked, rids_of}
-use Rattle.ov_committing.specs.Commits.{IsCommitOf, Refuses}
-use Rattle.ov_committing.specs.Joined.{IsReadOf, RefusesJoined, joined_of}
-use Rattle.ov_committing.specs.OfWorld.{IsAnswered, IsSpared, records_with}
+use Rattle.ov_new_version.specs.declared.errors.CommitErr.{CommitErr}
+use Rattle.ov_new_version.specs.declared.errors.CommitErr.TheVariants as commit
+use Rattle.ov_new_version.specs.Asked.{Asked, rids_of}
+use Rattle.ov_new_version.specs.Commits.{IsCommitOf, Refuses}
+use Rattle.ov_new_version.specs.Joined.{IsReadOf, RefusesJoined, joined_of}
+use Rattle.ov_new_version.specs.OfWorld.{IsAnswered, IsSpared, records_with}
 use Rattle.ov_core.specs.Brought.{content}
 use Rattle.ov_core.specs.Held.{Held}
 use Rattle.ov_core.specs.Rooms.{pages_for}

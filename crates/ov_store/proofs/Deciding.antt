@@ -16,15 +16,15 @@ use Rattle.ov_model.specs.declared.refusal.Refusal.TheVariants as no
 use Rattle.ov_catalog.specs.Numbers.{Numbers}
 use Rattle.ov_catalog.specs.Reached.{Fits}
 use Rattle.ov_fetch.specs.Extents.{page_bytes}
-use Rattle.ov_image.specs.Pages.{readings_of}
+use Rattle.law_image.specs.Pages.{readings_of}
 use Rattle.ov_core.specs.AtWorld.{IsAtWorld}
 use Rattle.ov_core.specs.Held.{Held}
 use Rattle.ov_rows.specs.Refusing.{rows_off, refusal_of as row_refusal}
 use Rattle.ov_rows.specs.declared.rows_err.RowsErr.{RowsErr}
 use Rattle.ov_rows.specs.declared.rows_err.RowsErr.TheVariants as rows_err
 use Rattle.ov_rows.proofs.Agreeing.{never_memory, refused_alike}
-use Rattle.ov_sights.specs.Sights.{HasNumbers}
-use Rattle.ov_sights.proofs.Counted.{numbers}
+use Rattle.law_reads.specs.Sights.{HasNumbers}
+use Rattle.law_reads.proofs.Counted.{numbers}
 use Rattle.ov_store.specs.declared.errors.StoreErr.{StoreErr}
 use Rattle.ov_store.specs.declared.errors.StoreErr.TheVariants as why
 use Rattle.ov_store.specs.Beginning.{init_off}

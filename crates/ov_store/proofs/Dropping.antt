@@ -13,7 +13,7 @@ use Rattle.ov_catalog.specs.Numbers.{SetNumbers, Numbers, each_set}
 use Rattle.ov_catalog.specs.Reached.{Fits, IfThere}
 use Rattle.ov_catalog.specs.Shown.{shown, shown_set}
 use Rattle.ov_catalog.specs.Stands.{Readings, seen, asked}
-use Rattle.ov_image.specs.Pages.{readings_of}
+use Rattle.law_image.specs.Pages.{readings_of}
 use Rattle.ov_core.specs.AtWorld.{IsAtWorld}
 use Rattle.ov_core.specs.Held.{Held}
 use Rattle.ov_store.specs.Dropping.{number_named, dropped, without}

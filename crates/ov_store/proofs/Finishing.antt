@@ -9,12 +9,12 @@ use Rattle.ov_model.specs.Book.{Row}
 use Rattle.ov_model.specs.Moves.{moved}
 use Rattle.ov_model.specs.World.{Dataset, World, set_named}
 use Rattle.ov_catalog.specs.Extents.{live}
-use Rattle.ov_image.specs.Pages.{readings_of}
+use Rattle.law_image.specs.Pages.{readings_of}
 use Rattle.ov_core.specs.AtWorld.{IsAtWorld}
 use Rattle.ov_core.specs.Held.{Held}
 use Rattle.ov_fetch.specs.Extents.{Looked}
-use Rattle.ov_committing.specs.Asked.{fresh_of}
-use Rattle.ov_writing.specs.Written.{IsLong}
+use Rattle.ov_new_version.specs.Asked.{fresh_of}
+use Rattle.ov_version_bytes.specs.Written.{IsLong}
 use Rattle.ov_store.specs.declared.errors.StoreErr.{StoreErr}
 use Rattle.ov_store.specs.declared.errors.StoreErr.TheVariants as why
 use Rattle.ov_store.specs.declared.unready.Unready.{Unready}

@@ -16,7 +16,7 @@ use Rattle.ov_model.specs.Book.{Row}
 use Rattle.ov_model.specs.World.{World, first_set, named}
 use Rattle.ov_catalog.specs.Reached.{AreRows, InitFits}
 use Rattle.ov_catalog.specs.Stands.{seen, asked}
-use Rattle.ov_image.specs.Pages.{readings_of}
+use Rattle.law_image.specs.Pages.{readings_of}
 use Rattle.ov_core.specs.AtWorld.{IsAtWorld}
 use Rattle.ov_core.specs.Held.{Held}
 use Rattle.ov_store.specs.declared.errors.StoreErr.{StoreErr}

@@ -16,9 +16,9 @@ use Rattle.ov_core.specs.Held.{Held}
 use Rattle.ov_core.specs.Rooms.{IsWhyKept}
 use Rattle.ov_core.specs.declared.errors.ChangeErr.{ChangeErr}
 use Rattle.ov_core.specs.declared.errors.ChangeErr.TheVariants as change
-use Rattle.ov_room.specs.Room.{Entry, IsWithin, Made, Writes}
-use Rattle.ov_room.proofs.Room.{drop_is_licensed, full_is_lacking, full_is_licensed, passes_is_licensed, within_made}
-use Rattle.ov_writing.specs.Written.{IsLong}
+use Rattle.law_room.specs.Room.{Entry, IsWithin, Made, Writes}
+use Rattle.law_room.proofs.Room.{drop_is_licensed, full_is_lacking, full_is_licensed, passes_is_licensed, within_made}
+use Rattle.ov_version_bytes.specs.Written.{IsLong}
 use Rattle.ov_store.specs.declared.errors.StoreErr.{StoreErr}
 use Rattle.ov_store.specs.declared.errors.StoreErr.TheVariants as why
 use Rattle.ov_store.specs.declared.unready.Unready.{Unready}

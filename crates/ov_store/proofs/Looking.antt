@@ -7,7 +7,7 @@ use Rattle.ov_journal.specs.Bytes.{IsLive}
 use Rattle.ov_journal.specs.Held.{kept_by}
 use Rattle.ov_journal.specs.Journal.{IsJournal}
 use Rattle.ov_model.specs.World.{World}
-use Rattle.ov_image.specs.Images.{StandsBy}
+use Rattle.law_image.specs.Images.{StandsBy}
 use Rattle.ov_fetch.specs.Extents.{Looked}
 use Rattle.ov_core.specs.AtWorld.{IsAtWorld}
 use Rattle.ov_core.specs.Held.{Held}

@@ -14,14 +14,14 @@ use Rattle.ov_catalog.specs.Stands.{asked_event}
 use Rattle.ov_fetch.specs.declared.errors.FetchErr.{FetchErr}
 use Rattle.ov_fetch.specs.declared.errors.FetchErr.TheVariants as fetch
 use Rattle.ov_fetch.specs.Extents.{Looked, page_bytes}
-use Rattle.ov_agree.specs.Agreeing.{EachAgrees, ParentsAgree}
-use Rattle.ov_versions.specs.Agreement.{IsThere}
-use Rattle.ov_versions.specs.OfWorld.{IsSetOf}
+use Rattle.law_commits.specs.Agreeing.{EachAgrees, ParentsAgree}
+use Rattle.ov_read.specs.Agreement.{IsThere}
+use Rattle.ov_read.specs.OfWorld.{IsSetOf}
 use Rattle.ov_parents.specs.Parents.{IsParent, RefusesParents}
-use Rattle.ov_committing.specs.declared.errors.CommitErr.{CommitErr}
-use Rattle.ov_committing.specs.Asked.{Asked, fresh_of}
-use Rattle.ov_committing.specs.Commits.{IsCommitOf, Refuses}
-use Rattle.ov_committing.specs.OfWorld.{IsAnswered, IsAsked, IsSpared, records_with}
+use Rattle.ov_new_version.specs.declared.errors.CommitErr.{CommitErr}
+use Rattle.ov_new_version.specs.Asked.{Asked, fresh_of}
+use Rattle.ov_new_version.specs.Commits.{IsCommitOf, Refuses}
+use Rattle.ov_new_version.specs.OfWorld.{IsAnswered, IsAsked, IsSpared, records_with}
 use Rattle.ov_core.specs.AtWorld.{IsAtWorld}
 use Rattle.ov_core.specs.Brought.{content}
 use Rattle.ov_core.specs.Held.{Held}

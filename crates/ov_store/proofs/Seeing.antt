@@ -8,10 +8,10 @@ use Rattle.ov_fetch.specs.declared.errors.FetchErr.TheVariants as fetch
 use Rattle.ov_fetch.specs.Extents.{page_bytes}
 use Rattle.ov_core.specs.AtWorld.{IsAtWorld}
 use Rattle.ov_core.specs.Held.{Held}
-use Rattle.ov_versions.specs.Agreement.{Numbers}
-use Rattle.ov_versions.specs.OfWorld.{IsSetOf, IsSpared}
-use Rattle.ov_sights.specs.Sights.{IsFound}
-use Rattle.ov_sights.proofs.Founds.{by_name}
+use Rattle.ov_read.specs.Agreement.{Numbers}
+use Rattle.ov_read.specs.OfWorld.{IsSetOf, IsSpared}
+use Rattle.law_reads.specs.Sights.{IsFound}
+use Rattle.law_reads.proofs.Founds.{by_name}
 use Rattle.ov_store.specs.Errors.{of_fetch}
 use Rattle.ov_store.specs.Scanning.{IsUndamaged, set_in}
 use Rattle.ov_store.proofs.Fitting.{sees}

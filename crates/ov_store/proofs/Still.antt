@@ -9,8 +9,8 @@ use Rattle.ov_journal.specs.Held.{kept_by}
 use Rattle.ov_journal.specs.Journal.{IsJournal}
 use Rattle.ov_model.specs.World.{World}
 use Rattle.ov_catalog.specs.Stands.{StandsFor}
-use Rattle.ov_image.specs.Images.{StandsAs}
-use Rattle.ov_image.specs.Pages.{readings_of}
+use Rattle.law_image.specs.Images.{StandsAs}
+use Rattle.law_image.specs.Pages.{readings_of}
 use Rattle.ov_core.specs.AtWorld.{IsAtWorld, IsEither}
 use Rattle.ov_core.specs.Held.{Held}
 use Rattle.ov_open.specs.Opening.{IsWorld}

@@ -17,12 +17,12 @@ use Rattle.ov_core.specs.declared.errors.ChangeErr.{ChangeErr}
 use Rattle.ov_core.specs.declared.errors.ChangeErr.TheVariants as change
 use Rattle.ov_core.specs.Held.{Held}
 use Rattle.ov_core.specs.Rooms.{IsWhyNoRuns}
-use Rattle.ov_writing.specs.Written.{IsLong, IsWhy as IsUnwritten, first_event, list_written, segment_written}
-use Rattle.ov_writing.specs.declared.write_err.WriteErr.{WriteErr}
-use Rattle.ov_writing.specs.declared.write_err.WriteErr.TheVariants as write
-use Rattle.ov_writing.proofs.Beginning.{first_list, first_segments}
-use Rattle.ov_writing.proofs.Counting.{counted_long}
-use Rattle.ov_writing.proofs.Listing.{IsSized, list_sized}
+use Rattle.ov_version_bytes.specs.Written.{IsLong, IsWhy as IsUnwritten, first_event, list_written, segment_written}
+use Rattle.ov_version_bytes.specs.declared.write_err.WriteErr.{WriteErr}
+use Rattle.ov_version_bytes.specs.declared.write_err.WriteErr.TheVariants as write
+use Rattle.ov_version_bytes.proofs.Beginning.{first_list, first_segments}
+use Rattle.ov_version_bytes.proofs.Counting.{counted_long}
+use Rattle.ov_version_bytes.proofs.Listing.{IsSized, list_sized}
 use Rattle.ov_store.specs.declared.errors.StoreErr.{StoreErr}
 use Rattle.ov_store.specs.declared.errors.StoreErr.TheVariants as why
 use Rattle.ov_store.specs.declared.unready.Unready.{Unready}

@@ -12,7 +12,7 @@ use Rattle.ov_model.specs.Moves.{Move, Init}
 use Rattle.ov_model.specs.Records.{counted}
 use Rattle.ov_core.specs.Held.{Held}
 use Rattle.ov_rows.specs.Refusing.{rows_off}
-use Rattle.ov_writing.specs.Written.{first_event, list_written, segment_written}
+use Rattle.ov_version_bytes.specs.Written.{first_event, list_written, segment_written}
 use Rattle.ov_store.specs.declared.errors.StoreErr.{StoreErr}
 use Rattle.ov_store.specs.Changes.{Bringing}
 use Rattle.ov_store.specs.Errors.{of_rows}

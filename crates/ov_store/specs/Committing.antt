@@ -25,11 +25,11 @@ use Rattle.ov_core.specs.Rooms.{IsFull, PassesJournal}
 use Rattle.ov_fetch.specs.declared.errors.FetchErr.TheVariants as fetch
 use Rattle.ov_fetch.specs.Extents.{page_bytes}
 use Rattle.ov_rows.specs.Refusing.{rows_off}
-use Rattle.ov_agree.specs.Agreeing.{ParentsAgree}
+use Rattle.law_commits.specs.Agreeing.{ParentsAgree}
 use Rattle.ov_parents.specs.Parents.{IsParent, RefusesParents}
-use Rattle.ov_committing.specs.Asked.{Asked, fresh_of}
-use Rattle.ov_committing.specs.Commits.{IsCommitOf, IsTooLong}
-use Rattle.ov_committing.specs.Joined.{RefusesJoined, joined_of}
+use Rattle.ov_new_version.specs.Asked.{Asked, fresh_of}
+use Rattle.ov_new_version.specs.Commits.{IsCommitOf, IsTooLong}
+use Rattle.ov_new_version.specs.Joined.{RefusesJoined, joined_of}
 use Rattle.ov_store.specs.declared.errors.StoreErr.{StoreErr}
 use Rattle.ov_store.specs.declared.errors.StoreErr.TheVariants as why
 use Rattle.ov_store.specs.declared.store.Committed.{Committed}

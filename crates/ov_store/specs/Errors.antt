@@ -1,7 +1,7 @@
 -- Why a part of a call isn't done, as the store's call answers it.
 use Rattle.std.specs.Prelude.{Bool, true, false}
-use Rattle.ov_committing.specs.declared.errors.CommitErr.{CommitErr}
-use Rattle.ov_committing.specs.declared.errors.CommitErr.TheVariants as commit
+use Rattle.ov_new_version.specs.declared.errors.CommitErr.{CommitErr}
+use Rattle.ov_new_version.specs.declared.errors.CommitErr.TheVariants as commit
 use Rattle.ov_core.specs.declared.errors.ChangeErr.{ChangeErr}
 use Rattle.ov_core.specs.declared.errors.ChangeErr.TheVariants as change
 use Rattle.ov_fetch.specs.declared.errors.FetchErr.{FetchErr}
@@ -9,8 +9,8 @@ use Rattle.ov_fetch.specs.declared.errors.FetchErr.TheVariants as fetch
 use Rattle.ov_host.specs.declared.area.Area.TheVariants.{Pages}
 use Rattle.ov_rows.specs.declared.rows_err.RowsErr.{RowsErr}
 use Rattle.ov_rows.specs.declared.rows_err.RowsErr.TheVariants as rows
-use Rattle.ov_writing.specs.declared.write_err.WriteErr.{WriteErr}
-use Rattle.ov_writing.specs.declared.write_err.WriteErr.TheVariants as write
+use Rattle.ov_version_bytes.specs.declared.write_err.WriteErr.{WriteErr}
+use Rattle.ov_version_bytes.specs.declared.write_err.WriteErr.TheVariants as write
 use Rattle.ov_store.specs.declared.errors.StoreErr.{StoreErr}
 use Rattle.ov_store.specs.declared.errors.StoreErr.TheVariants as why
 use Rattle.ov_store.specs.declared.unready.Unready.{Unready}

@@ -8,7 +8,7 @@ use Rattle.ov_host.specs.Host.{Rose, State}
 use Rattle.ov_catalog.specs.Applying.{is_named}
 use Rattle.ov_catalog.specs.Numbers.{SetNumbers, Numbers}
 use Rattle.ov_fetch.specs.Extents.{page_bytes}
-use Rattle.ov_versions.specs.Damages.{IsDamage}
+use Rattle.ov_read.specs.Damages.{IsDamage}
 use Rattle.ov_store.specs.declared.errors.StoreErr.{StoreErr}
 use Rattle.ov_store.specs.declared.errors.StoreErr.TheVariants as why
 use Rattle.ov_store.specs.Refusals.{vids_off}

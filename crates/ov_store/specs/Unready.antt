@@ -3,11 +3,11 @@
 --     AsksTooMuch m w list_pages segment_pages      what the World asks of a move takes so many pages
 use Rattle.std.specs.Prelude.{◌≡◌, ◌<◌, ◌≤◌, ◌^◌, ℕ, List, Option, Some, None}
 use Rattle.ov_host.specs.declared.area.Extent.{Extent}
-use Rattle.ov_writing.specs.Written.{IsLong}
+use Rattle.ov_version_bytes.specs.Written.{IsLong}
 use Rattle.ov_core.specs.Rooms.{IsFull}
 use Rattle.ov_model.specs.Moves.{Move}
 use Rattle.ov_model.specs.World.{World}
-use Rattle.ov_room.specs.Room.{Writes}
+use Rattle.law_room.specs.Room.{Writes}
 use Rattle.ov_store.specs.declared.errors.StoreErr.{StoreErr}
 use Rattle.ov_store.specs.declared.errors.StoreErr.TheVariants as why
 use Rattle.ov_store.specs.declared.unready.Unready.{Unready}

@@ -13,7 +13,7 @@ use Rattle.ov_model.specs.Moves.{Move}
 use Rattle.ov_model.specs.World.{Dataset, World, set_named}
 use Rattle.ov_model.specs.declared.refusal.Refusal.{Refusal}
 use Rattle.ov_model.specs.declared.refusal.Refusal.TheVariants as no
-use Rattle.ov_room.specs.Room.{Entry, Made, LacksRun, LacksRecord}
+use Rattle.law_room.specs.Room.{Entry, Made, LacksRun, LacksRecord}
 use Rattle.ov_store.specs.declared.errors.StoreErr.{StoreErr}
 use Rattle.ov_store.specs.declared.errors.StoreErr.TheVariants as why
 use Rattle.ov_store.specs.Committing.{Wish, fresh_in_world}

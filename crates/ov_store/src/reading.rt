@@ -9,8 +9,8 @@ ghost use Rattle.ov_fetch.specs.Scans.{IsSound, rows_at};
 ghost use Rattle.ov_model.specs.Records.{rows_at as rows_of};
 ghost use Rattle.ov_model.specs.World.{Dataset, World, set_named};
 ghost use Rattle.ov_core.specs.AtWorld.{IsAtWorld};
-ghost use Rattle.ov_versions.specs.Found.{HasRows, IsScanned};
-ghost use Rattle.ov_versions.specs.Sizes.{bytes_for};
+ghost use Rattle.ov_read.specs.Found.{HasRows, IsScanned};
+ghost use Rattle.ov_read.specs.Sizes.{bytes_for};
 ghost use Rattle.ov_store.specs.Scanning.{IsUndamaged, IsUnscanned, scan_off, set_in};
 
 use crate::errors::StoreErr;
@@ -18,7 +18,7 @@ use crate::listing::listed;
 use crate::store::Store;
 use ov_fetch::Scan;
 use ov_host::Host;
-use ov_versions::scan_versions;
+use ov_read::scan_versions;
 
 impl Store {
     /// The rows of these versions of a dataset, each in the order of its keys: a record that versions of one partition share

@@ -5,7 +5,7 @@ ghost use Rattle.std.specs.List.{All, list_any};
 ghost use Rattle.ov_host.specs.Disk.{AllSettled, as_read};
 ghost use Rattle.ov_host.specs.Host.{Rose, State};
 ghost use Rattle.ov_host.specs.Stops.{Only};
-ghost use Rattle.ov_image.specs.Images.{StandsAs};
+ghost use Rattle.law_image.specs.Images.{StandsAs};
 ghost use Rattle.ov_event.specs.Spelling.{spelling};
 ghost use Rattle.ov_journal.specs.Held.{Passes};
 ghost use Rattle.ov_journal.specs.Opened.{IsLeftByOpen};
@@ -18,7 +18,7 @@ ghost use Rattle.ov_model.specs.Act.{init_refusal};
 ghost use Rattle.ov_model.specs.Moves.{Move, Drop as DropMove, moved};
 ghost use Rattle.ov_model.specs.World.{Dataset, World, set_named};
 ghost use Rattle.ov_model.specs.declared.refusal.Refusal.{Refusal};
-ghost use Rattle.ov_room.specs.Room.{Entry, IsWithin, Made};
+ghost use Rattle.law_room.specs.Room.{Entry, IsWithin, Made};
 ghost use Rattle.ov_core.specs.AtWorld.{IsAtNext, IsAtWorld, IsEither};
 ghost use Rattle.ov_core.specs.Brought.{Brings};
 ghost use Rattle.ov_store.specs.declared.errors.StoreErr.TheVariants as why;
@@ -32,7 +32,7 @@ ghost use Rattle.ov_store.specs.Unready.{IfTooLong, IsFewPages, IsNoRoom, IsUnre
 ghost use Rattle.ov_store.specs.Worlds.{IsLack, IsRefusedAs, and_made, begin_refusal, drop_refusal};
 ghost use Rattle.ov_store.specs.declared.errors.StoreErr.{StoreErr as StoreErrValue};
 ghost use Rattle.ov_store.specs.declared.unready.Unready.TheVariants as unready;
-ghost use Rattle.ov_writing.specs.Written.{IsLong};
+ghost use Rattle.ov_version_bytes.specs.Written.{IsLong};
 ghost use Rattle.ov_catalog.specs.Extents.{live};
 
 use crate::errors::StoreErr;
@@ -43,7 +43,7 @@ use ov_host::Host;
 use ov_open::{OpenErr, open as open_core};
 use ov_rows::version_rows;
 use ov_value::{Row, Schema, Txt};
-use ov_writing::first_version;
+use ov_version_bytes::first_version;
 use std::alloc::Global;
 use std::marker::Model;
 

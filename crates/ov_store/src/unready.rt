@@ -5,11 +5,11 @@ ghost use Rattle.ov_store.specs.Errors.{of_commit, of_fetch, of_rows, unready_of
 ghost use Rattle.ov_store.specs.declared.unready.Unready.TheVariants as unready;
 
 use crate::errors::StoreErr;
-use ov_committing::CommitErr;
 use ov_fetch::FetchErr;
 use ov_host::Area;
+use ov_new_version::CommitErr;
 use ov_rows::RowsErr;
-use ov_writing::WriteErr;
+use ov_version_bytes::WriteErr;
 
 /// Why a version has no event, list and segment.
 #[derive(Clone, Copy, Debug, PartialEq, Eq)]

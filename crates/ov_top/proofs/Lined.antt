@@ -18,18 +18,18 @@ use Rattle.ov_journal.specs.Held.{kept_by}
 use Rattle.ov_journal.specs.Opened.{HasStood, IsMade}
 use Rattle.ov_catalog.specs.Extents.{covers, live}
 use Rattle.ov_catalog.specs.Raw.{numbers_in}
-use Rattle.ov_image.specs.Images.{StandsAs, StandsBy}
+use Rattle.law_image.specs.Images.{StandsAs, StandsBy}
 use Rattle.ov_core.specs.AtWorld.{IsAtWorld}
 use Rattle.ov_core.specs.Held.{Held}
-use Rattle.ov_course.proofs.Found.{found_start}
-use Rattle.ov_course.proofs.Due.{is_due}
-use Rattle.ov_course.proofs.Due.{begun_where}
-use Rattle.ov_course.proofs.Runs.{halts_run, so_far_all, so_far_ends, so_far_halts, so_far_more, so_far_start}
-use Rattle.ov_course.specs.Serving as course
-use Rattle.ov_course.proofs.Lines.{line_leaves, line_licensed}
-use Rattle.ov_course.specs.Serving.{Halts, Runs, Serves, SoFar, session_of}
-use Rattle.ov_course.specs.Licence.{Licensed, LicensedLine, made_by}
-use Rattle.ov_course.specs.Stops.{IsDue, IsFound, printed_of}
+use Rattle.law_runs.proofs.Found.{found_start}
+use Rattle.law_runs.proofs.Due.{is_due}
+use Rattle.law_runs.proofs.Due.{begun_where}
+use Rattle.law_runs.proofs.Runs.{halts_run, so_far_all, so_far_ends, so_far_halts, so_far_more, so_far_start}
+use Rattle.law_runs.specs.Serving as course
+use Rattle.law_runs.proofs.Lines.{line_leaves, line_licensed}
+use Rattle.law_runs.specs.Serving.{Halts, Runs, Serves, SoFar, session_of}
+use Rattle.law_runs.specs.Licence.{Licensed, LicensedLine, made_by}
+use Rattle.law_runs.specs.Stops.{IsDue, IsFound, printed_of}
 use Rattle.ov_model.specs.Act.{Session}
 use Rattle.ov_model.proofs.Replying.{says_some}
 use Rattle.ov_model.specs.Course.{Item, SaysSome, Space, line_served, play, served}
@@ -43,12 +43,12 @@ use Rattle.ov_open.specs.Opening.{IsOpened, IsOutside, IsWorld}
 use Rattle.ov_open.specs.Refusing.{Refuses}
 use Rattle.ov_open.specs.declared.errors.OpenErr.{OpenErr}
 use Rattle.ov_open.specs.declared.errors.OpenErr.TheVariants as opened
-use Rattle.ov_room.specs.Room.{Entry, IsWithin, Made}
+use Rattle.law_room.specs.Room.{Entry, IsWithin, Made}
 use Rattle.ov_session.specs.Commands.{IsDamageOf, IsDamaged, IsNoDamage}
 use Rattle.ov_session.specs.declared.errors.EndErr.{EndErr}
 use Rattle.ov_session.specs.declared.errors.EndErr.TheVariants as ending
-use Rattle.ov_reader.specs.declared.reader.ReadErr.{ReadErr}
-use Rattle.ov_reader.specs.declared.reader.ReadErr.TheVariants as reading
+use Rattle.ov_script.specs.declared.reader.ReadErr.{ReadErr}
+use Rattle.ov_script.specs.declared.reader.ReadErr.TheVariants as reading
 use Rattle.ov_top.specs.declared.errors.RunErr.{RunErr}
 use Rattle.ov_top.specs.declared.errors.RunErr.TheVariants as running
 use Rattle.ov_top.specs.declared.status.Status.{Status}
@@ -56,8 +56,8 @@ use Rattle.ov_top.specs.declared.status.Status.TheVariants.{Memory}
 use Rattle.ov_top.specs.Ending.{AreWords, Cause, Ends, IsEntry, IsTold, Played, PlayedTaken, Plays, Stops, course_of, course_taken, lines_taken, session_at}
 use Rattle.ov_top.specs.Errors.{by_reading, by_serving}
 use Rattle.ov_top.specs.Running.{AllServed, IsHalted, IsRunDamage, status_by, status_by_opening}
-use Rattle.ov_reader.specs.Reader.{GivesLine, IsCutOff, IsNext, Taken, ended_lines, has_feed, taken_of}
-use Rattle.ov_reader.proofs.Readers.{ended_at, next_lines, no_ended, taken_is}
+use Rattle.ov_script.specs.Reader.{GivesLine, IsCutOff, IsNext, Taken, ended_lines, has_feed, taken_of}
+use Rattle.ov_script.proofs.Readers.{ended_at, next_lines, no_ended, taken_is}
 use Rattle.ov_host.specs.Source.{Script}
 
 -- ---- what is kept of a line says what it is

@@ -13,12 +13,12 @@ use Rattle.ov_event.specs.declared.event.Event.{Event}
 use Rattle.ov_journal.specs.Journal.{IsUnmade, Kept, end_of}
 use Rattle.ov_catalog.specs.Extents.{covers, live}
 use Rattle.ov_catalog.specs.Raw.{numbers_in}
-use Rattle.ov_image.specs.Images.{StandsAs, StandsBy}
+use Rattle.law_image.specs.Images.{StandsAs, StandsBy}
 use Rattle.ov_core.specs.AtWorld.{IsAtWorld}
 use Rattle.ov_core.specs.Held.{Held}
-use Rattle.ov_course.specs.Licence.{Licensed}
-use Rattle.ov_course.specs.Serving.{has_error, session_of}
-use Rattle.ov_course.specs.Stops.{IsDue, printed_of}
+use Rattle.law_runs.specs.Licence.{Licensed}
+use Rattle.law_runs.specs.Serving.{has_error, session_of}
+use Rattle.law_runs.specs.Stops.{IsDue, printed_of}
 use Rattle.ov_model.specs.Act.{Session}
 use Rattle.ov_model.specs.Course.{Served, Space, course, play}
 use Rattle.ov_model.specs.Forms.{built_forms}
@@ -28,10 +28,10 @@ use Rattle.ov_model.specs.declared.command.Command.{Command}
 use Rattle.ov_open.specs.declared.errors.OpenErr.{OpenErr}
 use Rattle.ov_open.specs.declared.errors.OpenErr.TheVariants as opening
 use Rattle.ov_open.specs.Refusing.{Refuses}
-use Rattle.ov_room.specs.Room.{Entry}
+use Rattle.law_room.specs.Room.{Entry}
 use Rattle.ov_session.specs.Commands.{IsDamaged}
-use Rattle.ov_words.specs.Words.{options_of}
-use Rattle.ov_reader.specs.Reader.{ended_lines, taken_of}
+use Rattle.ov_args.specs.Words.{options_of}
+use Rattle.ov_script.specs.Reader.{ended_lines, taken_of}
 use Rattle.ov_top.specs.declared.status.Status.{Status}
 use Rattle.ov_top.specs.declared.status.Status.TheVariants.{Done, Refused, Usage, HostFault, InputFault, Memory, NotAStore, Damaged, Format, ScriptTooLong}
 

@@ -1,8 +1,8 @@
 -- What ends a run, by what ended a part of it.
 use Rattle.ov_session.specs.declared.errors.EndErr.{EndErr}
 use Rattle.ov_session.specs.declared.errors.EndErr.TheVariants as ending
-use Rattle.ov_reader.specs.declared.reader.ReadErr.{ReadErr}
-use Rattle.ov_reader.specs.declared.reader.ReadErr.TheVariants as reading
+use Rattle.ov_script.specs.declared.reader.ReadErr.{ReadErr}
+use Rattle.ov_script.specs.declared.reader.ReadErr.TheVariants as reading
 use Rattle.ov_top.specs.declared.errors.RunErr.{RunErr}
 use Rattle.ov_top.specs.declared.errors.RunErr.TheVariants as running
 

@@ -6,7 +6,7 @@ use Rattle.std.specs.Prelude.{◌≡◌, ℕ, Bool, true, false, List, Result, O
 use Rattle.ov_host.specs.declared.area.Area.TheVariants.{Pages}
 use Rattle.ov_host.specs.Host.{State}
 use Rattle.ov_core.specs.Held.{Held}
-use Rattle.ov_course.specs.Serving.{Ends, Halts, Runs}
+use Rattle.law_runs.specs.Serving.{Ends, Halts, Runs}
 use Rattle.ov_model.specs.Act.{Session}
 use Rattle.ov_model.specs.World.{World}
 use Rattle.ov_model.specs.declared.command.Command.{Command}

@@ -4,7 +4,7 @@ ghost use Rattle.ov_top.specs.Errors.{by_reading, by_serving};
 ghost use Rattle.ov_top.specs.declared.errors.RunErr.TheVariants as running;
 
 use ov_host::Area;
-use ov_reader::ReadErr;
+use ov_script::ReadErr;
 use ov_session::EndErr;
 use std::alloc::AllocError;
 

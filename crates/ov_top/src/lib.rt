@@ -5,6 +5,6 @@ mod errors;
 mod runs;
 mod status;
 
-pub use ov_words::{Options, WordsErr, options};
+pub use ov_args::{Options, WordsErr, options};
 pub use runs::run;
 pub use status::Status;

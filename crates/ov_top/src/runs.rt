@@ -4,24 +4,24 @@ ghost use Rattle.ov_host.specs.Host.{Rose, State};
 ghost use Rattle.ov_model.specs.Words.{lines_of};
 ghost use Rattle.ov_model.specs.World.{World};
 ghost use Rattle.ov_core.specs.AtWorld.{IsAtWorld};
-ghost use Rattle.ov_course.specs.Serving.{session_of};
+ghost use Rattle.law_runs.specs.Serving.{session_of};
 ghost use Rattle.ov_open.specs.Opening.{IsWorld};
 ghost use Rattle.ov_session.specs.Commands.{Goes, is_refusal_of};
 ghost use Rattle.ov_store.specs.Kept.{MayCall};
-ghost use Rattle.ov_words.specs.Words.{options_of};
-ghost use Rattle.ov_reader.specs.Reader.{ended_lines, taken_of};
+ghost use Rattle.ov_args.specs.Words.{options_of};
+ghost use Rattle.ov_script.specs.Reader.{ended_lines, taken_of};
 ghost use Rattle.ov_top.specs.Ending.{AreWords, Cause, IsTold, Plays};
 ghost use Rattle.ov_top.specs.Running.{AllServed, IsRunDamage, status_by, status_by_opening};
 
 use crate::errors::RunErr;
 use crate::status::Status;
+use ov_args::{WordsErr, options};
 use ov_host::{Host, Source, Stage};
 use ov_open::OpenErr;
-use ov_reader::Reader;
+use ov_script::Reader;
 use ov_session::{Served, serve};
 use ov_store::Store;
 use ov_value::Txt;
-use ov_words::{WordsErr, options};
 use std::alloc::{AllocError, Global};
 
 /// The user whom a run begins as.

@@ -10,10 +10,10 @@ use Rattle.std.specs.declared.alloc.Global.{Global}
 use Rattle.ov_host.specs.Host.{State}
 use Rattle.ov_host.specs.Source.{Script}
 use Rattle.ov_host.specs.Stage.{Staged}
-use Rattle.ov_image.proofs.Standing.{unmade_stands}
+use Rattle.law_image.proofs.Standing.{unmade_stands}
 use Rattle.ov_memhost.specs.Host.{new_state}
 use Rattle.ov_model.specs.World.{World, empty_world}
-use Rattle.ov_words.specs.Words.{options_of}
+use Rattle.ov_args.specs.Words.{options_of}
 use Rattle.ov_top.specs.Ending.{Ends, IsTold, Plays}
 use Rattle.ov_top.specs.declared.status.Status.{Status}
 use Rattle.ov_trials.specs.Fresh.{fresh_ends}

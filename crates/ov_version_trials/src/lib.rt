@@ -1,4 +1,4 @@
-//! The tests of fetching and of versions over ends in memory (`ov_fetch`, `ov_versions`).
+//! The tests of fetching and of versions over ends in memory (`ov_fetch`, `ov_read`).
 //!
 //! In a crate of their own they are proved without proving those crates once more.
 #![tactic(auto)]

@@ -6,8 +6,8 @@ use ov_fetch::{FetchErr, Scan};
 use ov_host::Extent;
 use ov_layout::Part;
 use ov_memhost::MemHost;
+use ov_read::{PartRids, has_version, lists_of, read_versions, rids_together, scan_versions};
 use ov_value::{Column, Kind, Txt};
-use ov_versions::{PartRids, has_version, lists_of, read_versions, rids_together, scan_versions};
 use std::alloc::{AllocError, Global};
 use std::test::Fail;
 

@@ -3,8 +3,8 @@ use Rattle.ov_event.specs.Spelling.{spelling}
 use Rattle.ov_host.specs.Stops.{Only}
 use Rattle.ov_journal.specs.Held.{kept_by}
 use Rattle.ov_journal.specs.Journal.{and_one}
-use Rattle.ov_step.specs.Steps.{IsStored, with_runs}
-use Rattle.ov_step.proofs.Adding.{none_stops}
+use Rattle.ov_publish.specs.Steps.{IsStored, with_runs}
+use Rattle.ov_publish.proofs.Adding.{none_stops}
 use Rattle.ov_core.proofs.writing.write_change.Goals as goal
 
 pub returns-in_err-framed-clause-stops : goal.returns-in_err-framed-clause-stops

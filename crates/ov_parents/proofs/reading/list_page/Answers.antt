@@ -1,6 +1,6 @@
 use Rattle.std.proofs.Common.{sym, ap}
 use Rattle.ov_host.specs.declared.area.Extent.{Extent}
-use Rattle.ov_versions.proofs.Numbered.{there, list_is}
+use Rattle.ov_read.proofs.Numbered.{there, list_is}
 use Rattle.ov_parents.proofs.reading.list_page.Goals as goal
 
 pub returns : goal.returns

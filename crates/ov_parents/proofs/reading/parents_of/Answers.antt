@@ -4,7 +4,7 @@ use Rattle.std.specs.Prelude.{Option}
 use Rattle.ov_segment.specs.declared.numbered.Record.{Record}
 use Rattle.ov_catalog.specs.Sets.{set_in}
 use Rattle.ov_records.specs.Records.{lists_of}
-use Rattle.ov_agree.specs.Differing.{HasNoRidTwice, IsFirstDisagreeing}
+use Rattle.law_commits.specs.Differing.{HasNoRidTwice, IsFirstDisagreeing}
 use Rattle.ov_parents.proofs.Differ.{none_twice, place_there}
 use Rattle.ov_parents.proofs.reading.parents_of.Goals as goal
 

@@ -3,9 +3,9 @@ use Rattle.std.specs.List.{All, AllZip}
 use Rattle.ov_catalog.specs.Sets.{set_in}
 use Rattle.ov_fetch.specs.Extents.{page_bytes}
 use Rattle.ov_fetch.proofs.Gathered.{passed_on}
-use Rattle.ov_versions.specs.Damages.{RefusesScan}
-use Rattle.ov_versions.specs.Found.{HasRows, IsScanned}
-use Rattle.ov_versions.specs.Partitions.{AreHeld}
+use Rattle.ov_read.specs.Damages.{RefusesScan}
+use Rattle.ov_read.specs.Found.{HasRows, IsScanned}
+use Rattle.ov_read.specs.Partitions.{AreHeld}
 use Rattle.ov_parents.specs.Parents.{IsParent}
 use Rattle.ov_parents.proofs.Taken.{all_in_order, are_parents, each_agrees, each_fits, refused}
 use Rattle.ov_parents.proofs.reading.read_parents.Goals as goal

@@ -1,5 +1,5 @@
 use Rattle.std.proofs.Common.{◌≡◌, take}
-use Rattle.ov_agree.specs.Differing.{rids_of}
+use Rattle.law_commits.specs.Differing.{rids_of}
 use Rattle.ov_parents.proofs.repeating.copied_rids.Given as goal
 
 abbrev pub invariant-loop-record : goal.invariant-loop-record

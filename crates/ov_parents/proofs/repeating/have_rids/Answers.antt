@@ -2,8 +2,8 @@ use Rattle.std.proofs.Common.{◌≡◌, ℕ, List, length, sym, ◌∙◌, subs
 use Rattle.std.specs.List.Sorted.{IsNonDecreasing, IsPermutation}
 use Rattle.std.proofs.lemmas.List.{length-map}
 use Rattle.std.proofs.lemmas.List.Sorted.{IsNonDecreasingBy-from_sort, IsPermutation-sym}
-use Rattle.ov_agree.specs.Agreeing.{AreRids}
-use Rattle.ov_agree.specs.Differing.{rids_of}
+use Rattle.law_commits.specs.Agreeing.{AreRids}
+use Rattle.law_commits.specs.Differing.{rids_of}
 use Rattle.ov_parents.proofs.Repeats.{rids_moved}
 use Rattle.ov_parents.proofs.repeating.have_rids.Goals as goal
 

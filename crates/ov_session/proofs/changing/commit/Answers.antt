@@ -1,6 +1,6 @@
 use Rattle.std.proofs.Common.{◌≡◌, [], None, sym, ap, refl, subst, rules}
-use Rattle.ov_course.proofs.Doing.{breaks_looked}
-use Rattle.ov_course.specs.Serving.{Breaks, session_of}
+use Rattle.law_runs.proofs.Doing.{breaks_looked}
+use Rattle.law_runs.specs.Serving.{Breaks, session_of}
 use Rattle.ov_model.specs.Act.{commit_deed}
 use Rattle.ov_model.specs.World.{set_named}
 use Rattle.ov_session.proofs.Asking.{commit_acts, said_still}

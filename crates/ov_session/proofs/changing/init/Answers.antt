@@ -1,6 +1,6 @@
 use Rattle.std.proofs.Common.{◌≡◌, ◌∙◌, sym, ap, refl, subst, rules}
-use Rattle.ov_course.proofs.Doing.{breaks_looked}
-use Rattle.ov_course.specs.Serving.{Breaks, session_of}
+use Rattle.law_runs.proofs.Doing.{breaks_looked}
+use Rattle.law_runs.specs.Serving.{Breaks, session_of}
 use Rattle.ov_files.specs.Files.{result_of}
 use Rattle.ov_model.specs.Act.{init_deed, init_refusal}
 use Rattle.ov_session.proofs.Asking.{began_by, init_acts, init_by, init_refused, told_still}

@@ -1,6 +1,6 @@
 use Rattle.std.proofs.Common.{rules, ◌≡◌, ℕ, List, subst}
 use Rattle.std.specs.Prelude.{None, Some}
-use Rattle.ov_course.specs.Serving.{session_of}
+use Rattle.law_runs.specs.Serving.{session_of}
 use Rattle.ov_model.specs.World.{Dataset, set_named}
 use Rattle.ov_session.specs.Commands.{IsMergeOf}
 use Rattle.ov_session.proofs.Dealing.{result_no_host, result_spared, scan_spared}

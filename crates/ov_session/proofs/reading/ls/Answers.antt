@@ -2,7 +2,7 @@ use Rattle.std.proofs.Common.{◌∙◌, ap}
 use Rattle.ov_host.specs.declared.area.Extent.{Extent}
 use Rattle.ov_catalog.specs.Numbers.{Numbers}
 use Rattle.ov_model.specs.declared.reply.Reply.TheVariants as says
-use Rattle.ov_shown.specs.Listed.{shown_cvds}
+use Rattle.ov_listing.specs.Listed.{shown_cvds}
 use Rattle.ov_session.proofs.Lookups.{ls_told}
 use Rattle.ov_session.proofs.reading.ls.Goals as goal
 

@@ -1,7 +1,7 @@
 use Rattle.std.proofs.Common.{◌≡◌, sym, ap, refl, subst, rules}
-use Rattle.ov_course.proofs.Doing.{breaks_looked, does_told}
-use Rattle.ov_course.specs.Serving.{Breaks, Does, session_of}
-use Rattle.ov_lines.specs.Asked.{IsAsked}
+use Rattle.law_runs.proofs.Doing.{breaks_looked, does_told}
+use Rattle.law_runs.specs.Serving.{Breaks, Does, session_of}
+use Rattle.ov_cmd.specs.Asked.{IsAsked}
 use Rattle.ov_model.specs.Act.{deed, tells}
 use Rattle.ov_model.specs.declared.command.Command.{Command}
 use Rattle.ov_session.proofs.Dealing.{checkout_asked, commit_asked}

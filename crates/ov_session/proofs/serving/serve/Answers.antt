@@ -1,12 +1,12 @@
 use Rattle.std.proofs.Common.{◌≡◌, ◌∙◌, false, sym, ap, refl, subst, rules}
 use Rattle.std.specs.Prelude.{Err, Result, is_ok}
+use Rattle.ov_cmd.specs.Asked.{AsksBuilt}
 use Rattle.ov_cmd.specs.Said.{said}
 use Rattle.ov_session.specs.declared.errors.EndErr.{EndErr}
 use Rattle.ov_session.specs.declared.serving.Served.{Served}
 use Rattle.ov_cmd.specs.Errors.{refusal_of}
-use Rattle.ov_course.proofs.Lines.{serves_broken, serves_comment}
-use Rattle.ov_course.specs.Serving.{Serves, session_of}
-use Rattle.ov_lines.proofs.Asking.{asked}
+use Rattle.law_runs.proofs.Lines.{serves_broken, serves_comment}
+use Rattle.law_runs.specs.Serving.{Serves, session_of}
 use Rattle.ov_model.specs.Forms.{built_forms}
 use Rattle.ov_model.specs.Line.{Asks, Refused, line_of}
 use Rattle.ov_session.proofs.Saying.{comment_none, line_unserved, says_refusal, says_reply}
@@ -14,9 +14,7 @@ use Rattle.ov_session.specs.Commands.{IsNoDamage, is_comment_in, is_refused}
 use Rattle.ov_session.proofs.serving.serve.Goals as goal
 
 pub answer-requires-clause-asked : goal.answer-requires-clause-asked
-answer-requires-clause-asked g c =
-    let asks : line_of built_forms c.args.line.now ≡ Asks c.in-Ok-Some.command = c.in-Ok-Some.ensures.ok ∙ ap said c.in-Ok-Some.field-0-is
-    in asked c.args.line.now c.in-Ok-Some.command asks
+answer-requires-clause-asked g c = subst AsksBuilt c.in-Ok-Some.field-0-is c.in-Ok-Some.ensures.asked
 
 pub returns-in_err-reply-in-Ok-Some-clause-undamaged : goal.returns-in_err-reply-in-Ok-Some-clause-undamaged
 returns-in_err-reply-in-Ok-Some-clause-undamaged g c = λ w at.

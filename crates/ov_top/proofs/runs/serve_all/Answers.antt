@@ -1,13 +1,13 @@
 use Rattle.std.proofs.Common.{◌≡◌, ◌∙◌, ◌||◌, Bool, ℕ, List, codes, true, false, refl, sym, ap, subst, arith, rules}
 use Rattle.std.specs.Prelude.{Err, IsTrue, Result}
 use Rattle.ov_host.specs.Host.{Rose}
-use Rattle.ov_course.specs.Serving.{Serves, session_of}
+use Rattle.law_runs.specs.Serving.{Serves, session_of}
 use Rattle.ov_model.specs.Words.{lines_of}
 use Rattle.ov_session.specs.Commands.{is_refusal_of}
 use Rattle.ov_session.specs.declared.errors.EndErr.{EndErr}
 use Rattle.ov_session.specs.declared.errors.EndErr.TheVariants as ending
 use Rattle.ov_value.specs.Naming.{is_name}
-use Rattle.ov_reader.specs.Reader.{Taken, ended_lines, left_of, taken_of}
+use Rattle.ov_script.specs.Reader.{Taken, ended_lines, left_of, taken_of}
 use Rattle.ov_top.specs.Errors.{by_reading, by_serving}
 use Rattle.ov_top.specs.Running.{AllServed}
 use Rattle.ov_top.specs.declared.errors.RunErr.{RunErr}

@@ -1,10 +1,10 @@
 use Rattle.std.proofs.Common.{◌≡◌, ◌≤◌, ◌+◌, true, length, codes}
 use Rattle.ov_core.specs.AtWorld.{IsAtWorld}
-use Rattle.ov_course.specs.Serving.{session_of}
+use Rattle.law_runs.specs.Serving.{session_of}
 use Rattle.ov_model.specs.World.{World}
 use Rattle.ov_session.specs.Commands.{Attended, Goes}
 use Rattle.ov_store.specs.Kept.{MayCall}
-use Rattle.ov_reader.specs.Reader.{IsAtEnd, left_of, room_of}
+use Rattle.ov_script.specs.Reader.{IsAtEnd, left_of, room_of}
 use Rattle.ov_top.proofs.Lined.{Gone}
 use Rattle.ov_top.proofs.runs.serve_all.Given as goal
 

@@ -2,8 +2,8 @@ use Rattle.std.proofs.Common.{◌≡◌, ℕ, List, [], None, rules, ◌∙◌, 
 use Rattle.std.specs.Prelude.{IfErr}
 use Rattle.ov_host.specs.Disk.{Stored}
 use Rattle.ov_event.specs.Spelling.{spelling}
-use Rattle.ov_step.specs.declared.run.Run.{Run}
-use Rattle.ov_step.specs.Steps.{ranges_of, with_runs}
+use Rattle.ov_publish.specs.declared.run.Run.{Run}
+use Rattle.ov_publish.specs.Steps.{ranges_of, with_runs}
 use Rattle.ov_catalog.specs.Applying.{first_off}
 use Rattle.ov_catalog.specs.Extents.{live}
 use Rattle.ov_core.specs.Brought.{extent_at}

@@ -7,8 +7,8 @@ use Rattle.ov_open.specs.Opening.{IsWorld}
 use Rattle.ov_core.specs.AtWorld.{IsAtNext, IsEither}
 use Rattle.ov_store.specs.Changes.{bringing_of}
 use Rattle.ov_store.specs.Committing.{IsUncommitted, commit_move, committed}
-use Rattle.ov_committing.proofs.Answering.{err_match}
-use Rattle.ov_room.specs.Room.{IsWithin}
+use Rattle.ov_new_version.proofs.Answering.{err_match}
+use Rattle.law_room.specs.Room.{IsWithin}
 use Rattle.ov_store.specs.declared.store.Committed.{Committed}
 use Rattle.ov_store.specs.Worlds.{IsLack, IsRefusedAs, and_made, version_refusal}
 use Rattle.ov_store.proofs.Deciding.{version_fits}

@@ -6,8 +6,8 @@ use Rattle.ov_core.specs.AtWorld.{IsAtNext, IsAtWorld, IsEither}
 use Rattle.ov_core.specs.Held.{Held}
 use Rattle.ov_store.specs.Dropping.{dropped, number_named}
 use Rattle.ov_store.specs.Worlds.{IsLack, IsRefusedAs, and_made, drop_of_set, drop_refusal}
-use Rattle.ov_room.specs.Room.{IsWithin}
-use Rattle.ov_room.proofs.Room.{within_dropped}
+use Rattle.law_room.specs.Room.{IsWithin}
+use Rattle.law_room.proofs.Room.{within_dropped}
 use Rattle.ov_core.specs.Rooms.{IsWhyKept}
 use Rattle.ov_store.proofs.Lacking.{drop_lacks, drop_refused_as}
 use Rattle.ov_store.proofs.Dropping.{drop_applies, drop_fits, drop_gone, drop_is, drop_number}

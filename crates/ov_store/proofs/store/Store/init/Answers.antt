@@ -4,8 +4,8 @@ use Rattle.ov_model.specs.Moves.{moved}
 use Rattle.ov_store.specs.Beginning.{first_move, first_of, init_off}
 use Rattle.ov_store.specs.Changes.{IsUnstored, IsWhy, bringing_of}
 use Rattle.ov_store.specs.Refusals.{refused}
-use Rattle.ov_committing.proofs.Answering.{err_match}
-use Rattle.ov_room.specs.Room.{IsWithin}
+use Rattle.ov_new_version.proofs.Answering.{err_match}
+use Rattle.law_room.specs.Room.{IsWithin}
 use Rattle.ov_store.specs.declared.store.Committed.{Committed}
 use Rattle.ov_store.specs.Worlds.{IsLack, IsRefusedAs, and_made, begin_refusal}
 use Rattle.ov_store.proofs.Answering.{why_unstored}

@@ -3,7 +3,7 @@ use Rattle.std.specs.Prelude.{None}
 use Rattle.std.proofs.lemmas.List.{length-map}
 use Rattle.ov_model.specs.World.{set_named}
 use Rattle.ov_catalog.specs.Sets as sets
-use Rattle.ov_committing.proofs.Answering.{err_match}
+use Rattle.ov_new_version.proofs.Answering.{err_match}
 use Rattle.ov_store.specs.Committing.{parents_off, parents_off_in}
 use Rattle.ov_store.specs.Refusals.{refused}
 use Rattle.ov_store.specs.Scanning.{set_in}

@@ -10,13 +10,13 @@ use Rattle.ov_catalog.specs.Raw.{numbers_in}
 use Rattle.ov_catalog.specs.Reached.{AreParents}
 use Rattle.ov_catalog.specs.Sets as sets
 use Rattle.ov_core.specs.Held.{IsReplayed}
-use Rattle.ov_agree.specs.Agreeing.{ParentsAgree}
-use Rattle.ov_agree.proofs.Room.{few_records}
-use Rattle.ov_versions.specs.Agreement.{IsThere}
-use Rattle.ov_versions.specs.Partitions.{AreHeld, IsHeld}
-use Rattle.ov_versions.specs.Sizes.{bytes_for}
-use Rattle.ov_versions.proofs.Gatherings.{zip_length}
-use Rattle.ov_committing.proofs.Served.{if_told}
+use Rattle.law_commits.specs.Agreeing.{ParentsAgree}
+use Rattle.law_commits.proofs.Room.{few_records}
+use Rattle.ov_read.specs.Agreement.{IsThere}
+use Rattle.ov_read.specs.Partitions.{AreHeld, IsHeld}
+use Rattle.ov_read.specs.Sizes.{bytes_for}
+use Rattle.ov_read.proofs.Gatherings.{zip_length}
+use Rattle.ov_new_version.proofs.Served.{if_told}
 use Rattle.ov_parents.specs.Parents.{IsParent}
 use Rattle.ov_parents.proofs.Adding.{all_counted}
 use Rattle.ov_store.specs.Changes.{bringing_of}

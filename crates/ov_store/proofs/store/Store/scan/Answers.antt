@@ -7,12 +7,12 @@ use Rattle.ov_fetch.specs.Extents.{page_bytes}
 use Rattle.ov_model.specs.Placed.{times}
 use Rattle.ov_catalog.specs.Numbers.{Numbers}
 use Rattle.ov_catalog.specs.Sets as sets
-use Rattle.ov_versions.specs.Agreement.{IsThere}
-use Rattle.ov_versions.specs.Damages.{RefusesScan}
-use Rattle.ov_versions.specs.Found.{IsScanned}
-use Rattle.ov_versions.specs.OfWorld.{IsSetOf}
-use Rattle.ov_sights.proofs.Served.{scan_spared}
-use Rattle.ov_sights.proofs.Scanned.{have_rows}
+use Rattle.ov_read.specs.Agreement.{IsThere}
+use Rattle.ov_read.specs.Damages.{RefusesScan}
+use Rattle.ov_read.specs.Found.{IsScanned}
+use Rattle.ov_read.specs.OfWorld.{IsSetOf}
+use Rattle.law_reads.proofs.Served.{scan_spared}
+use Rattle.law_reads.proofs.Scanned.{have_rows}
 use Rattle.ov_store.specs.Errors.{of_fetch}
 use Rattle.ov_store.specs.Listing.{IsListed}
 use Rattle.ov_store.specs.Refusals.{IsVidOff}

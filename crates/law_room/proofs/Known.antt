@@ -1,0 +1,236 @@
+-- What a move writes is one thing: its event, its list and its segment have one spelling each.
+use Rattle.std.proofs.Common.{◌≡◌, ◌⊎◌, inl, inr, ℕ, List, [], ◌∷◌, length, map, refl, sym, ◌∙◌, ap, arith}
+use Rattle.std.specs.Prelude.{Option, Some, None}
+use Rattle.ov_host.specs.declared.area.Extent.{Extent}
+use Rattle.ov_event.specs.declared.event.Event as raw
+use Rattle.ov_event.specs.declared.event.Event.TheVariants as says
+use Rattle.ov_event.specs.declared.event.Placed.{Placed}
+use Rattle.ov_event.specs.declared.event.Placed.TheVariants as at
+use Rattle.ov_event.specs.declared.event.RawSchema.{RawSchema}
+use Rattle.ov_member.specs.Lists.{Spells, bytes_of, ranges_of}
+use Rattle.ov_member.proofs.RangeLemmas.{ranges_of-rids_of}
+use Rattle.ov_place.specs.declared.place_facts.Place.{Place}
+use Rattle.ov_place.specs.declared.place_facts.Place.TheVariants.{Own, Join}
+use Rattle.ov_value.specs.Shapes.{Shape}
+use Rattle.ov_model.specs.Book.{Row}
+use Rattle.ov_model.specs.Moves.{Move, Init as InitMove, Commit as CommitMove, BeginPlan, Copy, Flip, Drop as DropMove, Checkpoint, numbered, version_of}
+use Rattle.ov_model.specs.World.{Dataset, World, first_set}
+use Rattle.ov_catalog.specs.Events.{Event, Init, Commit, Drop, Other, each_event}
+use Rattle.ov_catalog.specs.Raw.{event_in, place_in, shape_in}
+use Rattle.ov_catalog.specs.Reached.{CommitFits, Fits, IfThere}
+use Rattle.ov_catalog.specs.Shown.{Records, Rids, commit_in, event_of}
+use Rattle.law_image.specs.Lists.{list_in}
+use Rattle.law_image.specs.Segments.{segment_bytes, segment_in}
+use Rattle.law_image.proofs.Readers.{list_read, segment_read}
+use Rattle.ov_core.specs.Brought.{BringsRuns, content, extent_at, segments_in, with_extents}
+use Rattle.ov_core.specs.Rooms.{pages_for}
+use Rattle.ov_event.specs.Spelling.{spelling}
+use Rattle.law_room.specs.Room.{AllFit, Entry, LacksRun, Made, Take, Writes}
+
+-- ---- bytes
+
+list_is : (bytes rids : List ℕ) → list_in bytes ≡ Some rids → bytes ≡ bytes_of (ranges_of rids)
+list_is bytes rids is =
+    let spells : Spells bytes rids = list_read bytes rids is
+    in spells.written ∙ ap bytes_of (sym (ap ranges_of spells.listed ∙ ranges_of-rids_of 0 spells.ranges spells.apart))
+
+segment_is : (bytes : List ℕ) (records : Records) → segment_in bytes ≡ Some records → bytes ≡ segment_bytes records
+segment_is bytes records is = (segment_read bytes records is).1
+
+head_is : {X : Type 0} (x y : X) (xs ys : List X) → x ∷ xs ≡ y ∷ ys → x ≡ y
+head_is x y xs ys e = cc
+
+-- the segments of two bytes that have the same
+segments_once : (a b : List ℕ) (segments : List Records) → segments_in a ≡ map Some segments → segments_in b ≡ map Some segments → a ≡ b
+segments_once [] [] segments here there = refl
+segments_once [] (y ∷ b) segments here there = absurd (by segments here there)
+  where
+    by : (s : List Records) → [] ≡ map Some s → segment_in (y ∷ b) ∷ [] ≡ map Some s → ⊥
+    by [] one two = cc
+    by (x ∷ s) one two = cc
+segments_once (x ∷ a) [] segments here there = absurd (by segments here there)
+  where
+    by : (s : List Records) → segment_in (x ∷ a) ∷ [] ≡ map Some s → [] ≡ map Some s → ⊥
+    by [] one two = cc
+    by (y ∷ s) one two = cc
+segments_once (x ∷ a) (y ∷ b) segments here there = by segments here there
+  where
+    by : (s : List Records) → segment_in (x ∷ a) ∷ [] ≡ map Some s → segment_in (y ∷ b) ∷ [] ≡ map Some s → x ∷ a ≡ y ∷ b
+    by [] one two = absurd cc
+    by (records ∷ s) one two =
+        segment_is (x ∷ a) records (head_is (segment_in (x ∷ a)) (Some records) [] (map Some s) one)
+        ∙ sym (segment_is (y ∷ b) records (head_is (segment_in (y ∷ b)) (Some records) [] (map Some s) two))
+
+-- ---- events
+
+abbrev placed_of : Place → Placed
+placed_of Own = at.Own
+placed_of (Join id) = at.Join id
+
+placed_back : (p : Placed) → placed_of (place_in p) ≡ p
+placed_back at.Own = refl
+placed_back (at.Join id) = refl
+
+abbrev schema_of : Shape → RawSchema
+schema_of s = record { columns = s.columns; key = s.key }
+
+-- what an event is whose extents are those of these bytes
+abbrev IsSized : raw.Event → List ℕ → List ℕ → Type 0
+IsSized e list segment = with_extents (extent_at 0 list) (extent_at 0 segment) e ≡ e
+
+-- the one event that says so
+abbrev said_by : Event Rids Records → Extent → Extent → raw.Event
+said_by (Init name schema rows list segments) l s = says.Init name (schema_of schema) rows l s
+said_by (Commit cvd vid message parents rows fresh place added list segments) l s = says.Commit cvd vid message parents rows fresh (placed_of place) added l s
+said_by (Drop cvd) l s = says.Drop cvd
+said_by Other l s = says.Flip 0
+
+-- what the bytes have is what the event asks for; a drop has none
+abbrev Have : Event Rids Records → List ℕ → List ℕ → Type 0
+Have (Init name schema rows list segments) xs ys = (list_in xs ≡ Some list) × (segments_in ys ≡ map Some segments)
+Have (Commit cvd vid message parents rows fresh place added list segments) xs ys = (list_in xs ≡ Some list) × (segments_in ys ≡ map Some segments)
+Have (Drop cvd) xs ys = (xs ≡ []) × (ys ≡ [])
+Have Other xs ys = ⊥
+
+-- it is an event of a move
+abbrev IsOwn : Event Rids Records → Type 0
+IsOwn (Init name schema rows list segments) = Unit {0}
+IsOwn (Commit cvd vid message parents rows fresh place added list segments) = Unit {0}
+IsOwn (Drop cvd) = Unit {0}
+IsOwn Other = ⊥
+
+record IsSaid (x : Event Rids Records) (e : raw.Event) (list segment : List ℕ) : Type 0 where
+  event : e ≡ said_by x (extent_at 0 list) (extent_at 0 segment)
+  have : Have x list segment
+
+said_init : (name : List ℕ) (schema : Shape) (rows : ℕ) (rids : Rids) (segments : List Records) (e : raw.Event) (list segment : List ℕ)
+    → content (event_in e) list segment ≡ each_event Some Some (Init name schema rows rids segments) → IsSized e list segment → IsSaid (Init name schema rows rids segments) e list segment
+said_init name schema rows rids segments (says.Init n s r l t) list segment is sized =
+    let name_is : n ≡ name = cc
+    in let schema_is : shape_in s ≡ schema = cc
+    in let rows_are : r ≡ rows = cc
+    in let list_has : list_in list ≡ Some rids = cc
+    in let segment_has : segments_in segment ≡ map Some segments = cc
+    in record {
+      event = sym sized ∙ (λ i. says.Init (name_is i) (schema_of (schema_is i)) (rows_are i) (extent_at 0 list) (extent_at 0 segment));
+      have = (list_has, segment_has);
+    }
+said_init name schema rows rids segments (says.Commit cvd vid message parents r fresh place added l s) list segment is sized = absurd cc
+said_init name schema rows rids segments (says.Plan cvd p q targets) list segment is sized = absurd cc
+said_init name schema rows rids segments (says.Copy cvd count run) list segment is sized = absurd cc
+said_init name schema rows rids segments (says.Flip cvd) list segment is sized = absurd cc
+said_init name schema rows rids segments (says.Drop cvd) list segment is sized = absurd cc
+said_init name schema rows rids segments (says.Base next) list segment is sized = absurd cc
+said_init name schema rows rids segments (says.Whole set) list segment is sized = absurd cc
+said_init name schema rows rids segments (says.Wide cvd vid message columns parents r fresh place added l s) list segment is sized = absurd cc
+
+said_commit : (cvd vid : ℕ) (message : List ℕ) (parents : List (ℕ × ℕ)) (rows fresh : ℕ) (place : Place) (added : ℕ) (rids : Rids) (segments : List Records) (e : raw.Event) (list segment : List ℕ)
+    → content (event_in e) list segment ≡ each_event Some Some (Commit cvd vid message parents rows fresh place added rids segments) → IsSized e list segment
+    → IsSaid (Commit cvd vid message parents rows fresh place added rids segments) e list segment
+said_commit cvd vid message parents rows fresh place added rids segments (says.Init n s r l t) list segment is sized = absurd cc
+said_commit cvd vid message parents rows fresh place added rids segments (says.Commit c v m ps r f p a l s) list segment is sized =
+    let cvd_is : c ≡ cvd = cc
+    in let vid_is : v ≡ vid = cc
+    in let message_is : m ≡ message = cc
+    in let parents_are : ps ≡ parents = cc
+    in let rows_are : r ≡ rows = cc
+    in let fresh_are : f ≡ fresh = cc
+    in let place_is : place_in p ≡ place = cc
+    in let added_are : a ≡ added = cc
+    in let list_has : list_in list ≡ Some rids = cc
+    in let segment_has : segments_in segment ≡ map Some segments = cc
+    in record {
+      event = sym sized
+          ∙ (λ i. says.Commit (cvd_is i) (vid_is i) (message_is i) (parents_are i) (rows_are i) (fresh_are i) ((sym (placed_back p) ∙ ap placed_of place_is) i) (added_are i) (extent_at 0 list) (extent_at 0 segment));
+      have = (list_has, segment_has);
+    }
+said_commit cvd vid message parents rows fresh place added rids segments (says.Plan c p q targets) list segment is sized = absurd cc
+said_commit cvd vid message parents rows fresh place added rids segments (says.Copy c count run) list segment is sized = absurd cc
+said_commit cvd vid message parents rows fresh place added rids segments (says.Flip c) list segment is sized = absurd cc
+said_commit cvd vid message parents rows fresh place added rids segments (says.Drop c) list segment is sized = absurd cc
+said_commit cvd vid message parents rows fresh place added rids segments (says.Base next) list segment is sized = absurd cc
+said_commit cvd vid message parents rows fresh place added rids segments (says.Whole set) list segment is sized = absurd cc
+said_commit cvd vid message parents rows fresh place added rids segments (says.Wide c v m columns ps r f p a l s) list segment is sized = absurd cc
+
+no_runs : (A B : Type 0) → ⊥ ⊎ (A × B) → A × B
+no_runs A B (inl runs) = absurd runs
+no_runs A B (inr none) = none
+
+said_drop : (cvd : ℕ) (e : raw.Event) (list segment : List ℕ) → content (event_in e) list segment ≡ Drop cvd → BringsRuns e ⊎ ((list ≡ []) × (segment ≡ [])) → IsSaid (Drop cvd) e list segment
+said_drop cvd (says.Init n s r l t) list segment is runs = absurd cc
+said_drop cvd (says.Commit c v m ps r f p a l s) list segment is runs = absurd cc
+said_drop cvd (says.Plan c p q targets) list segment is runs = absurd cc
+said_drop cvd (says.Copy c count run) list segment is runs = absurd cc
+said_drop cvd (says.Flip c) list segment is runs = absurd cc
+said_drop cvd (says.Drop c) list segment is runs =
+    let cvd_is : c ≡ cvd = cc
+    in record { event = λ i. says.Drop (cvd_is i); have = no_runs (list ≡ []) (segment ≡ []) runs }
+said_drop cvd (says.Base next) list segment is runs = absurd cc
+said_drop cvd (says.Whole set) list segment is runs = absurd cc
+said_drop cvd (says.Wide c v m columns ps r f p a l s) list segment is runs = absurd cc
+
+said : (x : Event Rids Records) → IsOwn x → (e : raw.Event) (list segment : List ℕ) → content (event_in e) list segment ≡ each_event Some Some x → IsSized e list segment
+    → BringsRuns e ⊎ ((list ≡ []) × (segment ≡ [])) → IsSaid x e list segment
+said (Init name schema rows rids segments) own e list segment is sized runs = said_init name schema rows rids segments e list segment is sized
+said (Commit cvd vid message parents rows fresh place added rids segments) own e list segment is sized runs =
+    said_commit cvd vid message parents rows fresh place added rids segments e list segment is sized
+said (Drop cvd) own e list segment is sized runs = said_drop cvd e list segment is runs
+said Other own e list segment is sized runs = absurd own
+
+have_once : (x : Event Rids Records) (a b s t : List ℕ) → Have x a s → Have x b t → (a ≡ b) × (s ≡ t)
+have_once (Init name schema rows rids segments) a b s t here there =
+    (list_is a rids here.0 ∙ sym (list_is b rids there.0), segments_once s t segments here.1 there.1)
+have_once (Commit cvd vid message parents rows fresh place added rids segments) a b s t here there =
+    (list_is a rids here.0 ∙ sym (list_is b rids there.0), segments_once s t segments here.1 there.1)
+have_once (Drop cvd) a b s t here there = (here.0 ∙ sym there.0, here.1 ∙ sym there.1)
+have_once Other a b s t here there = absurd here
+
+-- ---- moves
+
+own_commit : (cvd : ℕ) (parents message : List ℕ) (rows : List Row) (found : Option Dataset) → IfThere (λ d. CommitFits d (version_of parents message rows)) found
+    → IsOwn (commit_in cvd (version_of parents message rows) found)
+own_commit cvd parents message rows None fits = absurd fits
+own_commit cvd parents message rows (Some d) fits = tt
+
+own_event : (m : Move) (w : World) → Fits m w → IsOwn (event_of m w)
+own_event (InitMove name schema rows) w fits = tt
+own_event (CommitMove cvd parents message [] rows) w fits = own_commit cvd parents message rows (first_set (numbered cvd) w.sets) fits
+own_event (CommitMove cvd parents message (column ∷ added) rows) w fits = absurd fits
+own_event (BeginPlan cvd p q) w fits = absurd fits
+own_event (Copy cvd) w fits = absurd fits
+own_event (Flip cvd) w fits = absurd fits
+own_event (DropMove cvd) w fits = tt
+own_event Checkpoint w fits = absurd fits
+
+pub written_once : (m : Move) (w : World) (a b : Writes m w) → Fits m w → (a.event ≡ b.event) × (a.list ≡ b.list) × (a.segment ≡ b.segment)
+written_once m w a b fits =
+    let x : Event Rids Records = event_of m w
+    in let here : IsSaid (event_of m w) a.event a.list a.segment = said (event_of m w) (own_event m w fits) a.event a.list a.segment a.says a.sized a.runs
+    in let there : IsSaid (event_of m w) b.event b.list b.segment = said (event_of m w) (own_event m w fits) b.event b.list b.segment b.says b.sized b.runs
+    in let same = have_once (event_of m w) a.list b.list a.segment b.segment here.have there.have
+    in (
+      here.event ∙ (λ i. said_by (event_of m w) (extent_at 0 (same.0 i)) (extent_at 0 (same.1 i))) ∙ sym there.event,
+      same.0,
+      same.1,
+    )
+
+-- so many pages and bytes
+pub taken_once : (before : List Made) (pages bytes others more : ℕ) → AllFit before → Take before pages bytes → Take before others more → (pages ≡ others) × (bytes ≡ more)
+taken_once [] pages bytes others more fit here there = (here.0 ∙ sym there.0, here.1 ∙ sym there.1)
+taken_once (made ∷ before) pages bytes others more fit (a, p, n, here, pages_are, bytes_are) (b, q, k, there, others_are, more_are) =
+    let same = written_once made.move made.world a b fit.0
+    in let rest = taken_once before p n q k fit.1 here there
+    in let list : pages_for a.list ≡ pages_for b.list = ap pages_for same.1
+    in let segment : pages_for a.segment ≡ pages_for b.segment = ap pages_for same.2
+    in let record_ : length (spelling a.event) ≡ length (spelling b.event) = ap (λ (e : raw.Event). length (spelling e)) same.0
+    in (omega (arith, pages_are, others_are, list, segment, rest.0), omega (arith, bytes_are, more_are, record_, rest.1))
+
+pub drop_lacks_no_run : (entry : Entry) (before : List Made) (cvd : ℕ) (w : World) (pages : ℕ) → LacksRun entry before (DropMove cvd) w pages → ⊥
+drop_lacks_no_run entry before cvd w pages lacks = by lacks.which
+  where
+    none : (lacks.writes.list ≡ []) × (lacks.writes.segment ≡ [])
+    none = (said_drop cvd lacks.writes.event lacks.writes.list lacks.writes.segment lacks.writes.says lacks.writes.runs).have
+
+    by : (pages ≡ pages_for lacks.writes.list) ⊎ (pages ≡ pages_for lacks.writes.segment) → ⊥
+    by (inl is) = let empty : pages_for lacks.writes.list ≡ 0 = ap pages_for none.0 in omega (arith, is, empty, lacks.some)
+    by (inr is) = let empty : pages_for lacks.writes.segment ≡ 0 = ap pages_for none.1 in omega (arith, is, empty, lacks.some)

@@ -1,8 +1,0 @@
-use Rattle.ov_agree.proofs.Room.{few_records, room_left}
-use Rattle.ov_agree.proofs.rids_left.rids_are_left.Goals as goal
-
-pub returns-clause-records : goal.returns-clause-records
-returns-clause-records c = few_records
-
-pub returns-clause-room : goal.returns-clause-room
-returns-clause-room c = room_left

@@ -1,9 +1,0 @@
-use Rattle.ov_agree.proofs.Listed.{world_agrees}
-use Rattle.ov_agree.proofs.Same.{versions_agree}
-use Rattle.ov_agree.proofs.worlds.records_of_versions_agree.Goals as goal
-
-pub returns-clause-none_differ : goal.returns-clause-none_differ
-returns-clause-none_differ c = versions_agree
-
-pub returns-clause-numbers : goal.returns-clause-numbers
-returns-clause-numbers c = λ d vids parents rise are. world_agrees d rise vids parents are

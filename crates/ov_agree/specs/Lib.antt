@@ -1,4 +1,0 @@
-pub mod Differing
-pub mod Seeing
-pub mod Agreeing
-pub mod Committing

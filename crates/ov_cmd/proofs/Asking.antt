@@ -1,0 +1,196 @@
+-- Each command that a line asks for, by the forms that the program has.
+use Rattle.std.proofs.Common.{◌≡◌, ℕ, Bool, true, false, List, [], ◌∷◌, length, refl, sym, ap, subst}
+use Rattle.std.specs.Prelude.{◌≢◌, ◌≤◌, ◌&&◌, not, if◌then◌else◌, nat_lt, codes, Option, Some, None, Result, Ok, Err, IfOk}
+use Rattle.std.specs.Option.{option_map}
+use Rattle.std.specs.Str.{bytes_eq, is_utf8}
+use Rattle.ov_value.specs.Making.{schema_of}
+use Rattle.ov_value.specs.Naming.{is_name}
+use Rattle.ov_value.specs.Shapes.{Shape}
+use Rattle.ov_model.specs.Forms.{Values, Form, text_in, vids_in, columns_in, names_in, word_of, choice, or_schema_refusal, init_with, make_init, make_checkout, some_columns, commit_with, make_commit, alone, of_cvd, init_form, checkout_form, commit_form, may_have, built_forms}
+use Rattle.ov_model.specs.Line.{Line, Comment, Asks, Refused, Read, missing, unless_missing, made_by, answer, by_words, first_of, has_second, form_of, off_all, by_form, by_name, read_words, line_of}
+use Rattle.ov_model.specs.Words.{Next, NoWord, Word, Unclosed, next_word, words_of, without_blanks, is_comment}
+use Rattle.ov_model.specs.declared.command.Command.{Command}
+use Rattle.ov_model.specs.declared.command.Command.TheVariants as asks
+use Rattle.ov_model.specs.declared.given.Given.TheVariants.{Text}
+use Rattle.ov_model.specs.declared.given.Reading.TheVariants.{FileName}
+use Rattle.ov_model.specs.declared.refusal.Refusal.{Refusal}
+use Rattle.ov_model.specs.declared.refusal.Refusal.TheVariants as no
+use Rattle.ov_cmd.specs.Asked.{IsAsked, AsksBuilt}
+use Rattle.ov_cmd.specs.Said.{said}
+use Rattle.ov_cmd.specs.declared.line_err.LineErr.{LineErr}
+use Rattle.ov_cmd.proofs.FormValues.{AreGood, AllRead, words_good, no_table, no_added, versions_there, message_short}
+
+-- what is made is a command with what is known of it, or a refusal
+abbrev IsMade : Result Command Refusal → Type 0
+IsMade (Ok command) = IsAsked command
+IsMade (Err refusal) = Unit {0}
+
+abbrev AsksWell : Line → Type 0
+AsksWell Comment = Unit {0}
+AsksWell (Asks command) = IsAsked command
+AsksWell (Refused refusal) = Unit {0}
+
+-- a form whose commands are such
+record IsForm (f : Form) : Type 0 where
+  reads : AllRead f.choices
+  makes : (v : Values) → missing f.choices v.options ≡ None → AreGood v.options → IsMade (f.make v)
+  whole : f.whole ≡ false
+
+abbrev AreForms : List Form → Type 0
+AreForms [] = Unit {0}
+AreForms (f ∷ fs) = IsForm f × AreForms fs
+
+-- ---- the forms, one by one
+
+off : {A : Type 0} → false ≡ true → A
+off e = cc
+
+init_if : (t : Bool) (cvd file : List ℕ) (shape : Result Shape Refusal) (refusal : Refusal) → is_name cvd ≡ t → IsMade (if t then init_with cvd file shape else Err refusal)
+init_if true cvd file (Ok schema) refusal named = named
+init_if true cvd file (Err other) refusal named = tt
+init_if false cvd file shape refusal named = tt
+
+init_made : (v : Values) → IsMade (make_init v)
+init_made v =
+    init_if (is_name (text_in (word_of v 0))) (text_in (word_of v 0)) (text_in (choice v (codes "-f")))
+    (or_schema_refusal (schema_of (columns_in (choice v (codes "-s"))) (names_in (choice v (codes "-k"))))) (no.BadName (text_in (word_of v 0))) refl
+
+checkout_made : (v : Values) → vids_in (choice v (codes "-v")) ≢ [] → choice v (codes "-t") ≡ None → IsMade (make_checkout v)
+checkout_made v vids none = (vids, ap (option_map (λ given. text_in (Some given))) none)
+
+commit_made : (v : Values) → vids_in (choice v (codes "-v")) ≢ [] → length (text_in (choice v (codes "-m"))) ≤ 1024 → choice v (codes "-a") ≡ None → IsMade (make_commit v)
+commit_made v vids message none = subst (λ added. IsMade (commit_with v (some_columns added))) (sym none) (vids, message, refl)
+
+init_is : IsForm init_form
+init_is = record {
+  reads = (
+    record { versions = λ e. off e; message = λ e. off e; written = refl; no_table = refl; no_added = refl },
+    (
+      record { versions = λ e. off e; message = λ e. off e; written = refl; no_table = refl; no_added = refl },
+      (record { versions = λ e. off e; message = λ e. off e; written = refl; no_table = refl; no_added = refl }, tt),
+    ),
+  );
+  makes = λ v none good. init_made v;
+  whole = refl;
+}
+
+checkout_is : IsForm (checkout_form (may_have (codes "-f") FileName ∷ []))
+checkout_is = record {
+  reads = (
+    record { versions = λ e. refl; message = λ e. off e; written = refl; no_table = refl; no_added = refl },
+    (record { versions = λ e. off e; message = λ e. off e; written = refl; no_table = refl; no_added = refl }, tt),
+  );
+  makes = λ v none good. checkout_made v (versions_there v.options _ good none) (no_table v.options good);
+  whole = refl;
+}
+
+commit_is : IsForm (commit_form [])
+commit_is = record {
+  reads = (
+    record { versions = λ e. refl; message = λ e. off e; written = refl; no_table = refl; no_added = refl },
+    (
+      record { versions = λ e. off e; message = λ e. off e; written = refl; no_table = refl; no_added = refl },
+      (record { versions = λ e. off e; message = λ e. refl; written = refl; no_table = refl; no_added = refl }, tt),
+    ),
+  );
+  makes = λ v none good.
+      commit_made v (versions_there v.options _ good none) (message_short v.options good) (no_added v.options good);
+  whole = refl;
+}
+
+cvd_is : (name : List ℕ) (ask : List ℕ → Command) → ((cvd : List ℕ) → IsAsked (ask cvd)) → IsForm (of_cvd name ask)
+cvd_is name ask is = record { reads = tt; makes = λ v none good. is (text_in (word_of v 0)); whole = refl }
+
+alone_is : (name : List ℕ) (ask : Command) → IsAsked ask → IsForm (alone name ask)
+alone_is name ask is = record { reads = tt; makes = λ v none good. is; whole = refl }
+
+built_are : AreForms built_forms
+built_are = (
+  init_is,
+  (
+    checkout_is,
+    (
+      commit_is,
+      (
+        cvd_is (codes "log") asks.Log (λ cvd. tt),
+        (
+          cvd_is (codes "drop") asks.DropCvd (λ cvd. tt),
+          (alone_is (codes "ls") asks.Ls tt, tt),
+        ),
+      ),
+    ),
+  ),
+)
+
+-- ---- from the forms to the lines
+
+none_some : {X : Type 0} (x : X) → None ≡ Some x → ⊥
+none_some x e = cc
+
+some_same : {X : Type 0} (a b : X) → Some a ≡ Some b → a ≡ b
+some_same a b e = cc
+
+found_form_if : (t : Bool) (f g : Form) (rest : Option Form) → (if t then Some f else rest) ≡ Some g → IsForm f → (rest ≡ Some g → IsForm g) → IsForm g
+found_form_if true f g rest e is later = subst IsForm (some_same f g e) is
+found_form_if false f g rest e is later = later e
+
+found_form : (fs : List Form) (name : List ℕ) (word : Option (List ℕ)) (g : Form) → AreForms fs → form_of fs name word ≡ Some g → IsForm g
+found_form [] name word g are e = absurd (none_some g e)
+found_form (f ∷ fs) name word g are e =
+    found_form_if (bytes_eq f.name name && has_second f.second word) f g (form_of fs name word) e are.0 (found_form fs name word g are.1)
+
+answer_well : (r : Result Command Refusal) → IsMade r → AsksWell (answer r)
+answer_well (Ok command) is = is
+answer_well (Err refusal) is = tt
+
+unless_made : (letter : Option (List ℕ)) (r : Result Command Refusal) → (letter ≡ None → IsMade r) → IsMade (unless_missing letter r)
+unless_made None r is = is refl
+unless_made (Some letter) r is = tt
+
+by_made : (f : Form) (r : Read) → IsForm f → ((v : Values) → r ≡ Ok v → AreGood v.options) → IsMade (made_by f r)
+by_made f (Ok v) is good = unless_made (missing f.choices v.options) (f.make v) (λ none. is.makes v none (good v refl))
+by_made f (Err refusal) is good = tt
+
+words_well : (f : Form) (words : Option (List (List ℕ))) → IsForm f → AsksWell (by_words f words)
+words_well f None is = tt
+words_well f (Some words) is =
+    answer_well (made_by f (read_words f.choices f.params [] 2 words))
+    (by_made f (read_words f.choices f.params [] 2 words) is (λ v e. words_good f.choices is.reads f.params [] 2 words v e))
+
+off_well : (words : Option (List (List ℕ))) → AsksWell (off_all words)
+off_well None = tt
+off_well (Some words) = tt
+
+form_well : (behind : List ℕ) (words : Option (List (List ℕ))) (found : Option Form) → ((g : Form) → found ≡ Some g → IsForm g) → AsksWell (by_form behind words found)
+form_well behind words None is = off_well words
+form_well behind words (Some f) is =
+    subst (λ (t : Bool). AsksWell (if t then answer (f.make (record { words = Text (without_blanks behind) ∷ []; options = [] })) else by_words f words))
+    (sym (is f refl).whole) (words_well f words (is f refl))
+
+name_well : (forms : List Form) (next : Next) → AreForms forms → AsksWell (by_name forms next)
+name_well forms NoWord are = tt
+name_well forms (Word name behind) are =
+    form_well behind (words_of behind) (form_of forms name (first_of (words_of behind))) (λ g e. found_form forms name (first_of (words_of behind)) g are e)
+name_well forms Unclosed are = tt
+
+well_if : (t : Bool) (a b : Line) → AsksWell a → AsksWell b → AsksWell (if t then a else b)
+well_if true a b one other = one
+well_if false a b one other = other
+
+line_well : (forms : List Form) (text : List ℕ) → AreForms forms → AsksWell (line_of forms text)
+line_well forms text are =
+    well_if (nat_lt 65536 (length text)) (Refused no.LongLine) _ tt
+    (well_if (is_comment text) Comment _ tt
+    (well_if (not (is_utf8 text)) (Refused no.NotUtf8) (by_name forms (next_word text)) tt (name_well forms (next_word text) are)))
+
+pub asked : (line : List ℕ) (command : Command) → line_of built_forms line ≡ Asks command → IsAsked command
+asked line command e = subst AsksWell e (line_well built_forms line built_are)
+
+-- of what a line says
+pub asks_built : (line : List ℕ) (c : Option Command) → line_of built_forms line ≡ said c → AsksBuilt c
+asks_built line None e = tt
+asks_built line (Some command) e = asked line command e
+
+pub asks_all : (line : List ℕ) (r : Result (Option Command) LineErr) → IfOk r (λ c. line_of built_forms line ≡ said c) → IfOk r AsksBuilt
+asks_all line (Ok c) e = asks_built line c e
+asks_all line (Err why) e = tt

@@ -1,5 +1,0 @@
-use Rattle.ov_committing.proofs.Finding.{AreOthers}
-use Rattle.ov_committing.proofs.joining.place_with.Given as goal
-
-abbrev pub invariant-loop-place : goal.invariant-loop-place
-invariant-loop-place l = AreOthers l.id l.parts l.place

@@ -1,5 +1,0 @@
-use Rattle.ov_course.proofs.Due.{run_is_due}
-use Rattle.ov_course.proofs.laws.any_stop_of_a_run_leaves_what_is_due.Goals as goal
-
-pub returns : goal.returns
-returns c = run_is_due

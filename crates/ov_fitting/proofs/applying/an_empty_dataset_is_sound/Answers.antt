@@ -1,9 +1,0 @@
-use Rattle.std.proofs.Common.{refl}
-use Rattle.ov_catalog.proofs.WorkedLemmas.{empty-move}
-use Rattle.ov_fitting.proofs.applying.an_empty_dataset_is_sound.Goals as goal
-
-pub returns-clause-sound : goal.returns-clause-sound
-returns-clause-sound c = (refl, refl)
-
-pub returns-clause-spells : goal.returns-clause-spells
-returns-clause-spells c = λ r read. (empty-move r read).spells

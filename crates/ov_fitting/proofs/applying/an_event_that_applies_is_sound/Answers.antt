@@ -1,5 +1,0 @@
-use Rattle.ov_fitting.proofs.Asking.{applies_sound}
-use Rattle.ov_fitting.proofs.applying.an_event_that_applies_is_sound.Goals as goal
-
-pub returns : goal.returns
-returns c = applies_sound

@@ -1,5 +1,0 @@
-use Rattle.ov_fitting.proofs.Committing.{is_move}
-use Rattle.ov_fitting.proofs.applying.an_event_that_spells_a_move_is_its_event.Goals as goal
-
-pub returns : goal.returns
-returns c = is_move

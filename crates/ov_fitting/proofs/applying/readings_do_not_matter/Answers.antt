@@ -1,5 +1,0 @@
-use Rattle.ov_fitting.proofs.Holes.{first_off_each}
-use Rattle.ov_fitting.proofs.applying.readings_do_not_matter.Goals as goal
-
-pub returns : goal.returns
-returns c = λ r e n. first_off_each r.list r.segment e n

@@ -1,5 +1,0 @@
-use Rattle.ov_image.proofs.Standing.{one_more}
-use Rattle.ov_image.proofs.laws.one_more_payload.Goals as goal
-
-pub returns : goal.returns
-returns c = one_more

@@ -1,5 +1,0 @@
-use Rattle.ov_image.proofs.Standing.{same_pages}
-use Rattle.ov_image.proofs.laws.same_pages_have_the_same_extents.Goals as goal
-
-pub returns : goal.returns
-returns c = same_pages

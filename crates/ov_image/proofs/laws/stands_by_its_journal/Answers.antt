@@ -1,5 +1,0 @@
-use Rattle.ov_image.proofs.Standing.{stands_by}
-use Rattle.ov_image.proofs.laws.stands_by_its_journal.Goals as goal
-
-pub returns : goal.returns
-returns c = stands_by

@@ -1,5 +1,0 @@
-use Rattle.ov_laws.proofs.CountSteps.{one_step_less}
-use Rattle.ov_laws.proofs.countdown.each_step_is_one_step_less.Goals as goal
-
-pub returns : goal.returns
-returns c = one_step_less

@@ -1,5 +1,0 @@
-use Rattle.ov_laws.proofs.CourseMoves.{course_due}
-use Rattle.ov_laws.proofs.courses.moves_of_a_course_are_due.Goals as goal
-
-pub returns : goal.returns
-returns c = course_due

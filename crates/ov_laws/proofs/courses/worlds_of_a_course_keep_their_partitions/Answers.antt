@@ -1,5 +1,0 @@
-use Rattle.ov_laws.proofs.CourseMoves.{partitions_at}
-use Rattle.ov_laws.proofs.courses.worlds_of_a_course_keep_their_partitions.Goals as goal
-
-pub returns-clause-kept : goal.returns-clause-kept
-returns-clause-kept c = partitions_at

@@ -1,5 +1,0 @@
-use Rattle.ov_laws.proofs.PieceKept.{moved_pieces}
-use Rattle.ov_laws.proofs.pieces.pieces_are_disjoint_and_together_the_records.Goals as goal
-
-pub returns-clause-kept : goal.returns-clause-kept
-returns-clause-kept c = moved_pieces

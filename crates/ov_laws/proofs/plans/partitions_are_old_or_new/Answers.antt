@@ -1,9 +1,0 @@
-use Rattle.ov_laws.proofs.OldMoves.{moved_old}
-use Rattle.ov_laws.proofs.OldTight.{old_at}
-use Rattle.ov_laws.proofs.plans.partitions_are_old_or_new.Goals as goal
-
-pub returns-clause-kept : goal.returns-clause-kept
-returns-clause-kept c = moved_old
-
-pub returns-clause-course : goal.returns-clause-course
-returns-clause-course c = old_at

@@ -1,5 +1,0 @@
-use Rattle.ov_laws.proofs.CourseWhole.{deed_may}
-use Rattle.ov_laws.proofs.sound.commands_do_what_may_be_done.Goals as goal
-
-pub returns : goal.returns
-returns c = deed_may

@@ -1,0 +1,62 @@
+//! The payloads of a journal, one after another.
+
+ghost use Rattle.std.specs.Prelude.{MatchResult};
+ghost use Rattle.ov_open.specs.Replaying.{IsReplay, IsTaken, IsLeft, RefusesPayloads};
+
+use ov_catalog::{ApplyErr, Catalog};
+use ov_event::read_event;
+use ov_journal::Payload;
+use std::alloc::{AllocError, Global};
+
+/// Why payloads give no catalog.
+#[derive(Clone, Copy, Debug, PartialEq, Eq)]
+pub enum ReplayErr {
+    /// The payload at this place, counted from 0, spells no event, or one that can't follow those before it.
+    Damaged { nth: usize },
+    /// Memory was wanting.
+    Memory,
+}
+
+impl From<AllocError> for ReplayErr {
+    ghost use Rattle.std.specs.Prelude.{◌≡◌};
+    ghost use Rattle.ov_open.specs.declared.replaying.ReplayErr.TheVariants as why;
+
+    ghost from_gives = { λ _ made. made ≡ why.Memory };
+
+    fn from(_error: AllocError) -> ReplayErr {
+        ReplayErr::Memory
+    }
+}
+
+/// The catalog that a journal's payloads say. `Damaged` exactly at the first payload that spells no event, or an event that
+/// doesn't follow those before it, unless memory is wanting.
+///
+/// In time linear in the payloads, but for the searches of each event by halves.
+pub fn replay(alloc: Global, payloads: &[Payload]) -> Result<Catalog, ReplayErr>
+    ensures { MatchResult result (λ catalog. IsReplay payloads.now catalog.numbers) (RefusesPayloads payloads.now) }
+{
+    let mut catalog = Catalog::new(alloc);
+    for (nth, payload) in payloads.iter().enumerate() {
+        take_in(alloc, &mut catalog, payload.as_slice(), nth)?;
+    }
+    Ok(catalog)
+}
+
+// The payload at this place, behind those before it.
+fn take_in(
+    alloc: Global,
+    catalog: &mut Catalog,
+    payload: &[u8],
+    nth: usize,
+) -> Result<(), ReplayErr>
+    ensures { MatchResult result (λ done. IsTaken payload.now catalog.old.numbers catalog.new.numbers) (IsLeft payload.now nth catalog.old.numbers) }
+{
+    let Some(event) = read_event(alloc, payload)? else {
+        return Err(ReplayErr::Damaged { nth });
+    };
+    match catalog.apply(event) {
+        Ok(()) => Ok(()),
+        Err(ApplyErr::Memory) => Err(ReplayErr::Memory),
+        Err(ApplyErr::NotNext { .. }) => Err(ReplayErr::Damaged { nth }),
+    }
+}

@@ -1,0 +1,13 @@
+pub mod Bearing
+pub mod Listing
+pub mod Numbered
+pub mod Uniting
+pub mod Matching
+pub mod Placing
+pub mod Picked
+pub mod Gatherings
+pub mod Passed
+pub mod Keeping
+pub mod Ending
+pub mod Shows
+pub mod PickFacts

@@ -1,6 +1,0 @@
-use Rattle.std.proofs.Common.{take}
-use Rattle.ov_replay.specs.Replaying.{IsReplay}
-use Rattle.ov_replay.proofs.replaying.replay.Given as goal
-
-abbrev pub invariant-loop-nth : goal.invariant-loop-nth
-invariant-loop-nth l = IsReplay (take l.nth l.payloads) l.catalog.numbers

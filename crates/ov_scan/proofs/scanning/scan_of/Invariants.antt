@@ -1,9 +1,0 @@
-use Rattle.std.proofs.Common.{take}
-use Rattle.std.specs.List.{All}
-use Rattle.ov_fetch.specs.Scans.{AllStand}
-use Rattle.ov_scan.specs.Picking.{ArePicks}
-use Rattle.ov_scan.proofs.scanning.scan_of.Given as goal
-
-abbrev pub invariant-loop-rids : goal.invariant-loop-rids
-invariant-loop-rids l =
-    ArePicks l.schema l.fn.records (take l.rids-index l.members) l.picks.items × All (AllStand l.fn.records) l.picks.items

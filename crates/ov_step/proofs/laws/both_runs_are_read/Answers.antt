@@ -1,5 +1,0 @@
-use Rattle.ov_step.proofs.Overwriting.{first_read}
-use Rattle.ov_step.proofs.laws.both_runs_are_read.Goals as goal
-
-pub returns-clause-list : goal.returns-clause-list
-returns-clause-list c list segment old off = first_read list.page segment.page list.bytes.now segment.bytes.now old off

@@ -1,0 +1,94 @@
+use Rattle.std.proofs.Common.{rules, ◌≡◌, length, sym, ◌∙◌, ap, subst, arith}
+use Rattle.std.specs.List.{zip}
+use Rattle.ov_event.specs.declared.event.Event.TheVariants as says
+use Rattle.ov_event.specs.Spelling.{AreParents}
+use Rattle.ov_member.specs.Rids.{left_out}
+use Rattle.ov_model.specs.Moves.{version_of}
+use Rattle.ov_catalog.specs.Events as events
+use Rattle.ov_catalog.specs.Raw.{event_in}
+use Rattle.ov_core.specs.Brought.{extent_at, content, segments_in}
+use Rattle.law_events.specs.Fitting.{IsSoundEvent}
+use Rattle.law_image.specs.Lists.{list_in}
+use Rattle.ov_version_bytes.specs.Next.{spelled_place}
+use Rattle.ov_version_bytes.specs.Written.{numbered, not_held, list_written, segment_written}
+use Rattle.ov_version_bytes.proofs.Edges.{parents_spelled}
+use Rattle.ov_version_bytes.proofs.Fitting.{AreRuns, list_low, list_sound, segment_sound}
+use Rattle.ov_version_bytes.proofs.Following.{event_asked, asked_of, known_of, left_long, place_back}
+use Rattle.ov_version_bytes.proofs.Keeping.{kept_few}
+use Rattle.ov_version_bytes.proofs.next.next_version.Goals as goal
+
+pub commit_of-requires-clause-parents : goal.commit_of-requires-clause-parents
+commit_of-requires-clause-parents c =
+    let weights = c.in_ok-edges.ensures.weights
+    in subst AreParents (sym c.in_ok-edges.ensures.edges)
+    (parents_spelled c.args.next.parents.now c.as_slice-2.result.now c.requires.parents c.in_ok-edges.ensures.vids weights)
+
+pub commit_of-requires-clause-added : goal.commit_of-requires-clause-added
+commit_of-requires-clause-added c =
+    let count : c.len-count.result ≡ length c.args.next.rows.items = search rules
+    in let added = c.in_ok-runs.ensures.added ∙ ap (λ rids. length (not_held c.args.next.held.now (numbered rids c.args.next.rows.items))) c.as_slice.ensures
+    in omega (arith, count, added, kept_few c.args.next.held.now c.args.next.made.rids c.args.next.rows.items c.requires.given.as_many)
+
+pub commit_of-requires-clause-list : goal.commit_of-requires-clause-list
+commit_of-requires-clause-list c =
+    let next = c.args.next
+    in list_low next.held.now next.made.rids next.rows.items c.in_ok-runs.runs.list.items c.in_ok-runs.runs.segment.items c.requires.rows.few c.requires.given
+    (record {
+      list_is = c.in_ok-runs.ensures.list ∙ ap list_written c.as_slice.ensures;
+      segment_is = c.in_ok-runs.ensures.segment ∙ ap (λ rids. segment_written next.held.now rids next.rows.items) c.as_slice.ensures;
+      short = c.in_ok-runs.ensures.short;
+    })
+
+runs_are : (c : goal.After-drop-made-3) → AreRuns c.args.next.held.now c.args.next.made.rids c.args.next.rows.items c.in_ok-runs.runs.list.items c.in_ok-runs.runs.segment.items
+runs_are c = record {
+  list_is = c.in_ok-runs.ensures.list ∙ ap list_written c.as_slice.ensures;
+  segment_is = c.in_ok-runs.ensures.segment ∙ ap (λ rids. segment_written c.args.next.held.now rids c.args.next.rows.items) c.as_slice.ensures;
+  short = c.in_ok-runs.ensures.short;
+}
+
+-- the event, by the rows that come to the partition
+event_is : (c : goal.After-drop-made-3) → c.in_ok-event.event
+    ≡ says.Commit c.args.next.cvd c.args.next.vid c.args.next.message.now (zip c.args.next.parents.now c.args.next.made.weights) (length c.args.next.rows.items) c.args.next.made.fresh
+    (spelled_place c.args.next.place) (length (not_held c.args.next.held.now (numbered c.args.next.made.rids c.args.next.rows.items)))
+    (extent_at 0 c.in_ok-runs.runs.list.items) (extent_at 0 c.in_ok-runs.runs.segment.items)
+event_is c =
+    let count : c.len-count.result ≡ length c.args.next.rows.items = search rules
+    in let edges = c.in_ok-edges.ensures.edges ∙ ap (zip c.args.next.parents.now) c.as_slice-2.ensures
+    in let added = c.in_ok-runs.ensures.added ∙ ap (λ rids. length (not_held c.args.next.held.now (numbered rids c.args.next.rows.items))) c.as_slice.ensures
+    in c.in_ok-event.ensures.made
+    ∙ (λ i. says.Commit c.args.next.cvd c.args.next.vid c.args.next.message.now (edges i) (count i) c.args.next.made.fresh (spelled_place c.args.next.place) (added i)
+    (extent_at 0 c.in_ok-runs.runs.list.items) (extent_at 0 c.in_ok-runs.runs.segment.items))
+
+-- and by their rids
+event_told : (c : goal.After-drop-made-3) → c.in_ok-event.event
+    ≡ says.Commit c.args.next.cvd c.args.next.vid c.args.next.message.now (zip c.args.next.parents.now c.args.next.made.weights) (length c.args.next.rows.items) c.args.next.made.fresh
+    (spelled_place c.args.next.place) (length (left_out c.args.next.made.rids c.args.next.held.now))
+    (extent_at 0 c.in_ok-runs.runs.list.items) (extent_at 0 c.in_ok-runs.runs.segment.items)
+event_told c =
+    event_is c
+    ∙ ap (λ added. says.Commit c.args.next.cvd c.args.next.vid c.args.next.message.now (zip c.args.next.parents.now c.args.next.made.weights) (length c.args.next.rows.items)
+    c.args.next.made.fresh (spelled_place c.args.next.place) added (extent_at 0 c.in_ok-runs.runs.list.items) (extent_at 0 c.in_ok-runs.runs.segment.items))
+    (left_long c.args.next.held.now c.args.next.made.rids c.args.next.rows.items c.requires.given.as_many)
+
+pub returns-clause-event_is : goal.returns-clause-event_is
+returns-clause-event_is c = event_told c
+
+pub returns-clause-sound : goal.returns-clause-sound
+returns-clause-sound c =
+    let next = c.args.next
+    in let list = c.in_ok-runs.runs.list.items
+    in let segment = c.in_ok-runs.runs.segment.items
+    in subst IsSoundEvent (sym (event_is c)) (
+      list_sound next.held.now next.made.rids next.rows.items list segment c.requires.rows.few c.requires.given (runs_are c),
+      segment_sound c.args.schema.now next.held.now next.made.rids next.rows.items list segment c.requires.rows c.requires.given (runs_are c),
+    )
+
+pub returns-clause-says : goal.returns-clause-says
+returns-clause-says c = λ w d reached found is.
+    let next = c.args.next
+    in let runs = runs_are c
+    in ap (λ e. content (event_in e) c.in_ok-runs.runs.list.items c.in_ok-runs.runs.segment.items) (event_told c)
+    ∙ (λ i. events.Commit next.cvd next.vid next.message.now (zip next.parents.now next.made.weights) (length next.rows.items) next.made.fresh (place_back next.place i)
+    (length (left_out next.made.rids next.held.now)) (list_in (runs.list_is i)) (segments_in (runs.segment_is i)))
+    ∙ event_asked d (version_of next.parents.now next.message.now next.rows.items) next.vid next.made next.place next.held.now c.args.schema.now (known_of next.cvd w d reached found) is c.requires.rows c.requires.given next.cvd
+    ∙ sym (asked_of next.cvd next.parents.now next.message.now next.rows.items w d found)

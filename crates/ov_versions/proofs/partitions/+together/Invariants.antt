@@ -1,5 +1,0 @@
-use Rattle.std.proofs.Common.{length}
-use Rattle.ov_versions.proofs.partitions.+together.Given as goal
-
-abbrev pub decreases-together : goal.decreases-together
-decreases-together l = length l.sets.now

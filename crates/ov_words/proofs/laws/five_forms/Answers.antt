@@ -1,5 +1,0 @@
-use Rattle.ov_words.proofs.Forms.{options_of_form, form_of_options}
-use Rattle.ov_words.proofs.laws.five_forms.Goals as goal
-
-pub returns : goal.returns
-returns c words folder steps = (form_of_options words folder steps, options_of_form words folder steps)
