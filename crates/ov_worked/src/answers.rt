@@ -1,4 +1,0 @@
-mod asking;
-mod queries;
-mod refusals;
-mod tables;

@@ -1,6 +1,0 @@
-mod merges;
-mod placements;
-mod plans;
-mod records;
-mod splits;
-mod tables;
