@@ -16,6 +16,3 @@ pub use applying::{a_commit_gives_different_rids, a_commit_that_agrees_applies};
 pub use edges::the_tree_parent_is_a_parent;
 pub use rids_left::rids_are_left;
 pub use worlds::records_of_versions_agree;
-
-#[cfg(test)]
-mod tests;

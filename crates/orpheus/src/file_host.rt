@@ -38,12 +38,15 @@ struct Areas {
 }
 
 // Makes the folder and its files where they are absent, and opens them. Their names are settled too, since without them a
-// stop could lose a file whose bytes were synced.
+// stop could lose a file whose bytes were synced. Two programs on one folder would write over each other, so the journal is
+// locked as long as it is open, and a folder whose journal another open has locked isn't opened.
 fn open_areas(rt: HostRuntime, folder: &str) -> io::Result<Areas> {
     make_folder(rt, folder)?;
+    let journal = open_area(rt, folder, Area::Journal)?;
+    journal.try_lock()?;
     let areas = Areas {
         pages: open_area(rt, folder, Area::Pages)?,
-        journal: open_area(rt, folder, Area::Journal)?,
+        journal,
     };
     settle_names(rt, folder)?;
     Ok(areas)
@@ -139,8 +142,9 @@ impl Folder {
 }
 
 /// A host that keeps its areas in the files `pages` and `journal` of a folder, and prints to standard output. It tells no
-/// bytes. Its first call makes the folder and the files where they are absent, and opens them; what fails there is that
-/// call's failure.
+/// bytes. Its first call makes the folder and the files where they are absent, opens them, and takes an exclusive advisory
+/// lock on the journal, which lasts as long as the host; what fails there is that call's failure, also that another open of
+/// the journal holds the lock.
 #[derive(Drop)]
 pub struct FileHost {
     folder: Folder,
@@ -231,6 +235,7 @@ mod tests {
             host.write(area, at, bytes)?;
             host.sync(area)?;
         }
+        drop(host);
         let mut host = FileHost::new(rt, Txt::new(rt.alloc(), FOLDER)?);
         assert_eq!(rt; host.len(Area::Journal)?, 8);
         for (area, at, bytes) in READS {
@@ -245,6 +250,22 @@ mod tests {
             "no file is so long"
         );
         fs::remove_dir_all(&rt, FOLDER)?;
+        Ok(())
+    }
+
+    #[test]
+    fn a_folder_has_one_host_at_a_time(rt: HostRuntime) -> Result<(), Fail> {
+        let folder = "store_of_two_hosts";
+        let _ = fs::remove_dir_all(&rt, folder);
+        let mut first = FileHost::new(rt, Txt::new(rt.alloc(), folder)?);
+        first.write(Area::Journal, 0, b"head")?;
+        let mut second = FileHost::new(rt, Txt::new(rt.alloc(), folder)?);
+        assert_eq!(rt; second.write(Area::Journal, 0, b"tail"), Err(Failed));
+        drop(first);
+        let mut bytes = [0; 4];
+        second.read(Area::Journal, 0, &mut bytes)?;
+        assert_eq!(rt; &bytes, b"head");
+        fs::remove_dir_all(&rt, folder)?;
         Ok(())
     }
 

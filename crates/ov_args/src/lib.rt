@@ -13,6 +13,3 @@ mod reading;
 pub use answer::{Options, WordsErr};
 pub use laws::five_forms;
 pub use reading::options;
-
-#[cfg(test)]
-mod tests;

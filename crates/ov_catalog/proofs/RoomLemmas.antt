@@ -6,7 +6,7 @@ use Rattle.std.proofs.lemmas.Bool.{cases_Bool}
 use Rattle.std.proofs.lemmas.List.Elements.{All-push, All-cons}
 use Rattle.ov_layout.specs.Changes.{IsAbove}
 use Rattle.ov_layout.proofs.JoinLemmas.{ascend-push}
-use Rattle.ov_layout.proofs.TrialLemmas.{above-push}
+use Rattle.ov_layout.proofs.NewLemmas.{above-push}
 use Rattle.ov_layout.proofs.VidLemmas.{keys-strict}
 use Rattle.ov_place.specs.declared.place_facts.Place.{Place}
 use Rattle.ov_value.specs.Shapes.{Shape}

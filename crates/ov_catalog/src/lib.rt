@@ -27,6 +27,3 @@ pub use laws::{
     an_empty_dataset_stands, at_most_one_world, events_are_moves,
     nothing_stands_for_the_empty_world, one_more_event, only_live_extents_matter,
 };
-
-#[cfg(test)]
-mod tests;

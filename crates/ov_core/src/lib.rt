@@ -15,6 +15,3 @@ mod writing;
 pub use brought::Brought;
 pub use errors::ChangeErr;
 pub use parts::Core;
-
-#[cfg(test)]
-mod tests;

@@ -21,8 +21,3 @@ pub use csv_err::CsvErr;
 pub use csv_text::{CsvText, write_rows};
 pub use reading::read_csv;
 pub use scans::write_csv;
-
-#[cfg(test)]
-mod scan_tests;
-#[cfg(test)]
-mod tests;

@@ -6,4 +6,3 @@ pub mod Gathered
 pub mod Lacking
 pub mod Ordered
 pub mod Asked
-pub mod Fitting

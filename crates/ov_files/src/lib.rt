@@ -12,6 +12,3 @@ mod rows;
 pub use errors::FileErr;
 pub use putting::put_file;
 pub use rows::{FileRows, rows_of_file};
-
-#[cfg(test)]
-mod tests;

@@ -10,4 +10,4 @@ pub mod RoomLemmas
 pub mod JoinLemmas
 pub mod CountLemmas
 pub mod FlippedLemmas
-pub mod TrialLemmas
+pub mod NewLemmas

@@ -24,8 +24,3 @@ pub use layout::Layout;
 pub use lists::{Extents, Vids};
 pub use part::Part;
 pub use room::Room;
-
-#[cfg(test)]
-mod tests;
-#[cfg(test)]
-mod trial;

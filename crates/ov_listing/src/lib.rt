@@ -12,6 +12,3 @@ mod log;
 pub use cvds::cvd_lines;
 pub use laws::what_is_shown_is_the_worlds;
 pub use log::log_lines;
-
-#[cfg(test)]
-mod tests;

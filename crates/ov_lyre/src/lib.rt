@@ -24,6 +24,3 @@ mod sums;
 pub use examples::worked_splits;
 pub use front::split;
 pub use outcome::Split;
-
-#[cfg(test)]
-mod tests;

@@ -11,6 +11,3 @@ mod once;
 mod places;
 
 pub use merging::merge;
-
-#[cfg(test)]
-mod tests;

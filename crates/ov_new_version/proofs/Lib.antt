@@ -5,4 +5,3 @@ pub mod Answering
 pub mod Worlds
 pub mod Served
 pub mod Finding
-pub mod Trying

@@ -17,6 +17,3 @@ pub use committing::commit_of;
 pub use errors::CommitErr;
 pub use serving::a_joined_partition_serves_a_parent;
 pub use wanted::{Commit, Wanted};
-
-#[cfg(test)]
-mod tests;

@@ -16,6 +16,3 @@ pub use area::get;
 pub use errors::{PageErr, PagesErr};
 pub use laws::{freed_is_not_live, live_can_be_freed, reserved_is_live};
 pub use pages::Pages;
-
-#[cfg(test)]
-mod tests;

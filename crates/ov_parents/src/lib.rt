@@ -13,6 +13,3 @@ mod taking;
 pub use counting::records_are_counted;
 pub use disagreeing::first_disagreeing;
 pub use reading::{ParentsRead, parents_of};
-
-#[cfg(test)]
-mod tests;

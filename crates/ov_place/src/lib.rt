@@ -9,6 +9,3 @@ mod place_facts;
 
 pub use budget::place;
 pub use place_facts::{Place, PlaceFacts};
-
-#[cfg(test)]
-mod tests;

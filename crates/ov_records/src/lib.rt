@@ -18,6 +18,3 @@ mod sharing;
 pub use assigning::assign;
 pub use numbers::Numbers;
 pub use outcome::{AssignErr, Assigned};
-
-#[cfg(test)]
-mod tests;

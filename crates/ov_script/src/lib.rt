@@ -6,6 +6,3 @@
 mod reader;
 
 pub use reader::{KEPT, ReadErr, Reader};
-
-#[cfg(test)]
-mod tests;

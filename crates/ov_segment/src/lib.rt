@@ -25,6 +25,3 @@ pub use reader::SegmentReader;
 pub use reading::read_segment;
 pub use records::Records;
 pub use writing::segment_bytes;
-
-#[cfg(test)]
-mod tests;

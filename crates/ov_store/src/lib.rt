@@ -15,10 +15,3 @@ mod unready;
 pub use errors::StoreErr;
 pub use laws::refusals_are_the_worlds;
 pub use store::{Committed, Store};
-
-#[cfg(test)]
-mod damage_tests;
-#[cfg(test)]
-mod history_tests;
-#[cfg(test)]
-mod tests;

@@ -21,6 +21,3 @@ pub use rows::spots_of;
 pub use seen::Seen;
 pub use spot::Spot;
 pub use table::Table;
-
-#[cfg(test)]
-mod tests;

@@ -14,6 +14,3 @@ mod typing;
 pub use fitting::Typed;
 pub use type_err::TypeErr;
 pub use typing::typed;
-
-#[cfg(test)]
-mod tests;

@@ -17,6 +17,3 @@ pub use laws::records_are_given;
 pub use next::{Next, next_version};
 pub use runs::are_given;
 pub use write_err::WriteErr;
-
-#[cfg(test)]
-mod tests;

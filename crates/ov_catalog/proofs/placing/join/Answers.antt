@@ -1,5 +1,5 @@
 use Rattle.ov_layout.proofs.PlacedLemmas.{ids-ascend}
-use Rattle.ov_layout.proofs.TrialLemmas.{new-joined}
+use Rattle.ov_layout.proofs.NewLemmas.{new-joined}
 use Rattle.ov_catalog.proofs.PartLemmas.{join-in, join-stay, join-placed}
 use Rattle.ov_catalog.proofs.placing.join.Goals as goal
 

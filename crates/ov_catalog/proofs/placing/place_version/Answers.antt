@@ -1,4 +1,4 @@
-use Rattle.ov_layout.proofs.TrialLemmas.{new-own}
+use Rattle.ov_layout.proofs.NewLemmas.{new-own}
 use Rattle.ov_catalog.proofs.placing.place_version.Goals as goal
 
 pub returns-in-Own-clause-new : goal.returns-in-Own-clause-new

@@ -1,8 +1,0 @@
-use Rattle.std.proofs.Common.{◌≡◌, ◌≤◌, ◌<◌, ℕ, take}
-use Rattle.ov_model.specs.Placed.{times}
-use Rattle.law_commits.specs.Differing.{rids_of}
-use Rattle.law_commits.proofs.tests.ascend.Given as goal
-
-abbrev pub invariant-loop-record : goal.invariant-loop-record
-invariant-loop-record l =
-    ((rid : ℕ) → times (rids_of (take l.record-index l.records)) rid ≤ 1) × ((rid : ℕ) → l.last < rid → times (rids_of (take l.record-index l.records)) rid ≡ 0)

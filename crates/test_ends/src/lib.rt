@@ -1,0 +1,7 @@
+//! Tests of what a store stands on: extents, ends that tell nothing or fail, and ends in memory with their stops.
+#![tactic(auto)]
+
+#[cfg(test)]
+mod memory;
+#[cfg(test)]
+mod nulls;

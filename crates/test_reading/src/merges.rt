@@ -1,0 +1,209 @@
+//! Merges of small scans, worked out by hand, and the time of a large one.
+
+ghost use Rattle.std.specs.Prelude.{◌≡◌, length};
+ghost use Rattle.std.specs.Bool.{OnTrue};
+ghost use Rattle.std.specs.List.{All};
+ghost use Rattle.ov_fetch.specs.Scans.{IsSound, AllFit, AllStand, InKeyOrder, rows_at};
+
+use crate::pairs::{COLUMNS, row_of};
+use crate::schemas::schema;
+use ov_fetch::{Pick, Picks, Scan, Vids};
+use ov_merge::merge;
+use ov_segment::{Record, Records};
+use ov_value::Schema;
+use std::alloc::{AllocError, Global};
+use std::cmp::Ordering;
+use std::test::Fail;
+use std::time::Instant;
+
+// The positions of one version among those of several, each behind its version's number.
+fn pick_of(alloc: Global, version: u32, listed: &[(u32, usize)]) -> Result<Pick, AllocError> {
+    let mut places = Vec::new(alloc);
+    for (number, place) in listed {
+        if *number == version {
+            places.push(*place)?;
+        }
+    }
+    Ok(Pick::new(places))
+}
+
+fn all_fit(schema: &Schema, records: &[Record]) -> bool
+    ensures { OnTrue result (AllFit schema.now records.now) }
+{
+    for one in records {
+        if !schema.fits(&one.row) {
+            return false;
+        }
+    }
+    true
+}
+
+fn all_stand(records: &[Record], places: &[usize]) -> bool
+    ensures { OnTrue result (AllStand records.now places.now) }
+{
+    for place in places {
+        if *place >= records.len() {
+            return false;
+        }
+    }
+    true
+}
+
+fn is_in_order(schema: &Schema, records: &[Record], places: &[usize]) -> bool
+    requires { AllStand records.now places.now }
+    ensures { OnTrue result (InKeyOrder schema.now (rows_at records.now places.now)) }
+{
+    for i in 1..places.len() {
+        let (row, before) = (&records[places[i]].row, &records[places[i - 1]].row);
+        if schema.cmp_key(row, before) == Ordering::Less {
+            return false;
+        }
+    }
+    true
+}
+
+fn are_picks(schema: &Schema, records: &[Record], picks: &[Pick]) -> bool
+    ensures stand { OnTrue result (All (AllStand records.now) picks.now) }
+    ensures ordered { OnTrue result (All (λ pick. InKeyOrder schema.now (rows_at records.now pick)) picks.now) }
+{
+    for pick in picks {
+        if !all_stand(records, pick.as_slice()) || !is_in_order(schema, records, pick.as_slice()) {
+            return false;
+        }
+    }
+    true
+}
+
+// The merge of a scan, where it is sound.
+fn merge_if_sound(alloc: Global, schema: &Schema, scan: &Scan) -> Result<Option<Pick>, AllocError> {
+    let paired = scan.vids.as_slice().len() == scan.picks.as_slice().len();
+    let records = scan.records.as_slice();
+    if paired && all_fit(schema, records) && are_picks(schema, records, scan.picks.as_slice()) {
+        Ok(Some(merge(alloc, schema, scan)?))
+    } else {
+        Ok(None)
+    }
+}
+
+#[derive(Clone, Copy)]
+struct Case<'a> {
+    records: &'a [(i64, &'a str)],
+    versions: u32,
+    picks: &'a [(u32, usize)],
+    merge: &'a [usize],
+}
+
+// Records whose rids are nothing to a merge.
+fn records_of(alloc: Global, pairs: &[(i64, &str)]) -> Result<Records, AllocError> {
+    let mut records = Vec::new(alloc);
+    for (k, x) in pairs {
+        let row = row_of(alloc, *k, x)?;
+        records.push(Record { rid: 1, row })?;
+    }
+    Ok(Records::new(records))
+}
+
+fn merge_of(alloc: Global, case: &Case) -> Result<Pick, Fail> {
+    let schema = schema(alloc, COLUMNS)?;
+    let records = records_of(alloc, case.records)?;
+    let mut vids = Vec::new(alloc);
+    let mut picks = Vec::new(alloc);
+    for version in 0..case.versions {
+        vids.push(version + 1)?;
+        picks.push(pick_of(alloc, version + 1, case.picks)?)?;
+    }
+    let scan = Scan {
+        vids: Vids::new(vids),
+        records,
+        picks: Picks::new(picks),
+    };
+    Ok(merge_if_sound(alloc, &schema, &scan)?.ok_or("a sound scan")?)
+}
+
+const CASES: &[Case] = &[
+    // The dataset `people`, its versions in order and the other way round.
+    Case {
+        records: &[(1, "ann,10"), (2, "bob,20"), (2, "bob,25"), (3, "cy,30")],
+        versions: 2,
+        picks: &[(1, 0), (1, 1), (2, 0), (2, 2), (2, 3)],
+        merge: &[0, 1, 3],
+    },
+    Case {
+        records: &[(1, "ann,10"), (2, "bob,20"), (2, "bob,25"), (3, "cy,30")],
+        versions: 2,
+        picks: &[(1, 0), (1, 2), (1, 3), (2, 0), (2, 1)],
+        merge: &[0, 2, 3],
+    },
+    // No version, and one without rows.
+    Case {
+        records: &[(1, "a")],
+        versions: 0,
+        picks: &[],
+        merge: &[],
+    },
+    Case {
+        records: &[(1, "a")],
+        versions: 2,
+        picks: &[(2, 0)],
+        merge: &[0],
+    },
+    // Equal keys in one version: the earlier one.
+    Case {
+        records: &[(1, "a"), (1, "b"), (2, "c"), (2, "d")],
+        versions: 1,
+        picks: &[(1, 1), (1, 0), (1, 2), (1, 3)],
+        merge: &[1, 2],
+    },
+    // Three versions whose keys lie between one another's, positions against the keys.
+    Case {
+        records: &[(9, "a"), (5, "b"), (7, "c"), (5, "d"), (1, "e"), (9, "f")],
+        versions: 3,
+        picks: &[(1, 1), (1, 0), (2, 4), (2, 3), (3, 2), (3, 5)],
+        merge: &[4, 1, 2, 0],
+    },
+];
+
+#[test]
+fn the_first_listed_version_wins(rt: HostRuntime) -> Result<(), Fail> {
+    for (i, case) in CASES.iter().enumerate() {
+        let merge = merge_of(rt.alloc(), case)?;
+        assert_eq!(rt; merge.as_slice(), case.merge, "case {i}");
+    }
+    Ok(())
+}
+
+// Four versions of 100,000 rows, half of each one's keys also in the next one.
+fn large_scan(alloc: Global) -> Result<Scan, AllocError> {
+    let mut records = Vec::new(alloc);
+    for k in 0..250_000i64 {
+        let row = row_of(alloc, k, "x")?;
+        records.push(Record { rid: 1, row })?;
+    }
+    let mut vids = Vec::new(alloc);
+    let mut picks = Vec::new(alloc);
+    for version in 0..4u32 {
+        vids.push(version + 1)?;
+        let mut places = Vec::new(alloc);
+        for i in 0..100_000usize {
+            places.push(version as usize * 50_000 + i)?;
+        }
+        picks.push(Pick::new(places))?;
+    }
+    Ok(Scan {
+        vids: Vids::new(vids),
+        records: Records::new(records),
+        picks: Picks::new(picks),
+    })
+}
+
+#[test]
+fn four_versions_of_100000_rows(rt: HostRuntime) -> Result<(), Fail> {
+    let schema = schema(rt.alloc(), COLUMNS)?;
+    let scan = large_scan(rt.alloc())?;
+    let start = Instant::now(&rt)?;
+    let merge = merge_if_sound(rt.alloc(), &schema, &scan)?.ok_or("a sound scan")?;
+    let taken = start.elapsed(&rt)?.as_millis();
+    println!(rt; "4 versions of 100,000 rows: {taken} ms")?;
+    assert_eq!(rt; merge.as_slice().len(), 250_000);
+    Ok(())
+}
