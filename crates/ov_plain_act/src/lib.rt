@@ -23,5 +23,5 @@ pub use course::plain_course;
 pub use deed::{Deed, Move};
 pub use running::{Item, Run, plain_served};
 pub use session::{File, Session};
-pub use small::{can_move, is_ready, is_small_command, is_small_move, is_small_world};
+pub use small::{is_small_command, is_small_world};
 pub use world::{Pieces, World};

@@ -1,11 +1,10 @@
-//! Whether a World, a command or a move is so small that each count of it fits the programs' numbers.
+//! Whether a World or a command is so small that each count of it fits the programs' numbers.
 
 ghost use Rattle.std.specs.Prelude.{◌≡◌, ◌↔◌, ◌<◌, ◌≤◌, ◌^◌, IsTrue, is_some, length, IfOk};
 ghost use Rattle.ov_model.specs.Steps.{first_step};
 ghost use Rattle.ov_plain_act.specs.Runs.{IsReady};
-ghost use Rattle.ov_plain_act.specs.Small.{HaveFewRows, IsSmallSet, AreSmall, IsSmallCommand, HasPlace, HavePlace, CanMove, IsSmallMove};
+ghost use Rattle.ov_plain_act.specs.Small.{HaveFewRows, IsSmallSet, AreSmall, IsSmallCommand, HasPlace, HavePlace, CanMove};
 
-use crate::deed::Move;
 use crate::world::World;
 use ov_model::Command;
 use ov_plain::{Dataset, Version, order_of, stored};
@@ -100,23 +99,13 @@ fn have_place(alloc: Global, sets: &[Dataset]) -> Result<bool, AllocError>
 }
 
 /// Whether a World is so small that its next move can be computed.
-pub fn can_move(alloc: Global, world: &World) -> Result<bool, AllocError>
+fn can_move(alloc: Global, world: &World) -> Result<bool, AllocError>
     ensures { IfOk result (λ can. IsTrue can ↔ CanMove world.now) }
 {
     if world.next() == 4_294_967_295 || world.records() == 18_446_744_073_709_551_615 {
         return Ok(false);
     }
     have_place(alloc, world.sets())
-}
-
-/// Whether a move has so few rows that it can be computed.
-pub fn is_small_move(the_move: &Move) -> bool
-    ensures { IsTrue result ↔ IsSmallMove the_move.now }
-{
-    match the_move {
-        Move::Commit { version, .. } => version.rows().len() < 4_294_967_295,
-        _ => true,
-    }
 }
 
 /// Whether a plan of one of these datasets runs.
