@@ -10,7 +10,7 @@ use ov_layout::{Layout, Part};
 use std::alloc::{AllocError, Global};
 
 /// A target that becomes a partition.
-#[derive(Debug, Drop)]
+#[derive(Drop)]
 pub struct Target {
     pub versions: Vec<u32>,
     pub records: u32,

@@ -3,7 +3,7 @@
 use ov_host::Extent;
 
 /// A change by the next version, or a flip.
-#[derive(Clone, Copy, Debug)]
+#[derive(Clone, Copy)]
 pub enum Change {
     Own {
         records: u32,
@@ -26,7 +26,7 @@ pub enum Change {
 /// A partition: its number, its records, how many segments it has, and its versions.
 pub type Partition = (u32, u32, usize, &'static [u32]);
 
-#[derive(Clone, Copy, Debug)]
+#[derive(Clone, Copy)]
 pub struct Step {
     pub change: Change,
     pub parts: &'static [Partition],

@@ -139,7 +139,7 @@ fn grow(layout: &mut Layout, vid: u32, pick: u32) -> Result<bool, AllocError>
 }
 
 /// A plain table: the partition of each version, and the records of each partition.
-#[derive(Debug, Drop)]
+#[derive(Drop)]
 struct Plain {
     owners: Vec<usize>,
     records: Vec<u32>,
