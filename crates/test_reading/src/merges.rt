@@ -1,16 +1,16 @@
 //! Merges of small scans, worked out by hand, and the time of a large one.
 
-ghost use Rattle.std.specs.Prelude.{◌≡◌, length};
+ghost use Rattle.std.specs.Prelude.{◌≡◌, ◌<◌, length};
 ghost use Rattle.std.specs.Bool.{OnTrue};
 ghost use Rattle.std.specs.List.{All};
-ghost use Rattle.ov_fetch.specs.Scans.{IsSound, AllFit, AllStand, InKeyOrder, rows_at};
+ghost use Rattle.ov_fetch.specs.Scans.{IsSound, AllFit, AllStand, InKeyOrder, row_at as row_at_place, rows_at};
 
 use crate::pairs::{COLUMNS, row_of};
 use crate::schemas::schema;
 use ov_fetch::{Pick, Picks, Scan, Vids};
 use ov_merge::merge;
 use ov_segment::{Record, Records};
-use ov_value::Schema;
+use ov_value::{Row, Schema};
 use std::alloc::{AllocError, Global};
 use std::cmp::Ordering;
 use std::test::Fail;
@@ -49,13 +49,20 @@ fn all_stand(records: &[Record], places: &[usize]) -> bool
     true
 }
 
+fn row_at(records: &[Record], place: usize) -> &Row
+    requires { place < length records.now }
+    ensures { result.now ≡ row_at_place records.now place }
+{
+    &records[place].row
+}
+
 fn is_in_order(schema: &Schema, records: &[Record], places: &[usize]) -> bool
     requires { AllStand records.now places.now }
     ensures { OnTrue result (InKeyOrder schema.now (rows_at records.now places.now)) }
 {
     for i in 1..places.len() {
-        let (row, before) = (&records[places[i]].row, &records[places[i - 1]].row);
-        if schema.cmp_key(row, before) == Ordering::Less {
+        let before = row_at(records, places[i - 1]);
+        if schema.cmp_key(row_at(records, places[i]), before) == Ordering::Less {
             return false;
         }
     }
