@@ -10,7 +10,7 @@
 //! Each part that is cut is gone over a few times. A tree whose cuts halve it is divided in the order of n log n, one
 //! from which each cut takes a single version, as a star at the threshold 1/1, in the order of n squared. Of 65,535
 //! versions at that threshold a chain, a binary or a random tree took 25 to 50 ms and the star 32 s, a star of 4,000
-//! versions 0.1 s; the test `large_trees_are_divided` prints the times anew.
+//! versions 0.1 s; the test `large_trees_are_divided` of `test_graph` prints the times anew.
 #![tactic(auto)]
 
 mod choice;

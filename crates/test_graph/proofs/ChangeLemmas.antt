@@ -8,7 +8,7 @@ use Rattle.std.proofs.lemmas.List.Sums.{sum_by-cons}
 use Rattle.ov_host.specs.declared.area.Extent.{Extent}
 use Rattle.ov_layout.specs.declared.part.Part.{Part}
 use Rattle.ov_layout.specs.Parts.{has, serves, Ascend, AreParts, ArePartsFrom, part_with, part_numbered, is_placed, is_number, records_at}
-use Rattle.ov_layout.specs.Changes.{IsNew, IsAbove, own_part, joined_at}
+use Rattle.ov_layout.specs.Changes.{IsNew, IsAbove}
 use Rattle.ov_layout.specs.Flips.{Flip, ArePlaced, AreBelow, IsEmptied, leaving, is_empty, left_parts, flipped_part, given_up, parted_with, others}
 use Rattle.ov_layout.proofs.LeaveLemmas.{stays}
 use Rattle.ov_layout.proofs.JoinLemmas.{ascend-push, above-one}
