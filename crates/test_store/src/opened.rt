@@ -1,6 +1,7 @@
 //! A store that is open on a host in memory, and its calls.
 
 ghost use Rattle.std.specs.Prelude.{◌≡◌, true};
+ghost use Rattle.ov_fetch.specs.Extents.{Looked};
 ghost use Rattle.ov_memhost.specs.Host.{state_of};
 ghost use Rattle.ov_store.specs.Kept.{MayCall};
 
@@ -108,6 +109,7 @@ fn checkout(
     vids: &[u64],
 ) -> Result<Vec<u8>, StoreErr>
     requires { store.now.usable ≡ true }
+    ensures { Looked (state_of host.old) (state_of host.new) }
 {
     let scan = store.scan(host, name, vids)?;
     let Some(d) = store.catalog().cvd(name) else {
