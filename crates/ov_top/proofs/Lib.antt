@@ -1,1 +1,3 @@
-pub mod Lined
+mod Composed
+mod Lined
+mod Opened

@@ -1,13 +1,13 @@
 -- A run out of its lines.
 use Rattle.std.proofs.Common.{◌≡◌, ◌≤◌, ◌<◌, ◌+◌, ◌||◌, ◌⊎◌, inl, inr, ℕ, Bool, true, false, List, [], ◌∷◌, ◌++◌, length, map, take, refl, sym, ◌∙◌, ap, subst, append-nil, append_assoc, arith}
-use Rattle.std.specs.Prelude.{Err, IsErr, IsTrue, Ok, Result, codes, nat_lt}
+use Rattle.std.specs.Prelude.{Err, IfErr, IsErr, IsErrOf, IsOk, IsTrue, Ok, Result, ◌^◌, codes, nat_lt}
 use Rattle.std.specs.Result.{IsErrAnd}
 use Rattle.ov_value.specs.Naming.{is_name}
 use Rattle.std.proofs.lemmas.List.{length-take, take_all}
 use Rattle.std.proofs.lemmas.Bool.{cases_lt, cond-true, lt-ltb}
 use Rattle.ov_host.specs.Disk.{Disk, Image, Leaves, Stored, as_read}
 use Rattle.ov_host.specs.Host.{Rose, State}
-use Rattle.ov_host.specs.Stage.{Files as Map}
+use Rattle.ov_host.specs.Stage.{Files as Map, Staged}
 use Rattle.ov_host.specs.Stops.{Only}
 use Rattle.ov_host.specs.Tape.{clock, left_since}
 use Rattle.ov_host.proofs.Stops.{only_left, only_start, only_then, only_wider}
@@ -44,7 +44,7 @@ use Rattle.ov_open.specs.Refusing.{Refuses}
 use Rattle.ov_open.specs.declared.errors.OpenErr.{OpenErr}
 use Rattle.ov_open.specs.declared.errors.OpenErr.TheVariants as opened
 use Rattle.law_room.specs.Room.{Entry, IsWithin, Made}
-use Rattle.ov_session.specs.Commands.{IsDamageOf, IsDamaged, IsNoDamage}
+use Rattle.ov_session.specs.Commands.{Attended, IsDamageOf, IsDamaged, IsNoDamage}
 use Rattle.ov_session.specs.declared.errors.EndErr.{EndErr}
 use Rattle.ov_session.specs.declared.errors.EndErr.TheVariants as ending
 use Rattle.ov_script.specs.declared.reader.ReadErr.{ReadErr}
@@ -53,10 +53,10 @@ use Rattle.ov_top.specs.declared.errors.RunErr.{RunErr}
 use Rattle.ov_top.specs.declared.errors.RunErr.TheVariants as running
 use Rattle.ov_top.specs.declared.status.Status.{Status}
 use Rattle.ov_top.specs.declared.status.Status.TheVariants.{Memory}
-use Rattle.ov_top.specs.Ending.{AreWords, Cause, Ends, IsEntry, IsTold, Played, PlayedTaken, Plays, Stops, course_of, course_taken, lines_taken, session_at}
+use Rattle.ov_top.specs.Ending.{AreWords, Cause, Ends, HasOpened, IsEntry, IsTold, Keeps, Played, PlayedTaken, Plays, Stops, course_of, course_taken, lines_taken, session_at}
 use Rattle.ov_top.specs.Errors.{by_reading, by_serving}
-use Rattle.ov_top.specs.Running.{AllServed, IsHalted, IsRunDamage, status_by, status_by_opening}
-use Rattle.ov_script.specs.Reader.{GivesLine, IsCutOff, IsNext, Taken, ended_lines, has_feed, taken_of}
+use Rattle.ov_top.specs.Running.{AllServed, IsHalted, IsReadWhole, IsRunDamage, Spent, status_by, status_by_opening}
+use Rattle.ov_script.specs.Reader.{GivesLine, IsCutOff, IsNext, Taken, Took, ended_lines, has_feed, taken_of}
 use Rattle.ov_script.proofs.Readers.{ended_at, next_lines, no_ended, taken_is}
 use Rattle.ov_host.specs.Source.{Script}
 
@@ -382,16 +382,81 @@ module _ (steps : ℕ) (w : World) (old new : Ends) (told : IsTold w old) (openi
   plays_memory = stops_none
 
 cause_opening : (off : OpenErr) (words : List (List ℕ)) (old new : Ends) → AreWords words → (off ≡ opened.Host → Rose old.host.faults new.host.faults)
-    → (old.host.tells ≡ true → Refuses off old.host.tape.disk new.host.tape.disk) → new.script ≡ old.script → Cause (status_by_opening off) words old new
-cause_opening opened.Host words old new are rose refuses same = (are, rose refl)
-cause_opening opened.Memory words old new are rose refuses same = λ none. absurd (are none)
-cause_opening opened.NotAStore words old new are rose refuses same = (are, record { refuses = refuses; script_same = same })
-cause_opening (opened.Format found) words old new are rose refuses same = (are, record { refuses = refuses; script_same = same })
-cause_opening (opened.Damaged area at) words old new are rose refuses same = (are, inl (record { refuses = refuses; script_same = same }))
+    → (old.host.tells ≡ true → Refuses off old.host.tape.disk new.host.tape.disk) → new.script ≡ old.script → new.stage ≡ old.stage → Cause (status_by_opening off) words old new
+cause_opening opened.Host words old new are rose refuses same still = (are, rose refl)
+cause_opening opened.Memory words old new are rose refuses same still = λ none. absurd (are none)
+cause_opening opened.NotAStore words old new are rose refuses same still = (are, record { refuses = refuses; script_same = same; stage_same = still })
+cause_opening (opened.Format found) words old new are rose refuses same still = (are, record { refuses = refuses; script_same = same; stage_same = still })
+cause_opening (opened.Damaged area at) words old new are rose refuses same still = (are, inl (record { refuses = refuses; script_same = same; stage_same = still }))
 
 pub cause_unopened : (status : Status) (off : OpenErr) (words : List (List ℕ)) (old new : Ends) → status ≡ status_by_opening off → AreWords words → (off ≡ opened.Host → Rose old.host.faults new.host.faults)
-    → (old.host.tells ≡ true → Refuses off old.host.tape.disk new.host.tape.disk) → new.script ≡ old.script → Cause status words old new
-cause_unopened status off words old new is are rose refuses same = subst (λ (x : Status). Cause x words old new) (sym is) (cause_opening off words old new are rose refuses same)
+    → (old.host.tells ≡ true → Refuses off old.host.tape.disk new.host.tape.disk) → new.script ≡ old.script → new.stage ≡ old.stage → Cause status words old new
+cause_unopened status off words old new is are rose refuses same still = subst (λ (x : Status). Cause x words old new) (sym is) (cause_opening off words old new are rose refuses same still)
+
+-- ---- a store that was opened
+
+-- where a count rose in the end, it rose in all
+pub rose_in_all : (old mid new : ℕ) → old ≤ mid → Rose mid new → Rose old new
+rose_in_all old mid new so_far rose = omega (arith, so_far, rose)
+
+module _ (words : List (List ℕ)) (old mid new : Ends) (are : AreWords words) (opens : HasOpened old) (so_far : old.host.faults ≤ mid.host.faults) where
+  cause_ran : (ran : Result Bool RunErr) → (IsErrOf ran running.Host → Rose mid.host.faults new.host.faults)
+      → (IsErrOf ran running.Input → Rose old.script.faults new.script.faults ⊎ Rose old.stage.faults new.stage.faults)
+      → IfErr ran (IsRunDamage new.host)
+      → (IsErrOf ran running.TooLong → old.script.tells ≡ true → length old.script.left ≡ length new.script.left + 2 ^ 32)
+      → (old.script.tells ≡ true → IsOk ran → IsReadWhole old.script new.script)
+      → Cause (status_by ran) words old new
+  cause_ran (Ok false) host input damaged long whole = (are, opens, λ told. whole told refl)
+  cause_ran (Ok true) host input damaged long whole = (are, opens, λ told. whole told refl)
+  cause_ran (Err running.Host) host input damaged long whole =
+      let rose = host refl in (are, rose_in_all old.host.faults mid.host.faults new.host.faults so_far rose)
+  cause_ran (Err running.Input) host input damaged long whole = (are, opens, input refl)
+  cause_ran (Err running.Memory) host input damaged long whole = λ none. absurd (are none)
+  cause_ran (Err (running.Damaged area at)) host input damaged long whole =
+      (are, inr (opens, damaged.0, record { command = damaged.1; held = damaged.2; damaged = damaged.3 }))
+  cause_ran (Err running.TooLong) host input damaged long whole = (are, opens, long refl)
+
+  pub cause_opened : (status : Status) (ran : Result Bool RunErr) → status ≡ status_by ran → (IsErrOf ran running.Host → Rose mid.host.faults new.host.faults)
+      → (IsErrOf ran running.Input → Rose old.script.faults new.script.faults ⊎ Rose old.stage.faults new.stage.faults)
+      → IfErr ran (IsRunDamage new.host)
+      → (IsErrOf ran running.TooLong → old.script.tells ≡ true → length old.script.left ≡ length new.script.left + 2 ^ 32)
+      → (old.script.tells ≡ true → IsOk ran → IsReadWhole old.script new.script)
+      → Cause status words old new
+  cause_opened status ran is host input damaged long whole =
+      subst (λ (x : Status). Cause x words old new) (sym is) (cause_ran ran host input damaged long whole)
+
+-- ---- what a run keeps
+
+pub spent_still : (script : Script) → Spent script script
+spent_still script = record { told = refl; faults = omega arith; taken = λ told. omega arith }
+
+pub attended_still : (stage : Staged) → Attended stage stage
+attended_still stage = record { told = refl; faults = omega arith; misses = omega arith }
+
+pub keeps_still : (ends : Ends) → Keeps ends ends
+keeps_still ends = record {
+  host = record { told = refl; kept = refl; faults = omega arith };
+  script = spent_still ends.script;
+  stage = attended_still ends.stage;
+}
+
+pub spent_by : (first mid last : Script) (before now : Taken) → mid.tells ≡ first.tells → first.faults ≤ mid.faults
+    → (first.tells ≡ true → length first.left ≡ length mid.left + before.count) → Took before now mid last → now.count ≤ 2 ^ 32 → Spent first last
+spent_by first mid last before now told faults counted took bounded = record {
+  told = took.told ∙ told;
+  faults = omega (arith, faults, took.faults);
+  taken = λ tells.
+      let so_far = counted tells
+      in let more = took.counted (told ∙ tells)
+      in omega (arith, so_far, more, bounded);
+}
+
+pub read_whole : (first mid last : Script) (before now : Taken) → length first.left ≡ length mid.left + before.count
+    → length mid.left + before.count ≡ length last.left + now.count → now.count < 2 ^ 32 → last.left ≡ [] → IsReadWhole first last
+read_whole first mid last before now so_far more below none = record {
+  left = none;
+  fewer = let nothing : length last.left ≡ 0 = ap length none in omega (arith, so_far, more, below, nothing);
+}
 
 -- where no end was called, a stop leaves the World as it was
 pub still_world : (w : World) (ends : Ends) → IsTold w ends → Only ends.host.tape ends.host.tape (IsWorld w (printed_of ends.host))
@@ -419,10 +484,6 @@ serves_as steps w files files2 u u2 user x kept line ok refused before now old n
 pub not_seen : (b : Bool) → b ≡ true → b ≡ false → ⊥
 not_seen true seen open_ = cc
 not_seen false seen open_ = cc
-
--- where a count rose in the end, it rose in all
-pub rose_in_all : (old mid new : ℕ) → old ≤ mid → Rose mid new → Rose old new
-rose_in_all old mid new so_far rose = omega (arith, so_far, rose)
 
 -- the first user is a user
 pub admin_is_name : IsTrue (is_name (codes "admin"))

@@ -1,10 +1,12 @@
 -- The lines of a script, served one after another.
+--     Spent old new, IsReadWhole old new      what was taken of a script
 --     AllServed steps w s t lines taken still result ..      where the store is at a World
 --     IsRunDamage s why      what a command read is damaged
 --     status_by ran, status_by_opening off      the status
-use Rattle.std.specs.Prelude.{◌≡◌, ℕ, Bool, true, false, List, Result, Ok, Err}
+use Rattle.std.specs.Prelude.{◌≡◌, ◌≤◌, ◌<◌, ◌+◌, ◌^◌, ℕ, Bool, true, false, List, [], length, Result, Ok, Err}
 use Rattle.ov_host.specs.declared.area.Area.TheVariants.{Pages}
 use Rattle.ov_host.specs.Host.{State}
+use Rattle.ov_host.specs.Source.{Script}
 use Rattle.ov_core.specs.Held.{Held}
 use Rattle.law_runs.specs.Serving.{Ends, Halts, Runs}
 use Rattle.ov_model.specs.Act.{Session}
@@ -17,6 +19,17 @@ use Rattle.ov_top.specs.declared.errors.RunErr.{RunErr}
 use Rattle.ov_top.specs.declared.errors.RunErr.TheVariants as running
 use Rattle.ov_top.specs.declared.status.Status.{Status}
 use Rattle.ov_top.specs.declared.status.Status.TheVariants.{Done, Refused, HostFault, InputFault, Memory, NotAStore, Damaged, Format, ScriptTooLong}
+
+-- whether the source tells its bytes stays as it was, its count of faults doesn't fall, and at most 2^32 bytes were taken
+pub record Spent (old new : Script) : Type 0 where
+  pub told : new.tells ≡ old.tells
+  pub faults : old.faults ≤ new.faults
+  pub taken : old.tells ≡ true → length old.left ≤ length new.left + 2 ^ 32
+
+-- all of the script was taken, and it has fewer than 2^32 bytes
+pub record IsReadWhole (old new : Script) : Type 0 where
+  pub left : new.left ≡ []
+  pub fewer : length old.left < 2 ^ 32
 
 -- it ended between two lines, when these were served
 abbrev pub IsHalted : ℕ → World → Session → Session → List (List ℕ) → List (List ℕ) → Held → State → State → Type 0

@@ -6,12 +6,12 @@ ghost use Rattle.ov_model.specs.World.{World};
 ghost use Rattle.ov_core.specs.AtWorld.{IsAtWorld};
 ghost use Rattle.law_runs.specs.Serving.{session_of};
 ghost use Rattle.ov_open.specs.Opening.{IsWorld};
-ghost use Rattle.ov_session.specs.Commands.{Goes, is_refusal_of};
+ghost use Rattle.ov_session.specs.Commands.{Attended, Goes, is_refusal_of};
 ghost use Rattle.ov_store.specs.Kept.{MayCall};
 ghost use Rattle.ov_args.specs.Words.{options_of};
 ghost use Rattle.ov_script.specs.Reader.{ended_lines, taken_of};
-ghost use Rattle.ov_top.specs.Ending.{AreWords, Cause, IsTold, Plays};
-ghost use Rattle.ov_top.specs.Running.{AllServed, IsRunDamage, status_by, status_by_opening};
+ghost use Rattle.ov_top.specs.Ending.{AreWords, Cause, IsTold, Keeps, Plays};
+ghost use Rattle.ov_top.specs.Running.{AllServed, IsReadWhole, IsRunDamage, Spent, status_by, status_by_opening};
 
 use crate::errors::RunErr;
 use crate::status::Status;
@@ -52,6 +52,8 @@ fn serve_all<H: Host, S: Source, T: Stage>(
     requires call { MayCall store (H.state host.old) }
     requires steps { steps ≤ 1000 }
     ensures goes { Goes (H.state host.old) (H.state host.new) }
+    ensures attended { Attended (T.staged stage.old) (T.staged stage.new) }
+    ensures spent { Spent (S.script source.old) (S.script source.new) }
     ensures host { IsErrOf result RunErr.Host → Rose (H.state host.old).faults (H.state host.new).faults }
     ensures input { IsErrOf result RunErr.Input
         → Rose (S.script source.old).faults (S.script source.new).faults
@@ -59,7 +61,7 @@ fn serve_all<H: Host, S: Source, T: Stage>(
     ensures damaged { IfErr result (IsRunDamage (H.state host.new)) }
     ensures too_long { IsErrOf result RunErr.TooLong → (S.script source.old).tells ≡ true
         → length (S.script source.old).left ≡ length (S.script source.new).left + 2 ^ 32 }
-    ensures ended { (S.script source.old).tells ≡ true → IsOk result → (S.script source.new).left ≡ [] }
+    ensures ended { (S.script source.old).tells ≡ true → IsOk result → IsReadWhole (S.script source.old) (S.script source.new) }
     ensures served { (w : World) → (S.script source.old).tells ≡ true → (T.staged stage.old).tells ≡ true
         → IsAtWorld w store.held (H.state host.old) → AllServed steps w (session_of (T.staged stage.old).files (codes "admin"))
         (session_of (T.staged stage.new).files (codes "admin")) (lines_of (S.script source.old).left)
@@ -126,6 +128,9 @@ fn run_script<H: Host, S: Source, T: Stage>(
     ensures cause { (words : List (List ℕ)) → AreWords words → Cause result words
         (record { host = H.state host.old; script = S.script source.old; stage = T.staged stage.old })
         (record { host = H.state host.new; script = S.script source.new; stage = T.staged stage.new }) }
+    ensures keeps { Keeps
+        (record { host = H.state host.old; script = S.script source.old; stage = T.staged stage.old })
+        (record { host = H.state host.new; script = S.script source.new; stage = T.staged stage.new }) }
     ensures plays { (w : World) → IsTold w (record { host = H.state host.old; script = S.script source.old; stage = T.staged stage.old })
         → Plays result steps w
         (record { host = H.state host.old; script = S.script source.old; stage = T.staged stage.old })
@@ -150,6 +155,9 @@ pub fn run<H: Host, S: Source, T: Stage>(
     stage: &mut T,
 ) -> Status
     ensures cause { Cause result words.now
+        (record { host = H.state host.old; script = S.script source.old; stage = T.staged stage.old })
+        (record { host = H.state host.new; script = S.script source.new; stage = T.staged stage.new }) }
+    ensures keeps { Keeps
         (record { host = H.state host.old; script = S.script source.old; stage = T.staged stage.old })
         (record { host = H.state host.new; script = S.script source.new; stage = T.staged stage.new }) }
     ensures plays { (w : World) (o : List ℕ × ℕ) → options_of words.now ≡ Some o

@@ -1,18 +1,16 @@
-use Rattle.std.proofs.Common.{◌≡◌, ◌∙◌, ◌||◌, Bool, ℕ, List, codes, true, false, refl, sym, ap, subst, arith, rules}
-use Rattle.std.specs.Prelude.{Err, IsTrue, Result}
+use Rattle.std.proofs.Common.{◌≡◌, ◌∙◌, Bool, ℕ, List, codes, true, false, refl, sym, ap, subst, arith, rules}
+use Rattle.std.specs.Prelude.{Err, IsTrue, Ok, Result}
 use Rattle.ov_host.specs.Host.{Rose}
 use Rattle.law_runs.specs.Serving.{Serves, session_of}
 use Rattle.ov_model.specs.Words.{lines_of}
 use Rattle.ov_session.specs.Commands.{is_refusal_of}
-use Rattle.ov_session.specs.declared.errors.EndErr.{EndErr}
-use Rattle.ov_session.specs.declared.errors.EndErr.TheVariants as ending
 use Rattle.ov_value.specs.Naming.{is_name}
 use Rattle.ov_script.specs.Reader.{Taken, ended_lines, left_of, taken_of}
 use Rattle.ov_top.specs.Errors.{by_reading, by_serving}
 use Rattle.ov_top.specs.Running.{AllServed}
 use Rattle.ov_top.specs.declared.errors.RunErr.{RunErr}
 use Rattle.ov_top.specs.declared.errors.RunErr.TheVariants as running
-use Rattle.ov_top.proofs.Lined.{Gone, admin_is_name, ends_reading, ends_serving, err_is, given_true, gone_all, gone_ends, gone_more, gone_start, no_lines, nothing_left, runs_start, not_seen, rose_in_all, serves_as}
+use Rattle.ov_top.proofs.Lined.{Gone, admin_is_name, ends_reading, ends_serving, err_is, given_true, gone_all, gone_ends, gone_more, gone_start, no_lines, nothing_left, read_whole, runs_start, not_seen, rose_in_all, serves_as, spent_by}
 use Rattle.ov_top.proofs.runs.serve_all.Goals as goal
 
 pub returns-in_err-user-clause-served : goal.returns-in_err-user-clause-served
@@ -146,7 +144,32 @@ lines-preserved g c =
 
 pub returns-clause-ended : goal.returns-clause-ended
 returns-clause-ended g c = λ told ok.
-    nothing_left _ _ _ c.next_line.new.self.unread _ _ c.if-branch.false (c.in_ok-next_line.ensures.given (c.lines.invariant.told ∙ told) (c.lines.invariant.at_end told))
+    let none = nothing_left _ _ _ c.next_line.new.self.unread _ _ c.if-branch.false (c.in_ok-next_line.ensures.given (c.lines.invariant.told ∙ told) (c.lines.invariant.at_end told))
+    in read_whole (g.S.Source.script c.args.source.now) (g.S.Source.script c.lines.source) (g.S.Source.script c.next_line.new.source) c.lines.reader c.next_line.new.self
+    (c.lines.invariant.counted told) (c.next_line.ensures.took.counted (c.lines.invariant.told ∙ told))
+    (c.next_line.ensures.below (c.in_ok-next_line.ensures.seen (ap Ok c.if-branch.false))) none
+
+pub returns-in_err-next_line-clause-spent : goal.returns-in_err-next_line-clause-spent
+returns-in_err-next_line-clause-spent g c =
+    spent_by (g.S.Source.script c.args.source.now) (g.S.Source.script c.lines.source) (g.S.Source.script c.next_line.new.source) c.lines.reader c.next_line.new.self
+    c.lines.invariant.told c.lines.invariant.faults c.lines.invariant.counted c.next_line.ensures.took c.next_line.ensures.bounded
+
+pub returns-in_err-served-clause-spent : goal.returns-in_err-served-clause-spent
+returns-in_err-served-clause-spent g c =
+    spent_by (g.S.Source.script c.args.source.now) (g.S.Source.script c.lines.source) (g.S.Source.script c.next_line.new.source) c.lines.reader c.next_line.new.self
+    c.lines.invariant.told c.lines.invariant.faults c.lines.invariant.counted c.next_line.ensures.took c.next_line.ensures.bounded
+
+pub returns-in_err-served-clause-attended : goal.returns-in_err-served-clause-attended
+returns-in_err-served-clause-attended g c = record {
+  told = c.serve.ensures.attended.told ∙ c.lines.invariant.attended.told;
+  faults = omega (arith, c.serve.ensures.attended.faults, c.lines.invariant.attended.faults);
+  misses = omega (arith, c.serve.ensures.attended.misses, c.lines.invariant.attended.misses);
+}
+
+pub returns-clause-spent : goal.returns-clause-spent
+returns-clause-spent g c =
+    spent_by (g.S.Source.script c.args.source.now) (g.S.Source.script c.lines.source) (g.S.Source.script c.next_line.new.source) c.lines.reader c.next_line.new.self
+    c.lines.invariant.told c.lines.invariant.faults c.lines.invariant.counted c.next_line.ensures.took c.next_line.ensures.bounded
 
 pub returns-clause-served : goal.returns-clause-served
 returns-clause-served g c = λ w script stage at.
