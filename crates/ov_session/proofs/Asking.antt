@@ -1,6 +1,6 @@
 -- A command before its rows are stored: from the catalog and its file.
 use Rattle.std.proofs.Common.{◌≡◌, ◌∙◌, ◌==◌, ℕ, Bool, true, false, List, [], length, Some, None, refl, sym, ap, subst}
-use Rattle.std.specs.Prelude.{IfOk, Option, Ok, Err, Result, nat_le, option_map}
+use Rattle.std.specs.Prelude.{IfOk, Option, Ok, Err, Result, nat_le}
 use Rattle.std.specs.Option.{option_or}
 use Rattle.std.specs.FinMap.{get}
 use Rattle.ov_host.specs.Host.{State}

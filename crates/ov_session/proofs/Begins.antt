@@ -10,10 +10,8 @@ use Rattle.ov_host.specs.Stops.{Only}
 use Rattle.ov_host.proofs.Stops.{only_wider}
 use Rattle.law_image.specs.Images.{StandsAs}
 use Rattle.ov_core.specs.AtWorld.{IsAtNext, IsAtWorld, IsEither}
-use Rattle.ov_core.specs.Held.{Held}
-use Rattle.law_runs.specs.Serving.{Breaks, Does}
+use Rattle.law_runs.specs.Serving.{Does}
 use Rattle.law_runs.specs.Stops.{printed_of}
-use Rattle.ov_fetch.specs.Extents.{Looked}
 use Rattle.ov_model.specs.Act.{Deed, Session, commit_refusal, commit_rows, does, drop_deed, init_refusal, refuses, rows_refusal, with_rows}
 use Rattle.ov_model.specs.Book.{Row}
 use Rattle.ov_model.specs.Moves.{Drop, Move, moved}
@@ -29,7 +27,6 @@ use Rattle.ov_session.proofs.Deeds.{begin_done, begin_refused, commit_done, comm
 use Rattle.ov_session.specs.Commands.{Acts, begun}
 use Rattle.ov_session.specs.Errors.{reply_of}
 use Rattle.ov_session.specs.declared.errors.EndErr.{EndErr}
-use Rattle.ov_catalog.specs.Numbers.{SetNumbers}
 use Rattle.law_reads.specs.Sights.{HasNumbers}
 use Rattle.ov_store.proofs.Deciding.{counts, set_found}
 use Rattle.ov_store.specs.Beginning.{first_move}

@@ -1,5 +1,5 @@
 -- A call that changes the store, as a command that is done, refused, or broken off.
-use Rattle.std.proofs.Common.{◌≡◌, ℕ, List, Some, None, refl, sym, ap, subst}
+use Rattle.std.proofs.Common.{◌≡◌, ℕ, List, Some, None, refl, sym, subst}
 use Rattle.std.specs.Prelude.{IfOk, Option, Ok, Err, Result}
 use Rattle.ov_host.specs.Host.{State}
 use Rattle.ov_host.specs.Stops.{Only}

@@ -1,9 +1,10 @@
 -- What a command is dealt with by, and that nothing is damaged at a World.
 use Rattle.std.proofs.Common.{◌≡◌, ◌∙◌, ℕ, List, [], Some, None, true, inl, inr, refl, sym, ap, subst}
 use Rattle.std.specs.List.{AllZip}
-use Rattle.std.specs.Prelude.{IfErr, IfOk, Ok, Err, Option, Result}
+use Rattle.std.specs.Prelude.{IfErr, Ok, Err, Option, Result}
 use Rattle.ov_host.specs.declared.area.Area.{Area}
 use Rattle.ov_host.specs.Host.{State}
+use Rattle.ov_host.specs.Stage.{Staged}
 use Rattle.ov_host.specs.Tape.{Tape}
 use Rattle.ov_fetch.specs.Extents.{Looked, page_bytes}
 use Rattle.ov_fetch.specs.declared.errors.FetchErr.TheVariants as fetch
@@ -13,18 +14,20 @@ use Rattle.ov_value.specs.declared.column.Column.{Column}
 use Rattle.ov_core.specs.AtWorld.{IsAtWorld}
 use Rattle.ov_core.specs.Held.{Held}
 use Rattle.ov_model.specs.Act.{Session, checkout_deed, commit_deed, deed}
+use Rattle.ov_model.specs.Book.{Row}
+use Rattle.ov_read.specs.Damages.{IsDamage as IsDamageRead}
 use Rattle.ov_model.specs.World.{Dataset, World, set_named}
 use Rattle.ov_model.specs.declared.command.Command.TheVariants as asks
 use Rattle.ov_model.specs.declared.reply.Reply.{Reply}
-use Rattle.ov_session.specs.Commands.{Acts, IsDamageOf, IsNoDamage, IsNoHost}
+use Rattle.ov_session.specs.Commands.{Acts, AreRowsOf, IsDamageOf, IsDamaged, IsNoDamage, IsNoHost}
 use Rattle.ov_session.specs.Errors.{end_of}
 use Rattle.ov_session.specs.declared.errors.EndErr.{EndErr}
 use Rattle.ov_session.specs.declared.errors.EndErr.TheVariants as ending
 use Rattle.ov_store.proofs.Deciding.{world_named}
 use Rattle.ov_store.proofs.Finishing.{set_there}
-use Rattle.ov_store.specs.Committing.{IfSet, IsDamagedAt, IsUncommitted, Set, Wish, asked_of}
+use Rattle.ov_store.specs.Committing.{IfSet, IsDamagedAt, IsUncommitted, Set, Wish, asked_of, commit_off}
 use Rattle.ov_store.specs.Kept.{Kept, Stays}
-use Rattle.ov_store.specs.Scanning.{IsUndamaged, IsUnscanned, scan_off, set_in, versions_off}
+use Rattle.ov_store.specs.Scanning.{IsDamagedIn, IsUndamaged, IsUnscanned, scan_off, set_in, versions_off}
 use Rattle.ov_store.specs.Worlds.{IsRefusedAs, version_refusal}
 use Rattle.ov_store.specs.declared.errors.StoreErr.{StoreErr}
 use Rattle.ov_store.specs.declared.errors.StoreErr.TheVariants as why
@@ -80,18 +83,20 @@ the_end : (a b : EndErr) → Some a ≡ Some b → a ≡ b
 the_end a b is = ap (λ o. elim o as (λ _. EndErr) [ None ↦ a | Some x ↦ x ]) is
 
 module _ (held : Held) (name cvd : List ℕ) (wish : Wish) (before now : Kept) (old new : State) (same : name ≡ cvd) where
+  abbrev IsDamageAt : ℕ → Type 0
+  IsDamageAt page = (commit_off held cvd wish.vids wish.rows ≡ None) × IfSet (λ s. IsDamagedAt s wish new page) (set_in held.numbers cvd)
+
   abbrev IsDamage : EndErr → Type 0
-  IsDamage e = IsDamageOf (λ page. IfSet (λ s. IsDamagedAt s wish new page) (set_in held.numbers cvd)) e
+  IsDamage e = IsDamageOf IsDamageAt e
 
   end_damaged : (off : StoreErr) (e : EndErr) → end_of off ≡ Some e → IsUncommitted held name wish old new off → Stays off before now old new → IsDamage e
   end_damaged why.Host e is off stays = subst IsDamage (the_end ending.Host e is) tt
   end_damaged why.Memory e is off stays = subst IsDamage (the_end ending.Memory e is) tt
   end_damaged (why.Damaged area at) e is off stays =
-      subst IsDamage (the_end (ending.Damaged area at) e is) (
-        off.0,
-        damaged_in (set_in held.numbers cvd) wish at old new stays.1
-            (subst (λ (n : List ℕ). IfSet (λ s. IsDamagedAt s wish old at) (set_in held.numbers n)) same off.2),
-      )
+      let none : commit_off held cvd wish.vids wish.rows ≡ None = subst (λ (n : List ℕ). commit_off held n wish.vids wish.rows ≡ None) same off.1
+      in let damaged = damaged_in (set_in held.numbers cvd) wish at old new stays.1
+      (subst (λ (n : List ℕ). IfSet (λ s. IsDamagedAt s wish old at) (set_in held.numbers n)) same off.2)
+      in subst IsDamage (the_end (ending.Damaged area at) e is) (off.0, (none, damaged))
   end_damaged (why.Full pages) e is off stays = absurd cc
   end_damaged why.JournalFull e is off stays = absurd cc
   end_damaged why.NoCvd e is off stays = absurd cc
@@ -110,6 +115,77 @@ module _ (held : Held) (name cvd : List ℕ) (wish : Wish) (before now : Kept) (
       → Stays off before now old new → IfErr result IsDamage
   result_damaged off (Ok reply) ends is stays = tt
   result_damaged off (Err e) ends is stays = end_damaged off e ends is stays
+
+-- the rows that are asked for are those of the file
+pub and_rows : (held : Held) (cvd vids message file : List ℕ) (stage : Staged) (rows : List Row) (s : State) (page : ℕ)
+    → ((set : Set) → set_in held.numbers cvd ≡ Some set → AreRowsOf set.schema file stage rows)
+    → (commit_off held cvd vids rows ≡ None) × IfSet (λ set. IsDamagedAt set (record { vids = vids; message = message; rows = rows }) s page) (set_in held.numbers cvd)
+    → IsDamaged (asks.Commit cvd vids file message None) stage held s page
+and_rows held cvd vids message file stage rows s page are is = (rows, is.0, by (set_in held.numbers cvd) are is.1)
+  where
+    by : (o : Option Set) → ((set : Set) → o ≡ Some set → AreRowsOf set.schema file stage rows)
+        → IfSet (λ set. IsDamagedAt set (record { vids = vids; message = message; rows = rows }) s page) o
+        → IfSet (λ set. AreRowsOf set.schema file stage rows × IsDamagedAt set (record { vids = vids; message = message; rows = rows }) s page) o
+    by None are is = absurd is
+    by (Some set) are is = (are set refl, is)
+
+pub result_and_rows : (held : Held) (cvd vids message file : List ℕ) (stage : Staged) (rows : List Row) (s : State) (result : Result Reply EndErr)
+    → ((set : Set) → set_in held.numbers cvd ≡ Some set → AreRowsOf set.schema file stage rows)
+    → IfErr result (IsDamageOf (λ page. (commit_off held cvd vids rows ≡ None)
+    × IfSet (λ set. IsDamagedAt set (record { vids = vids; message = message; rows = rows }) s page) (set_in held.numbers cvd)))
+    → IfErr result (IsDamageOf (IsDamaged (asks.Commit cvd vids file message None) stage held s))
+result_and_rows held cvd vids message file stage rows s (Ok reply) are is = tt
+result_and_rows held cvd vids message file stage rows s (Err ending.Host) are is = tt
+result_and_rows held cvd vids message file stage rows s (Err ending.Memory) are is = tt
+result_and_rows held cvd vids message file stage rows s (Err ending.Stage) are is = tt
+result_and_rows held cvd vids message file stage rows s (Err (ending.Damaged area at)) are is =
+    (is.0, and_rows held cvd vids message file stage rows s at are is.1)
+
+-- ---- damage that a checkout meets
+
+scanned_in : (set : Option Set) (vids : List ℕ) (page : ℕ) (old new : State) → Looked old new → IsDamagedIn set vids old page → IsDamagedIn set vids new page
+scanned_in None vids page old new looked is = absurd is
+scanned_in (Some set) vids page old new looked is = λ tells.
+    let told : old.tells ≡ true = sym looked.told ∙ tells
+    in subst (λ (b : List ℕ). IsDamageRead b set vids page) (ap (λ (t : Tape). page_bytes (record old { tape = t })) (sym (looked.tape told))) (is told)
+
+module _ (held : Held) (name cvd vids : List ℕ) (stage : Staged) (file : Option (List ℕ)) (old new : State) (same : name ≡ cvd) (looked : Looked old new) where
+  abbrev IsScanDamage : EndErr → Type 0
+  IsScanDamage e = IsDamageOf (IsDamaged (asks.Checkout cvd vids file None) stage held new) e
+
+  scan_end : (off : StoreErr) (e : EndErr) → end_of off ≡ Some e → IsUnscanned (scan_off held.numbers name vids) (set_in held.numbers name) vids old new off → IsScanDamage e
+  scan_end why.Host e is off = subst IsScanDamage (the_end ending.Host e is) tt
+  scan_end why.Memory e is off = subst IsScanDamage (the_end ending.Memory e is) tt
+  scan_end (why.Damaged area at) e is off =
+      let none : scan_off held.numbers cvd vids ≡ None = subst (λ (n : List ℕ). scan_off held.numbers n vids ≡ None) same off.1
+      in let damaged = scanned_in (set_in held.numbers cvd) vids at old new looked (subst (λ (n : List ℕ). IsDamagedIn (set_in held.numbers n) vids old at) same off.2)
+      in subst IsScanDamage (the_end (ending.Damaged area at) e is) (off.0, (none, damaged))
+  scan_end (why.Full pages) e is off = absurd cc
+  scan_end why.JournalFull e is off = absurd cc
+  scan_end why.NoCvd e is off = absurd cc
+  scan_end why.CvdExists e is off = absurd cc
+  scan_end (why.NoVersion vid) e is off = absurd cc
+  scan_end (why.RepeatedVersion vid) e is off = absurd cc
+  scan_end (why.DuplicateKey row) e is off = absurd cc
+  scan_end why.TooManyVersions e is off = absurd cc
+  scan_end why.TooManyRecords e is off = absurd cc
+  scan_end why.TooManyRows e is off = absurd cc
+  scan_end why.TooManyCvds e is off = absurd cc
+  scan_end why.NoNumbers e is off = absurd cc
+  scan_end (why.FormatOne row) e is off = absurd cc
+
+  pub scan_damaged : (off : StoreErr) (result : Result Reply EndErr) → IfErr result (λ e. end_of off ≡ Some e)
+      → IsUnscanned (scan_off held.numbers name vids) (set_in held.numbers name) vids old new off → IfErr result IsScanDamage
+  scan_damaged off (Ok reply) ends is = tt
+  scan_damaged off (Err e) ends is = scan_end off e ends is
+
+  -- no damage at all
+  pub spared_damaged : (result : Result Reply EndErr) → IfErr result IsNoHost → IfErr result IsScanDamage
+  spared_damaged (Ok reply) alone = tt
+  spared_damaged (Err ending.Host) alone = tt
+  spared_damaged (Err ending.Memory) alone = tt
+  spared_damaged (Err ending.Stage) alone = tt
+  spared_damaged (Err (ending.Damaged area at)) alone = absurd alone
 
 -- ---- no host
 

@@ -1,5 +1,5 @@
 -- What a command of a file's rows does, by what refuses it.
-use Rattle.std.proofs.Common.{◌≡◌, ◌+◌, is_lt, suc, ℕ, true, false, Bool, List, [], ◌∷◌, length, refl, sym, ◌∙◌, ap, subst}
+use Rattle.std.proofs.Common.{◌≡◌, ◌+◌, is_lt, suc, ℕ, true, false, Bool, List, [], ◌∷◌, length, refl, ◌∙◌, ap}
 use Rattle.std.specs.Prelude.{Option, Some, None, Ok, if◌then◌else◌}
 use Rattle.std.specs.Option.{option_or}
 use Rattle.ov_model.specs.Act.{Session, commit_rows, does, records_refusal, refuses, rows_refusal, unless, with_rows}

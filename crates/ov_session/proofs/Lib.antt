@@ -5,3 +5,6 @@ pub mod Asking
 pub mod Lookups
 pub mod Dealing
 pub mod Saying
+pub mod Standing
+pub mod Bounds
+pub mod Replying

@@ -103,25 +103,25 @@ named_is w name d e = first_named name w.sets d e
 
 -- ---- a checkout, where the store is at a World
 
--- where the reply is a refusal, it is of the numbers
-unscanned_off : (name vids : List ℕ) (off : Option StoreErr) (set : Option (SetNumbers Extent Extent)) (old new : State) (e : StoreErr) (r : Reply)
-    → IsUnscanned off set vids old new e → reply_of name e ≡ Some r → off ≡ Some e
+-- where the reply is a refusal, it is of the numbers, and the host wasn't called
+pub unscanned_off : (name vids : List ℕ) (off : Option StoreErr) (set : Option (SetNumbers Extent Extent)) (old new : State) (e : StoreErr) (r : Reply)
+    → IsUnscanned off set vids old new e → reply_of name e ≡ Some r → (off ≡ Some e) × (new ≡ old)
 unscanned_off name vids off set old new why.Host r is said = absurd cc
 unscanned_off name vids off set old new why.Memory r is said = absurd cc
 unscanned_off name vids off set old new (why.Damaged area at) r is said = absurd cc
-unscanned_off name vids off set old new (why.Full pages) r is said = is.0
-unscanned_off name vids off set old new why.JournalFull r is said = is.0
-unscanned_off name vids off set old new why.NoCvd r is said = is.0
-unscanned_off name vids off set old new why.CvdExists r is said = is.0
-unscanned_off name vids off set old new (why.NoVersion vid) r is said = is.0
-unscanned_off name vids off set old new (why.RepeatedVersion vid) r is said = is.0
-unscanned_off name vids off set old new (why.DuplicateKey row) r is said = is.0
-unscanned_off name vids off set old new why.TooManyVersions r is said = is.0
-unscanned_off name vids off set old new why.TooManyRecords r is said = is.0
-unscanned_off name vids off set old new why.TooManyRows r is said = is.0
-unscanned_off name vids off set old new why.TooManyCvds r is said = is.0
-unscanned_off name vids off set old new why.NoNumbers r is said = is.0
-unscanned_off name vids off set old new (why.FormatOne row) r is said = is.0
+unscanned_off name vids off set old new (why.Full pages) r is said = is
+unscanned_off name vids off set old new why.JournalFull r is said = is
+unscanned_off name vids off set old new why.NoCvd r is said = is
+unscanned_off name vids off set old new why.CvdExists r is said = is
+unscanned_off name vids off set old new (why.NoVersion vid) r is said = is
+unscanned_off name vids off set old new (why.RepeatedVersion vid) r is said = is
+unscanned_off name vids off set old new (why.DuplicateKey row) r is said = is
+unscanned_off name vids off set old new why.TooManyVersions r is said = is
+unscanned_off name vids off set old new why.TooManyRecords r is said = is
+unscanned_off name vids off set old new why.TooManyRows r is said = is
+unscanned_off name vids off set old new why.TooManyCvds r is said = is
+unscanned_off name vids off set old new why.NoNumbers r is said = is
+unscanned_off name vids off set old new (why.FormatOne row) r is said = is
 
 reply_is : (o : Option Refusal) (r : Reply) → option_map says.Refused o ≡ Some r → (refusal : Refusal) × (o ≡ Some refusal) × (r ≡ says.Refused refusal)
 reply_is None r e = absurd cc
@@ -180,7 +180,7 @@ module _ (w : World) (held : Held) (old new : State) (at : IsAtWorld w held old)
       → Does asked_for s s w r held held old new
   checkout_refused e r is said =
       let it = reply_is (refusal_of name e) r said
-      in let off = unscanned_off name vids (scan_off held.numbers name vids) (set_in held.numbers name) old new e r is said
+      in let off = (unscanned_off name vids (scan_off held.numbers name vids) (set_in held.numbers name) old new e r is said).0
       in does_told asked_for s s w r held old new
       (refuses_so it.0 (ap (refused name) off ∙ it.1) ∙ ap (tells s) (sym it.2)) at looked.told (looked.tape at.at.told)
 

@@ -1,12 +1,13 @@
 -- What serving a command keeps to on every host and stage.
 --     Goes old new      a host: no call changes whether it tells its bytes, and its count of faults doesn't fall
 --     Attended old new      a stage
---     IsDamaged command held s page      what the command reads is damaged
+--     IsDamaged command stage held s page      what the command reads is damaged, and no number refuses it
+--     IfNoFile P reply      this holds where the reply is that there is no such file
 --     Acts d s t w result ..      where the store is at a World, a command does what it means, or is stopped in it
 use Rattle.std.specs.Prelude.{◌≡◌, ◌≤◌, ℕ, Bool, true, false, List, [], length, Option, Some, None, Result, Ok, Err}
 use Rattle.std.specs.List.{All}
 use Rattle.ov_host.specs.declared.area.Area.TheVariants.{Pages}
-use Rattle.ov_host.specs.Host.{State}
+use Rattle.ov_host.specs.Host.{Rose, State}
 use Rattle.ov_host.specs.Stage.{Staged}
 use Rattle.ov_core.specs.Held.{Held}
 use Rattle.law_runs.specs.Serving.{Breaks, Does}
@@ -21,6 +22,7 @@ use Rattle.ov_model.specs.declared.command.Command.{Command}
 use Rattle.ov_model.specs.declared.command.Command.TheVariants as asks
 use Rattle.ov_model.specs.World.{Dataset, World, set_named}
 use Rattle.ov_model.specs.declared.refusal.Refusal.{Refusal}
+use Rattle.ov_model.specs.declared.refusal.Refusal.TheVariants as no
 use Rattle.ov_model.specs.declared.reply.Reply.TheVariants as says
 use Rattle.ov_value.specs.Shapes.{Shape}
 use Rattle.ov_value.specs.Spelling.{IsRow}
@@ -32,8 +34,10 @@ use Rattle.ov_session.specs.declared.serving.Served.TheVariants as served
 use Rattle.ov_model.specs.declared.reply.Reply.{Reply}
 use Rattle.ov_session.specs.declared.errors.EndErr.{EndErr}
 use Rattle.ov_session.specs.declared.errors.EndErr.TheVariants as ending
-use Rattle.ov_store.specs.Committing.{IfSet, IsDamagedAt}
-use Rattle.ov_store.specs.Scanning.{IsDamagedIn, set_in}
+use Rattle.ov_store.specs.Committing.{IfSet, IsDamagedAt, Set, commit_off}
+use Rattle.ov_store.specs.Scanning.{IsDamagedIn, scan_off, set_in}
+use Rattle.ov_files.specs.Files.{file_rows}
+use Rattle.std.specs.FinMap.{get}
 
 pub record Goes (old new : State) : Type 0 where
   pub told : new.tells ≡ old.tells
@@ -45,12 +49,25 @@ pub record Attended (old new : Staged) : Type 0 where
   pub faults : old.faults ≤ new.faults
   pub misses : old.misses ≤ new.misses
 
--- a list or a partition of the versions that it names, or these versions as the parents of rows
-abbrev pub IsDamaged : Command → Held → State → ℕ → Type 0
-IsDamaged (asks.Checkout cvd vids file table) held s page = IsDamagedIn (set_in held.numbers cvd) vids s page
-IsDamaged (asks.Commit cvd vids file message added) held s page =
-    (rows : List Row) × IfSet (λ set. IsDamagedAt set (record { vids = vids; message = message; rows = rows }) s page) (set_in held.numbers cvd)
-IsDamaged _ held s page = ⊥
+-- where the stage tells its files, the rows that the file of this name spells
+abbrev pub AreRowsOf : Shape → List ℕ → Staged → List Row → Type 0
+AreRowsOf schema file stage rows = stage.tells ≡ true → file_rows schema file (get stage.files file) ≡ Ok rows
+
+-- a list or a partition of the versions that it names, or these versions as the parents of its file's rows
+abbrev pub IsDamaged : Command → Staged → Held → State → ℕ → Type 0
+IsDamaged (asks.Checkout cvd vids file table) stage held s page =
+    (scan_off held.numbers cvd vids ≡ None) × IsDamagedIn (set_in held.numbers cvd) vids s page
+IsDamaged (asks.Commit cvd vids file message added) stage held s page =
+    (rows : List Row) × (commit_off held cvd vids rows ≡ None)
+    × IfSet (λ set. AreRowsOf set.schema file stage rows × IsDamagedAt set (record { vids = vids; message = message; rows = rows }) s page)
+    (set_in held.numbers cvd)
+IsDamaged _ stage held s page = ⊥
+
+-- what holds where the reply is that there is no file of some name
+abbrev pub IfNoFile : Type 0 → Reply → Type 0
+IfNoFile P reply = (name : List ℕ) → reply ≡ says.Refused (no.NoFile name) → P
+
+-- ---- how a command ends
 
 abbrev pub IsNoDamage : EndErr → Type 0
 IsNoDamage (ending.Damaged area at) = ⊥
@@ -65,6 +82,10 @@ Acts d s t w (Err why) before now old new = Breaks d s w old new
 abbrev pub IsDamageOf : (ℕ → Type 0) → EndErr → Type 0
 IsDamageOf P (ending.Damaged area at) = (area ≡ Pages) × P at
 IsDamageOf P _ = Unit {0}
+
+abbrev pub IfDamaged : Type 0 → EndErr → Type 0
+IfDamaged P (ending.Damaged area at) = P
+IfDamaged P _ = Unit {0}
 
 -- neither the host nor the store is the cause
 abbrev pub IsNoHost : EndErr → Type 0
@@ -85,6 +106,21 @@ HasRowsOf schema (asked.Said reply) = Unit {0}
 abbrev pub HasShortRows : Asked → Type 0
 HasShortRows (asked.Rows rows) = All IsShort rows.items
 HasShortRows (asked.Said reply) = Unit {0}
+
+-- the dataset is there
+abbrev pub HasSet : Option Set → Asked → Type 0
+HasSet o (asked.Rows rows) = (set : Set) × (o ≡ Some set)
+HasSet o (asked.Said reply) = Unit {0}
+
+-- the rows are those of the file, as far as the stage tells
+abbrev pub HasFileRows : Shape → List ℕ → Staged → Asked → Type 0
+HasFileRows schema file stage (asked.Rows rows) = AreRowsOf schema file stage rows.items
+HasFileRows schema file stage (asked.Said reply) = Unit {0}
+
+-- a refusal for want of a file, only where a miss of the stage was counted
+abbrev pub HasMissed : Staged → Staged → Asked → Type 0
+HasMissed old new (asked.Rows rows) = Unit {0}
+HasMissed old new (asked.Said reply) = IfNoFile (Rose old.misses new.misses) reply
 
 -- the rows are those of the file, for a version that may be; or the command is refused so
 abbrev pub IsAskedOf : World → Session → List ℕ → List ℕ → List ℕ → List ℕ → Asked → Type 0

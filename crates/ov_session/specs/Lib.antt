@@ -1,2 +1,5 @@
 pub mod Errors
 pub mod Commands
+pub mod Bounds
+pub mod Standing
+pub mod Replying

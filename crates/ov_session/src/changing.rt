@@ -1,5 +1,5 @@
 // The commands that change the store.
-ghost use Rattle.std.specs.Prelude.{◌≡◌, ◌≢◌, ◌≤◌, ℕ, List, [], true, false, Some, None, Ok, IsTrue, IsErrOf, IfOk, IfErr, OnOk, length};
+ghost use Rattle.std.specs.Prelude.{◌≡◌, ◌≢◌, ◌≤◌, ◌+◌, ℕ, List, [], true, false, Some, None, Ok, IsTrue, IsErrOf, IfOk, IfErr, OnOk, length};
 ghost use Rattle.std.specs.List.{All};
 ghost use Rattle.ov_host.specs.Host.{Rose, State};
 ghost use Rattle.ov_value.specs.Naming.{is_name};
@@ -9,10 +9,14 @@ ghost use Rattle.ov_model.specs.World.{World, Dataset, set_named};
 ghost use Rattle.ov_core.specs.AtWorld.{IsAtWorld};
 ghost use Rattle.law_runs.specs.Serving.{files_of, session_of};
 ghost use Rattle.ov_store.specs.Beginning.{IsShort};
-ghost use Rattle.ov_store.specs.Committing.{IfSet, IsDamagedAt, Set};
+ghost use Rattle.ov_read.specs.Sizes.{bytes_for};
+ghost use Rattle.ov_store.specs.Committing.{IfSet, IsDamagedAt, Set, commit_off, parents_off_in};
 ghost use Rattle.ov_store.specs.Kept.{MayCall};
 ghost use Rattle.ov_store.specs.Scanning.{set_in};
-ghost use Rattle.ov_session.specs.Commands.{Acts, Attended, Goes, HasRowsOf, HasShortRows, IsAskedOf, IsDamageOf, IsDamaged, IsNoDamage, IsNoHost, begun};
+ghost use Rattle.ov_store.specs.declared.errors.StoreErr.{StoreErr as StoreErrValue};
+ghost use Rattle.ov_session.specs.Bounds.{bytes_in};
+ghost use Rattle.ov_session.specs.Commands.{Acts, Attended, Goes, HasFileRows, HasMissed, HasRowsOf, HasSet, HasShortRows, IfDamaged, IfNoFile, IsAskedOf, IsDamageOf, IsDamaged, IsNoDamage, IsNoHost, begun};
+ghost use Rattle.ov_session.specs.Standing.{Idle, IsAtSilently, IsIdle};
 ghost use Rattle.ov_model.specs.declared.command.Command.TheVariants as asks;
 
 use crate::errors::{EndErr, refused};
@@ -36,10 +40,13 @@ fn begin<H: Host>(
     requires fit { All (IsRow schema) rows.items }
     requires short { All IsShort rows.items }
     ensures goes { Goes (H.state host.old) (H.state host.new) }
+    ensures fetched { (H.state host.new).fetched ≡ (H.state host.old).fetched }
     ensures cause { IsErrOf result EndErr.Host → Rose (H.state host.old).faults (H.state host.new).faults }
     ensures host_alone { IsErrOf result EndErr.Stage → ⊥ }
     ensures undamaged { IfErr result IsNoDamage }
     ensures usable { OnOk result (MayCall store.new (H.state host.new)) }
+    ensures at { (w : World) → IsAtWorld w store.old.held (H.state host.old) → OnOk result (IsAtSilently store.new.held (H.state host.old) (H.state host.new)) }
+    ensures seen { IfOk result (IfNoFile ⊥) }
     ensures acts { (w : World) (s : Session) → IsAtWorld w store.old.held (H.state host.old) → init_refusal w cvd ≡ None
         → Acts (with_rows w s schema false (begun s cvd schema) (Ok rows.items)) s s w result
         store.old.held store.new.held (H.state host.old) (H.state host.new) }
@@ -67,10 +74,14 @@ pub fn init<H: Host, T: Stage>(
     requires name { IsTrue (is_name cvd) }
     ensures goes { Goes (H.state host.old) (H.state host.new) }
     ensures attended { Attended (T.staged stage.old) (T.staged stage.new) }
+    ensures fetched { (H.state host.new).fetched ≡ (H.state host.old).fetched }
     ensures cause { IsErrOf result EndErr.Host → Rose (H.state host.old).faults (H.state host.new).faults }
     ensures stage { IsErrOf result EndErr.Stage → Rose (T.staged stage.old).faults (T.staged stage.new).faults }
     ensures undamaged { IfErr result IsNoDamage }
     ensures usable { OnOk result (MayCall store.new (H.state host.new)) }
+    ensures at { (w : World) → IsAtWorld w store.old.held (H.state host.old) → OnOk result (IsAtSilently store.new.held (H.state host.old) (H.state host.new)) }
+    ensures missed { IfOk result (IfNoFile (Rose (T.staged stage.old).misses (T.staged stage.new).misses)) }
+    ensures idle { IfErr result (λ why. IsIdle why store.old store.new (T.staged stage.old) (T.staged stage.new) (H.state host.old) (H.state host.new)) }
     ensures acts { (w : World) (user : List ℕ) → (T.staged stage.old).tells ≡ true → IsAtWorld w store.old.held (H.state host.old)
         → Acts (init_deed w (session_of (T.staged stage.old).files user) cvd schema file) (session_of (T.staged stage.old).files user)
         (session_of (T.staged stage.new).files user) w result store.old.held store.new.held (H.state host.old) (H.state host.new) }
@@ -99,12 +110,20 @@ fn next_version<H: Host>(
     requires some { vids.now ≢ [] }
     requires message { length message.now ≤ 1024 }
     ensures goes { Goes (H.state host.old) (H.state host.new) }
+    ensures fetched { (set : Set) → set_in store.old.held.numbers cvd ≡ Some set
+        → (H.state host.new).fetched ≤ (H.state host.old).fetched + bytes_for set vids.now }
+    ensures unread { (off : StoreErrValue) → parents_off_in (set_in store.old.held.numbers cvd) vids.now ≡ Some off
+        → OnOk result ((H.state host.new).fetched ≡ (H.state host.old).fetched) }
     ensures cause { IsErrOf result EndErr.Host → Rose (H.state host.old).faults (H.state host.new).faults }
     ensures host_alone { IsErrOf result EndErr.Stage → ⊥ }
-    ensures damaged { IfErr result (IsDamageOf (λ page. IfSet (λ set. IsDamagedAt set
-        (record { vids = vids.now; message = message.now; rows = rows.items }) (H.state host.new) page) (set_in store.old.held.numbers cvd))) }
+    ensures damaged { IfErr result (IsDamageOf (λ page. (commit_off store.old.held cvd vids.now rows.items ≡ None)
+        × IfSet (λ set. IsDamagedAt set (record { vids = vids.now; message = message.now; rows = rows.items }) (H.state host.new) page)
+        (set_in store.old.held.numbers cvd))) }
+    ensures idle { IfErr result (IfDamaged (Idle store.old store.new (H.state host.old) (H.state host.new))) }
     ensures undamaged { (w : World) → IsAtWorld w store.old.held (H.state host.old) → IfErr result IsNoDamage }
     ensures usable { OnOk result (MayCall store.new (H.state host.new)) }
+    ensures at { (w : World) → IsAtWorld w store.old.held (H.state host.old) → OnOk result (IsAtSilently store.new.held (H.state host.old) (H.state host.new)) }
+    ensures seen { IfOk result (IfNoFile ⊥) }
     ensures acts { (w : World) (s : Session) (d : Dataset) → IsAtWorld w store.old.held (H.state host.old) → set_named w cvd ≡ Some d
         → commit_refusal d vids.now ≡ None
         → Acts (with_rows w s d.cvd.schema false (commit_rows s d vids.now message.now []) (Ok rows.items)) s s w result
@@ -145,6 +164,9 @@ fn rows_for<T: Stage>(
     ensures stage_alone { IfErr result IsNoHost }
     ensures fit { (set : Set) → set_in store.now.held.numbers cvd.now ≡ Some set → IfOk result (HasRowsOf set.schema) }
     ensures short { IfOk result HasShortRows }
+    ensures found { IfOk result (HasSet (set_in store.now.held.numbers cvd.now)) }
+    ensures read { (set : Set) → set_in store.now.held.numbers cvd.now ≡ Some set → IfOk result (HasFileRows set.schema file.now (T.staged stage.old)) }
+    ensures missed { IfOk result (HasMissed (T.staged stage.old) (T.staged stage.new)) }
     ensures asked { (w : World) (t : State) (s : Session) (message : List ℕ) → (T.staged stage.old).tells ≡ true → IsAtWorld w store.now.held t
         → s.files ≡ files_of (T.staged stage.old).files
         → IfOk result (IsAskedOf w s cvd.now vids.now message file.now) }
@@ -177,11 +199,18 @@ pub fn commit<H: Host, T: Stage>(
     requires message { length message.now ≤ 1024 }
     ensures goes { Goes (H.state host.old) (H.state host.new) }
     ensures attended { Attended (T.staged stage.old) (T.staged stage.new) }
+    ensures fetched { (H.state host.new).fetched ≤ (H.state host.old).fetched + bytes_in (set_in store.old.held.numbers cvd) vids.now }
+    ensures unread { (off : StoreErrValue) → parents_off_in (set_in store.old.held.numbers cvd) vids.now ≡ Some off
+        → OnOk result ((H.state host.new).fetched ≡ (H.state host.old).fetched) }
     ensures cause { IsErrOf result EndErr.Host → Rose (H.state host.old).faults (H.state host.new).faults }
     ensures stage { IsErrOf result EndErr.Stage → Rose (T.staged stage.old).faults (T.staged stage.new).faults }
-    ensures damaged { IfErr result (IsDamageOf (IsDamaged (asks.Commit cvd vids.now file.now message.now None) store.old.held (H.state host.new))) }
+    ensures damaged { IfErr result (IsDamageOf (IsDamaged (asks.Commit cvd vids.now file.now message.now None) (T.staged stage.old) store.old.held
+        (H.state host.new))) }
     ensures undamaged { (w : World) → IsAtWorld w store.old.held (H.state host.old) → IfErr result IsNoDamage }
     ensures usable { OnOk result (MayCall store.new (H.state host.new)) }
+    ensures at { (w : World) → IsAtWorld w store.old.held (H.state host.old) → OnOk result (IsAtSilently store.new.held (H.state host.old) (H.state host.new)) }
+    ensures missed { IfOk result (IfNoFile (Rose (T.staged stage.old).misses (T.staged stage.new).misses)) }
+    ensures idle { IfErr result (λ why. IsIdle why store.old store.new (T.staged stage.old) (T.staged stage.new) (H.state host.old) (H.state host.new)) }
     ensures acts { (w : World) (user : List ℕ) → (T.staged stage.old).tells ≡ true → IsAtWorld w store.old.held (H.state host.old)
         → Acts (commit_deed w (session_of (T.staged stage.old).files user) cvd vids.now message.now [] file.now (set_named w cvd))
         (session_of (T.staged stage.old).files user) (session_of (T.staged stage.new).files user) w result
@@ -197,10 +226,13 @@ pub fn commit<H: Host, T: Stage>(
 pub fn drop_cvd<H: Host>(store: &mut Store, host: &mut H, cvd: Txt) -> Result<Reply, EndErr>
     requires call { MayCall store.old (H.state host.old) }
     ensures goes { Goes (H.state host.old) (H.state host.new) }
+    ensures fetched { (H.state host.new).fetched ≡ (H.state host.old).fetched }
     ensures cause { IsErrOf result EndErr.Host → Rose (H.state host.old).faults (H.state host.new).faults }
     ensures host_alone { IsErrOf result EndErr.Stage → ⊥ }
     ensures undamaged { IfErr result IsNoDamage }
     ensures usable { OnOk result (MayCall store.new (H.state host.new)) }
+    ensures at { (w : World) → IsAtWorld w store.old.held (H.state host.old) → OnOk result (IsAtSilently store.new.held (H.state host.old) (H.state host.new)) }
+    ensures seen { IfOk result (IfNoFile ⊥) }
     ensures acts { (w : World) (s : Session) → IsAtWorld w store.old.held (H.state host.old)
         → Acts (drop_deed s cvd (set_named w cvd)) s s w result store.old.held store.new.held (H.state host.old) (H.state host.new) }
 {

@@ -1,5 +1,5 @@
 // The commands that read.
-ghost use Rattle.std.specs.Prelude.{◌≡◌, ℕ, List, true, None, Some, IsErrOf, IfOk, IfErr, MatchResult, OnOk, map};
+ghost use Rattle.std.specs.Prelude.{◌≡◌, ◌≤◌, ◌+◌, ℕ, List, true, false, None, Some, IsErrOf, IfOk, IfErr, MatchResult, OnOk, map};
 ghost use Rattle.ov_host.specs.Host.{Rose, State};
 ghost use Rattle.ov_model.specs.Act.{Session, checkout_deed, gives, log_deed, ls_line, merge_of, tells};
 ghost use Rattle.ov_model.specs.World.{World, Dataset, set_named};
@@ -9,7 +9,10 @@ ghost use Rattle.ov_core.specs.AtWorld.{IsAtWorld};
 ghost use Rattle.law_runs.specs.Serving.{session_of};
 ghost use Rattle.ov_fetch.specs.Extents.{Looked};
 ghost use Rattle.ov_store.specs.Scanning.{IsUndamaged, IsUnscanned, scan_off, set_in};
-ghost use Rattle.ov_session.specs.Commands.{Acts, Attended, IsDamageOf, IsDamaged, IsMergeOf, IsNoDamage, IsNoHost};
+ghost use Rattle.ov_store.specs.declared.errors.StoreErr.{StoreErr as StoreErrValue};
+ghost use Rattle.ov_session.specs.Bounds.{bytes_in};
+ghost use Rattle.ov_session.specs.Standing.{IsIdle};
+ghost use Rattle.ov_session.specs.Commands.{Acts, Attended, IfNoFile, IsDamageOf, IsDamaged, IsMergeOf, IsNoDamage, IsNoHost};
 
 use crate::errors::{EndErr, refused};
 use ov_checkout::{Checkout, checkout_of};
@@ -31,15 +34,16 @@ fn merged<H: Host>(
 ) -> Result<Checkout, StoreErr>
     requires usable { store.now.usable ≡ true }
     ensures looked { Looked (H.state host.old) (H.state host.new) }
+    ensures fetched { (H.state host.new).fetched ≤ (H.state host.old).fetched + bytes_in (set_in store.now.held.numbers cvd.now) vids.now }
     ensures why { IfErr result (IsUnscanned (scan_off store.now.held.numbers cvd.now vids.now) (set_in store.now.held.numbers cvd.now) vids.now (H.state host.old) (H.state host.new)) }
     ensures allowed { OnOk result (scan_off store.now.held.numbers cvd.now vids.now ≡ None) }
     ensures world { (w : World) (d : Dataset) → IsAtWorld w store.now.held (H.state host.old) → set_named w cvd.now ≡ Some d
         → MatchResult result (IsMergeOf d vids.now) IsUndamaged }
 {
-    let scan = store.scan(host, cvd, vids)?;
     let Some(d) = store.catalog().cvd(cvd) else {
         return Err(StoreErr::NoCvd);
     };
+    let scan = store.scan(host, cvd, vids)?;
     Ok(checkout_of(alloc, &d.schema, &scan)?)
 }
 
@@ -53,6 +57,7 @@ fn give<T: Stage>(
     ensures attended { Attended (T.staged stage.old) (T.staged stage.new) }
     ensures stage { IsErrOf result EndErr.Stage → Rose (T.staged stage.old).faults (T.staged stage.new).faults }
     ensures stage_alone { IfErr result IsNoHost }
+    ensures seen { IfOk result (IfNoFile ⊥) }
     ensures given { (w : World) (user : List ℕ) (d : Dataset) (vids : List ℕ) → (T.staged stage.old).tells ≡ true → IsMergeOf d vids made → d.cvd.name ≡ cvd
         → IfOk result (λ reply. gives (session_of (T.staged stage.old).files user) d.cvd (merge_of d.cvd vids) file
         ≡ tells (session_of (T.staged stage.new).files user) reply) }
@@ -85,11 +90,17 @@ pub fn checkout<H: Host, T: Stage>(
 ) -> Result<Reply, EndErr>
     requires usable { store.now.usable ≡ true }
     ensures looked { Looked (H.state host.old) (H.state host.new) }
+    ensures fetched { (H.state host.new).fetched ≤ (H.state host.old).fetched + bytes_in (set_in store.now.held.numbers cvd) vids.now }
+    ensures unread { (off : StoreErrValue) → scan_off store.now.held.numbers cvd vids.now ≡ Some off
+        → OnOk result ((H.state host.new).fetched ≡ (H.state host.old).fetched) }
     ensures attended { Attended (T.staged stage.old) (T.staged stage.new) }
     ensures cause { IsErrOf result EndErr.Host → Rose (H.state host.old).faults (H.state host.new).faults }
     ensures stage { IsErrOf result EndErr.Stage → Rose (T.staged stage.old).faults (T.staged stage.new).faults }
-    ensures damaged { IfErr result (IsDamageOf (IsDamaged (asks.Checkout cvd vids.now file None) store.now.held (H.state host.new))) }
+    ensures damaged { IfErr result (IsDamageOf (IsDamaged (asks.Checkout cvd vids.now file None) (T.staged stage.old) store.now.held
+        (H.state host.new))) }
     ensures undamaged { (w : World) → IsAtWorld w store.now.held (H.state host.old) → IfErr result IsNoDamage }
+    ensures seen { IfOk result (IfNoFile ⊥) }
+    ensures idle { IfErr result (λ why. IsIdle why store.now store.now (T.staged stage.old) (T.staged stage.new) (H.state host.old) (H.state host.new)) }
     ensures acts { (w : World) (user : List ℕ) → (T.staged stage.old).tells ≡ true → IsAtWorld w store.now.held (H.state host.old)
         → Acts (checkout_deed (session_of (T.staged stage.old).files user) vids.now file cvd (set_named w cvd))
         (session_of (T.staged stage.old).files user) (session_of (T.staged stage.new).files user) w result
@@ -105,6 +116,7 @@ pub fn checkout<H: Host, T: Stage>(
 pub fn log(alloc: Global, store: &Store, cvd: Txt) -> Result<Reply, AllocError>
     ensures told { (w : World) (s : Session) (t : State) → IsAtWorld w store.now.held t
         → IfOk result (λ reply. log_deed s cvd (set_named w cvd) ≡ tells s reply) }
+    ensures seen { IfOk result (IfNoFile ⊥) }
 {
     match store.catalog().cvd(cvd.as_str()) {
         Some(d) => Ok(Reply::Log {
@@ -118,6 +130,7 @@ pub fn log(alloc: Global, store: &Store, cvd: Txt) -> Result<Reply, AllocError>
 pub fn ls(alloc: Global, store: &Store) -> Result<Reply, AllocError>
     ensures told { (w : World) (s : Session) (t : State) → IsAtWorld w store.now.held t
         → IfOk result (λ reply. reply ≡ says.Ls (map ls_line w.sets)) }
+    ensures seen { IfOk result (IfNoFile ⊥) }
 {
     Ok(Reply::Ls {
         cvds: cvd_lines(alloc, store.catalog())?,

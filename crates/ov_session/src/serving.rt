@@ -1,5 +1,5 @@
 // A line and its reply.
-ghost use Rattle.std.specs.Prelude.{◌≡◌, ◌≢◌, ◌≤◌, ℕ, List, true, Some, None, Ok, IsErrOf, IsTrue, IfOk, IfErr, OnOk, is_ok};
+ghost use Rattle.std.specs.Prelude.{◌≡◌, ◌≢◌, ◌≤◌, ◌+◌, ℕ, List, true, false, Some, None, Ok, IsErrOf, IsTrue, IfOk, IfErr, OnOk, is_ok};
 ghost use Rattle.ov_host.specs.Host.{Calls, Rose, State};
 ghost use Rattle.ov_host.specs.Tape.{Prints};
 ghost use Rattle.ov_cmd.specs.Asked.{IsAsked};
@@ -13,7 +13,11 @@ ghost use Rattle.ov_value.specs.Naming.{is_name};
 ghost use Rattle.ov_core.specs.AtWorld.{IsAtWorld};
 ghost use Rattle.law_runs.specs.Serving.{Serves, is_error as is_error_of, session_of};
 ghost use Rattle.ov_store.specs.Kept.{Kept, MayCall};
-ghost use Rattle.ov_session.specs.Commands.{Acts, Attended, Goes, IsDamageOf, IsDamaged, IsNoDamage, IsSaid, IsUnsaid, is_comment_in, is_comment_of, is_refused};
+ghost use Rattle.ov_store.specs.declared.errors.StoreErr.{StoreErr};
+ghost use Rattle.ov_session.specs.Bounds.{command_fetch, command_off, line_off, may_fetch};
+ghost use Rattle.ov_session.specs.Replying.{IsReplied};
+ghost use Rattle.ov_session.specs.Standing.{IsAtSilently, IsAtSome, IsIdle};
+ghost use Rattle.ov_session.specs.Commands.{Acts, Attended, Goes, IfNoFile, IsDamageOf, IsDamaged, IsNoDamage, IsSaid, IsUnsaid, is_comment_in, is_comment_of, is_refused};
 
 use crate::changing::{commit, drop_cvd, init};
 use crate::errors::EndErr;
@@ -50,10 +54,16 @@ fn answer<H: Host, T: Stage>(
     requires asked { IsAsked command }
     ensures goes { Goes (H.state host.old) (H.state host.new) }
     ensures attended { Attended (T.staged stage.old) (T.staged stage.new) }
+    ensures fetched { (H.state host.new).fetched ≤ (H.state host.old).fetched + command_fetch store.old.held.numbers command }
+    ensures unread { (off : StoreErr) → command_off store.old.held.numbers command ≡ Some off
+        → OnOk result ((H.state host.new).fetched ≡ (H.state host.old).fetched) }
     ensures cause { IsErrOf result EndErr.Host → Rose (H.state host.old).faults (H.state host.new).faults }
     ensures stage { IsErrOf result EndErr.Stage → Rose (T.staged stage.old).faults (T.staged stage.new).faults }
-    ensures damaged { IfErr result (IsDamageOf (IsDamaged command store.old.held (H.state host.new))) }
+    ensures damaged { IfErr result (IsDamageOf (IsDamaged command (T.staged stage.old) store.old.held (H.state host.new))) }
     ensures usable { OnOk result (MayCall store.new (H.state host.new)) }
+    ensures at { (w : World) → IsAtWorld w store.old.held (H.state host.old) → OnOk result (IsAtSilently store.new.held (H.state host.old) (H.state host.new)) }
+    ensures missed { IfOk result (IfNoFile (Rose (T.staged stage.old).misses (T.staged stage.new).misses)) }
+    ensures idle { IfErr result (λ why. IsIdle why store.old store.new (T.staged stage.old) (T.staged stage.new) (H.state host.old) (H.state host.new)) }
     ensures undamaged { (w : World) → IsAtWorld w store.old.held (H.state host.old) → IfErr result IsNoDamage }
     ensures acts { (w : World) (user : List ℕ) → (T.staged stage.old).tells ≡ true → IsAtWorld w store.old.held (H.state host.old)
         → Acts (deed w (session_of (T.staged stage.old).files user) command) (session_of (T.staged stage.old).files user)
@@ -93,6 +103,7 @@ fn answer<H: Host, T: Stage>(
 // Prints a reply, in one print.
 fn print_reply<H: Host>(alloc: Global, host: &mut H, reply: &Reply) -> Result<Served, EndErr>
     ensures goes { Goes (H.state host.old) (H.state host.new) }
+    ensures fetched { (H.state host.new).fetched ≡ (H.state host.old).fetched }
     ensures cause { IsErrOf result EndErr.Host → Rose (H.state host.old).faults (H.state host.new).faults }
     ensures host_alone { IfErr result IsUnsaid }
     ensures served { IfOk result (IsSaid (is_error_of reply.now)) }
@@ -113,6 +124,7 @@ fn print_reply<H: Host>(alloc: Global, host: &mut H, reply: &Reply) -> Result<Se
 // Prints a reply, and gives its memory back.
 fn say<H: Host>(alloc: Global, host: &mut H, reply: Reply) -> Result<Served, EndErr>
     ensures goes { Goes (H.state host.old) (H.state host.new) }
+    ensures fetched { (H.state host.new).fetched ≡ (H.state host.old).fetched }
     ensures cause { IsErrOf result EndErr.Host → Rose (H.state host.old).faults (H.state host.new).faults }
     ensures host_alone { IfErr result IsUnsaid }
     ensures served { IfOk result (IsSaid (is_error_of reply)) }
@@ -141,14 +153,22 @@ pub fn serve<H: Host, T: Stage>(
     requires user { IsTrue (is_name user.old) }
     ensures goes { Goes (H.state host.old) (H.state host.new) }
     ensures attended { Attended (T.staged stage.old) (T.staged stage.new) }
+    ensures fetched { (H.state host.new).fetched
+        ≤ (H.state host.old).fetched + may_fetch store.old.held.numbers (line_of built_forms line.now) }
+    ensures unread { (off : StoreErr) → line_off store.old.held.numbers (line_of built_forms line.now) ≡ Some off
+        → OnOk result ((H.state host.new).fetched ≡ (H.state host.old).fetched) }
     ensures cause { IsErrOf result EndErr.Host → Rose (H.state host.old).faults (H.state host.new).faults }
     ensures stage { IsErrOf result EndErr.Stage → Rose (T.staged stage.old).faults (T.staged stage.new).faults }
     ensures damaged { IfErr result (IsDamageOf (λ page. (command : CommandValue) × (line_of built_forms line.now ≡ Asks command)
-        × IsDamaged command store.old.held (H.state host.new) page)) }
+        × IsDamaged command (T.staged stage.old) store.old.held (H.state host.new) page)) }
+    ensures idle { IfErr result (λ why. IsIdle why store.old store.new (T.staged stage.old) (T.staged stage.new) (H.state host.old) (H.state host.new)) }
     ensures undamaged { (w : World) → IsAtWorld w store.old.held (H.state host.old) → IfErr result IsNoDamage }
     ensures usable { OnOk result (MayCall store.new (H.state host.new)) }
+    ensures at { (w : World) → IsAtWorld w store.old.held (H.state host.old) → OnOk result (IsAtSome store.new.held (H.state host.new)) }
     ensures user { user.new ≡ user.old }
     ensures comment { IfOk result (λ served. is_comment_of served ≡ is_comment_in (line_of built_forms line.now)) }
+    ensures replied { IfOk result (λ served. IsReplied (line_of built_forms line.now) served store.old.held
+        (T.staged stage.old) (T.staged stage.new) (H.state host.old) (H.state host.new)) }
     ensures serves { (w : World) → (T.staged stage.old).tells ≡ true → IsAtWorld w store.old.held (H.state host.old)
         → Serves steps w (session_of (T.staged stage.old).files user.old) (session_of (T.staged stage.new).files user.new) line.now
         (is_ok result) (is_refused result) store.old.held store.new.held (H.state host.old) (H.state host.new) }

@@ -1,4 +1,8 @@
 use Rattle.ov_session.proofs.Begins.{begun_done, begun_off}
+use Rattle.ov_model.specs.Moves.{moved}
+use Rattle.ov_session.proofs.Replying.{result_seen}
+use Rattle.ov_session.proofs.Standing.{at_next, at_refused}
+use Rattle.ov_store.specs.Beginning.{first_move}
 use Rattle.ov_session.proofs.changing.begin.Goals as goal
 
 pub returns-in-Ok-clause-acts : goal.returns-in-Ok-clause-acts
@@ -12,3 +16,19 @@ returns-in-Err-clause-acts g c = λ w s at none.
     begun_off w s c.args.cvd c.args.schema c.args.rows.items c.args.store.now c.init.new.self (g.H.Host.state c.args.host.now) (g.H.Host.state c.init.new.host) at none
     c.refused.result c.in-Err.off c.refused.ensures.reply (c.in-Err.ensures.refused w at) (λ entry past within. c.in-Err.ensures.room w entry past at within)
     c.in-Err.ensures.stays (c.init.ensures.stops w at) (λ refusal is. c.init.ensures.still w refusal at is)
+
+pub returns-in-Ok-clause-at : goal.returns-in-Ok-clause-at
+returns-in-Ok-clause-at g c = λ w at.
+    at_next (moved (first_move c.args.cvd c.args.schema c.args.rows.items) w) c.init.new.self.held (g.H.Host.state c.args.host.now) (g.H.Host.state c.init.new.host)
+    (c.in-Ok.ensures.moves w at)
+
+pub returns-in-Err-clause-at : goal.returns-in-Err-clause-at
+returns-in-Err-clause-at g c = λ w at.
+    at_refused w c.args.cvd c.in-Err.off c.refused.result c.args.store.now c.init.new.self (g.H.Host.state c.args.host.now) (g.H.Host.state c.init.new.host)
+    c.refused.ensures.reply c.in-Err.ensures.stays at
+
+pub returns-in-Ok-clause-seen : goal.returns-in-Ok-clause-seen
+returns-in-Ok-clause-seen g c = λ name is. cc
+
+pub returns-in-Err-clause-seen : goal.returns-in-Err-clause-seen
+returns-in-Err-clause-seen g c = result_seen c.args.cvd c.in-Err.off c.refused.result c.refused.ensures.reply

@@ -1,11 +1,16 @@
-use Rattle.std.proofs.Common.{◌≡◌, [], None, sym, ap, refl, subst, rules}
+use Rattle.std.proofs.Common.{[], sym, ap, refl, subst, rules}
 use Rattle.law_runs.proofs.Doing.{breaks_looked}
 use Rattle.law_runs.specs.Serving.{Breaks, session_of}
 use Rattle.ov_model.specs.Act.{commit_deed}
 use Rattle.ov_model.specs.World.{set_named}
 use Rattle.ov_session.proofs.Asking.{commit_acts, said_still}
-use Rattle.ov_session.proofs.Dealing.{no_host}
-use Rattle.ov_session.specs.Commands.{IsAskedOf, IsNoDamage}
+use Rattle.ov_session.proofs.Bounds.{fetched_none, fetched_there}
+use Rattle.ov_session.proofs.Dealing.{no_host, result_and_rows}
+use Rattle.ov_session.proofs.Replying.{seen_missed}
+use Rattle.ov_session.proofs.Standing.{at_still, idle_same, idle_stored, idle_unmoved}
+use Rattle.ov_session.specs.Commands.{HasFileRows, HasMissed, HasSet, IsAskedOf, IsNoDamage}
+use Rattle.ov_session.specs.Standing.{IsIdle}
+use Rattle.ov_store.specs.Scanning.{set_in}
 use Rattle.ov_session.proofs.changing.commit.Goals as goal
 
 pub returns-in_err-rows-clause-acts : goal.returns-in_err-rows-clause-acts
@@ -38,3 +43,41 @@ pub returns-in_err-rows-clause-undamaged : goal.returns-in_err-rows-clause-undam
 returns-in_err-rows-clause-undamaged g c = λ w at.
     let fact : IsNoDamage c.in_err-rows.field-0.0 = no_host c.in_err-rows.field-0.0 c.in_err-rows.ensures.stage_alone
     in search (rules, fact)
+
+pub returns-in_err-rows-clause-fetched : goal.returns-in_err-rows-clause-fetched
+returns-in_err-rows-clause-fetched g c = fetched_none _ _
+
+pub returns-in_err-rows-clause-idle : goal.returns-in_err-rows-clause-idle
+returns-in_err-rows-clause-idle g c =
+    let fact : IsIdle c.in_err-rows.field-0.0 c.args.store.now c.args.store.now (g.T.Stage.staged c.args.stage.now) (g.T.Stage.staged c.rows_for.new.stage) (g.H.Host.state c.args.host.now) (g.H.Host.state c.args.host.now)
+    = idle_unmoved c.args.store.now c.args.store.now (g.T.Stage.staged c.args.stage.now) (g.T.Stage.staged c.rows_for.new.stage) (g.H.Host.state c.args.host.now) (g.H.Host.state c.args.host.now) c.in_err-rows.field-0.0
+    (idle_same c.args.store.now (g.H.Host.state c.args.host.now)) c.rows_for.ensures.files
+    in search (rules, fact)
+
+pub returns-in-Rows-clause-fetched : goal.returns-in-Rows-clause-fetched
+returns-in-Rows-clause-fetched g c =
+    fetched_there (set_in c.args.store.now.held.numbers c.args.cvd) c.args.vids.now (g.H.Host.state c.args.host.now).fetched (g.H.Host.state c.next_version.new.host).fetched
+    (subst (HasSet (set_in c.args.store.now.held.numbers c.args.cvd)) c.in-Rows.is c.in_ok-rows.ensures.found) (λ set is. c.next_version.ensures.fetched set is)
+
+pub returns-in-Rows-clause-missed : goal.returns-in-Rows-clause-missed
+returns-in-Rows-clause-missed g c = seen_missed _ c.next_version.result c.next_version.ensures.seen
+
+pub returns-in-Rows-clause-idle : goal.returns-in-Rows-clause-idle
+returns-in-Rows-clause-idle g c =
+    idle_stored c.args.store.now c.next_version.new.store (g.T.Stage.staged c.args.stage.now) (g.T.Stage.staged c.rows_for.new.stage) (g.H.Host.state c.args.host.now) (g.H.Host.state c.next_version.new.host)
+    c.next_version.result c.next_version.ensures.host_alone c.next_version.ensures.idle c.rows_for.ensures.files
+
+pub returns-in-Rows-clause-damaged : goal.returns-in-Rows-clause-damaged
+returns-in-Rows-clause-damaged g c =
+    result_and_rows c.args.store.now.held c.args.cvd c.args.vids.now c.args.message.now c.args.file.now (g.T.Stage.staged c.args.stage.now) c.in-Rows.rows.items (g.H.Host.state c.next_version.new.host)
+    c.next_version.result (λ set is. subst (HasFileRows set.schema c.args.file.now (g.T.Stage.staged c.args.stage.now)) c.in-Rows.is (c.in_ok-rows.ensures.read set is))
+    c.next_version.ensures.damaged
+
+pub returns-in-Said-clause-fetched : goal.returns-in-Said-clause-fetched
+returns-in-Said-clause-fetched g c = fetched_none _ _
+
+pub returns-in-Said-clause-at : goal.returns-in-Said-clause-at
+returns-in-Said-clause-at g c = λ w at. at_still w c.args.store.now.held (g.H.Host.state c.args.host.now) at
+
+pub returns-in-Said-clause-missed : goal.returns-in-Said-clause-missed
+returns-in-Said-clause-missed g c = subst (HasMissed (g.T.Stage.staged c.args.stage.now) (g.T.Stage.staged c.rows_for.new.stage)) c.in-Said.is c.in_ok-rows.ensures.missed

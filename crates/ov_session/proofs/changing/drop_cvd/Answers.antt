@@ -1,7 +1,8 @@
-use Rattle.std.proofs.Common.{◌≡◌, List, ℕ, Some, None, true, refl, ap, sym, ◌∙◌}
-use Rattle.std.specs.Prelude.{Option, is_some}
-use Rattle.ov_model.specs.World.{Dataset, set_named}
+use Rattle.ov_model.specs.World.{set_named}
 use Rattle.ov_session.proofs.Begins.{drop_off, drop_there, some_there}
+use Rattle.ov_session.proofs.Replying.{result_seen}
+use Rattle.ov_session.proofs.Standing.{at_next, at_refused}
+use Rattle.ov_store.specs.Dropping.{dropped}
 use Rattle.ov_session.proofs.changing.drop_cvd.Goals as goal
 
 pub returns-in-Ok-clause-acts : goal.returns-in-Ok-clause-acts
@@ -17,3 +18,18 @@ returns-in-Err-clause-acts g c = λ w s at.
     (g.H.Host.state c.args.host.now) (g.H.Host.state c.drop_cvd.new.host) at c.refused.result c.in-Err.off c.refused.ensures.reply
     (c.in-Err.ensures.refused w at) (λ d entry past is within. c.in-Err.ensures.room w d entry past at is within) c.in-Err.ensures.stays
     (c.drop_cvd.ensures.stops w at)
+
+pub returns-in-Ok-clause-at : goal.returns-in-Ok-clause-at
+returns-in-Ok-clause-at g c = λ w at.
+    at_next (dropped c.as_str.result.now w) c.drop_cvd.new.self.held (g.H.Host.state c.args.host.now) (g.H.Host.state c.drop_cvd.new.host) (c.in-Ok.ensures.moves w at)
+
+pub returns-in-Err-clause-at : goal.returns-in-Err-clause-at
+returns-in-Err-clause-at g c = λ w at.
+    at_refused w c.args.cvd c.in-Err.off c.refused.result c.args.store.now c.drop_cvd.new.self (g.H.Host.state c.args.host.now) (g.H.Host.state c.drop_cvd.new.host)
+    c.refused.ensures.reply c.in-Err.ensures.stays at
+
+pub returns-in-Ok-clause-seen : goal.returns-in-Ok-clause-seen
+returns-in-Ok-clause-seen g c = λ name is. cc
+
+pub returns-in-Err-clause-seen : goal.returns-in-Err-clause-seen
+returns-in-Err-clause-seen g c = result_seen c.args.cvd c.in-Err.off c.refused.result c.refused.ensures.reply

@@ -1,7 +1,11 @@
-use Rattle.std.proofs.Common.{◌≡◌, ℕ, List, Some, sym, ◌∙◌, ap}
+use Rattle.std.proofs.Common.{sym, ◌∙◌, ap}
 use Rattle.ov_store.specs.Scanning.{set_in}
 use Rattle.ov_session.proofs.Begins.{version_done, version_off}
 use Rattle.ov_session.proofs.Dealing.{commit_spared, result_damaged, result_spared}
+use Rattle.ov_session.proofs.Bounds.{commit_unread, parents_first}
+use Rattle.ov_session.proofs.Replying.{result_seen}
+use Rattle.ov_session.proofs.Standing.{at_next, at_refused, result_idle}
+use Rattle.ov_store.specs.Committing.{committed, parents_off_in}
 use Rattle.ov_session.proofs.changing.next_version.Goals as goal
 
 pub commit-requires-clause-fit : goal.commit-requires-clause-fit
@@ -36,3 +40,45 @@ returns-in-Err-clause-damaged g c =
     result_damaged c.args.store.now.held c.as_str.result.now c.args.cvd (record { vids = c.args.vids.now; message = c.args.message.now; rows = c.args.rows.items })
     c.args.store.now c.commit.new.self (g.H.Host.state c.args.host.now) (g.H.Host.state c.commit.new.host) c.as_str.ensures.text c.in-Err.off c.refused.result
     c.refused.ensures.end c.in-Err.ensures.why c.in-Err.ensures.stays
+
+pub returns-in-Ok-clause-at : goal.returns-in-Ok-clause-at
+returns-in-Ok-clause-at g c = λ w at.
+    at_next (committed c.as_str.result.now (record { vids = c.args.vids.now; message = c.args.message.now; rows = c.args.rows.items }) w)
+    c.commit.new.self.held (g.H.Host.state c.args.host.now) (g.H.Host.state c.commit.new.host) (c.in-Ok.ensures.moves w at)
+
+pub returns-in-Err-clause-at : goal.returns-in-Err-clause-at
+returns-in-Err-clause-at g c = λ w at.
+    at_refused w c.args.cvd c.in-Err.off c.refused.result c.args.store.now c.commit.new.self (g.H.Host.state c.args.host.now) (g.H.Host.state c.commit.new.host)
+    c.refused.ensures.reply c.in-Err.ensures.stays at
+
+pub returns-in-Ok-clause-seen : goal.returns-in-Ok-clause-seen
+returns-in-Ok-clause-seen g c = λ name is. cc
+
+pub returns-in-Err-clause-seen : goal.returns-in-Err-clause-seen
+returns-in-Err-clause-seen g c = result_seen c.args.cvd c.in-Err.off c.refused.result c.refused.ensures.reply
+
+pub returns-in-Ok-clause-fetched : goal.returns-in-Ok-clause-fetched
+returns-in-Ok-clause-fetched g c = λ set is.
+    c.commit.ensures.fetched set (ap (set_in c.args.store.now.held.numbers) c.as_str.ensures.text ∙ is)
+
+pub returns-in-Err-clause-fetched : goal.returns-in-Err-clause-fetched
+returns-in-Err-clause-fetched g c = λ set is.
+    c.commit.ensures.fetched set (ap (set_in c.args.store.now.held.numbers) c.as_str.ensures.text ∙ is)
+
+pub returns-in-Ok-clause-unread : goal.returns-in-Ok-clause-unread
+returns-in-Ok-clause-unread g c = λ off is.
+    absurd (parents_first c.args.store.now.held c.as_str.result.now c.args.vids.now c.args.rows.items off
+    (ap (λ n. parents_off_in (set_in c.args.store.now.held.numbers n) c.args.vids.now) c.as_str.ensures.text ∙ is) c.in-Ok.ensures.allowed)
+
+pub returns-in-Err-clause-unread : goal.returns-in-Err-clause-unread
+returns-in-Err-clause-unread g c = λ off is.
+    commit_unread c.args.store.now.held c.as_str.result.now c.args.cvd
+    (record { vids = c.args.vids.now; message = c.args.message.now; rows = c.args.rows.items })
+    (g.H.Host.state c.args.host.now) (g.H.Host.state c.commit.new.host) off
+    (ap (λ n. parents_off_in (set_in c.args.store.now.held.numbers n) c.args.vids.now) c.as_str.ensures.text ∙ is) c.in-Err.off c.refused.result
+    c.in-Err.ensures.why c.refused.ensures.reply
+
+pub returns-in-Err-clause-idle : goal.returns-in-Err-clause-idle
+returns-in-Err-clause-idle g c =
+    result_idle c.args.store.now c.commit.new.self (g.H.Host.state c.args.host.now) (g.H.Host.state c.commit.new.host) c.in-Err.off c.refused.result
+    c.refused.ensures.end c.in-Err.ensures.stays

@@ -15,3 +15,9 @@ returns-clause-given g c = λ w user d vids told is name.
     in let rows : c.args.made.rows ≡ c.in-Ok.rows = search rules
     in ap (gives (session_of (g.T.Stage.staged c.args.stage.now).files user) d.cvd (merge_of d.cvd vids)) c.in-Some.is
     ∙ gives_file d vids c.args.made is user (g.T.Stage.staged c.args.stage.now).files (g.T.Stage.staged c.put_file.new.stage).files c.args.cvd c.in-Some.file c.in-Ok.rows name rows grown
+
+pub returns-in_default-clause-seen : goal.returns-in_default-clause-seen
+returns-in_default-clause-seen g c = λ name is. cc
+
+pub returns-clause-seen : goal.returns-clause-seen
+returns-clause-seen g c = λ name is. cc

@@ -6,6 +6,14 @@ use Rattle.ov_model.specs.Act.{deed, tells}
 use Rattle.ov_model.specs.declared.command.Command.{Command}
 use Rattle.ov_session.proofs.Dealing.{checkout_asked, commit_asked}
 use Rattle.ov_session.specs.Commands.{Acts}
+use Rattle.std.proofs.Common.{◌+◌, ℕ, List, Some}
+use Rattle.std.specs.Prelude.{◌≤◌}
+use Rattle.ov_session.proofs.Bounds.{fetched_none, fetched_still}
+use Rattle.ov_session.proofs.Replying.{seen_missed}
+use Rattle.ov_session.proofs.Standing.{at_looked, at_still, idle_spared, on_any}
+use Rattle.ov_session.specs.Bounds.{bytes_in, command_fetch, command_off}
+use Rattle.ov_store.specs.Committing.{parents_off_in}
+use Rattle.ov_store.specs.Scanning.{scan_off, set_in}
 use Rattle.ov_session.proofs.serving.answer.Goals as goal
 
 pub returns-in-Init-clause-acts : goal.returns-in-Init-clause-acts
@@ -66,3 +74,76 @@ returns-in-Ls-clause-acts g c = λ w user told at.
     c.args.store.now.held c.args.store.now.held (g.H.Host.state c.args.host.now) (g.H.Host.state c.args.host.now)) (sym c.in-Ls.is)
     (does_told _ s s w c.in_ok-ls-in-Ls.field-0 c.args.store.now.held (g.H.Host.state c.args.host.now) (g.H.Host.state c.args.host.now)
     (ap (tells s) (sym (c.in_ok-ls-in-Ls.ensures.told w s (g.H.Host.state c.args.host.now) at))) at refl refl)
+
+pub returns-in-Init-clause-fetched : goal.returns-in-Init-clause-fetched
+returns-in-Init-clause-fetched g c = fetched_still (g.H.Host.state c.args.host.now) (g.H.Host.state c.init.new.host) _ c.init.ensures.fetched
+
+pub returns-in-Init-clause-unread : goal.returns-in-Init-clause-unread
+returns-in-Init-clause-unread g c = λ off is. on_any _ c.init.result c.init.ensures.fetched
+
+pub returns-in-DropCvd-clause-fetched : goal.returns-in-DropCvd-clause-fetched
+returns-in-DropCvd-clause-fetched g c = fetched_still (g.H.Host.state c.args.host.now) (g.H.Host.state c.drop_cvd.new.host) _ c.drop_cvd.ensures.fetched
+
+pub returns-in-DropCvd-clause-unread : goal.returns-in-DropCvd-clause-unread
+returns-in-DropCvd-clause-unread g c = λ off is. on_any _ c.drop_cvd.result c.drop_cvd.ensures.fetched
+
+pub returns-in-Commit-clause-fetched : goal.returns-in-Commit-clause-fetched
+returns-in-Commit-clause-fetched g c =
+    subst (λ (command : Command). (g.H.Host.state c.commit.new.host).fetched ≤ (g.H.Host.state c.args.host.now).fetched + command_fetch c.args.store.now.held.numbers command) (sym c.in-Commit.is)
+    (subst (λ (v : List ℕ). (g.H.Host.state c.commit.new.host).fetched ≤ (g.H.Host.state c.args.host.now).fetched + bytes_in (set_in c.args.store.now.held.numbers c.in-Commit.cvd) v) c.as_slice.ensures c.commit.ensures.fetched)
+
+pub returns-in-Commit-clause-unread : goal.returns-in-Commit-clause-unread
+returns-in-Commit-clause-unread g c = λ off is.
+    c.commit.ensures.unread off
+    (subst (λ (v : List ℕ). parents_off_in (set_in c.args.store.now.held.numbers c.in-Commit.cvd) v ≡ Some off) (sym c.as_slice.ensures)
+    (subst (λ (command : Command). command_off c.args.store.now.held.numbers command ≡ Some off) c.in-Commit.is is))
+
+pub returns-in-Checkout-clause-fetched : goal.returns-in-Checkout-clause-fetched
+returns-in-Checkout-clause-fetched g c =
+    subst (λ (command : Command). (g.H.Host.state c.checkout.new.host).fetched ≤ (g.H.Host.state c.args.host.now).fetched + command_fetch c.args.store.now.held.numbers command) (sym c.in-Checkout.is)
+    (subst (λ (v : List ℕ). (g.H.Host.state c.checkout.new.host).fetched ≤ (g.H.Host.state c.args.host.now).fetched + bytes_in (set_in c.args.store.now.held.numbers c.in-Checkout.cvd) v) c.as_slice-in-Checkout.ensures c.checkout.ensures.fetched)
+
+pub returns-in-Checkout-clause-unread : goal.returns-in-Checkout-clause-unread
+returns-in-Checkout-clause-unread g c = λ off is.
+    c.checkout.ensures.unread off
+    (subst (λ (v : List ℕ). scan_off c.args.store.now.held.numbers c.in-Checkout.cvd v ≡ Some off) (sym c.as_slice-in-Checkout.ensures)
+    (subst (λ (command : Command). command_off c.args.store.now.held.numbers command ≡ Some off) c.in-Checkout.is is))
+
+pub returns-in-Checkout-clause-at : goal.returns-in-Checkout-clause-at
+returns-in-Checkout-clause-at g c = λ w at.
+    on_any _ c.checkout.result (at_looked w c.args.store.now.held (g.H.Host.state c.args.host.now) (g.H.Host.state c.checkout.new.host) at c.checkout.ensures.looked)
+
+pub returns-in-Checkout-clause-missed : goal.returns-in-Checkout-clause-missed
+returns-in-Checkout-clause-missed g c = seen_missed _ c.checkout.result c.checkout.ensures.seen
+
+pub returns-in-DropCvd-clause-missed : goal.returns-in-DropCvd-clause-missed
+returns-in-DropCvd-clause-missed g c = seen_missed _ c.drop_cvd.result c.drop_cvd.ensures.seen
+
+pub returns-in-DropCvd-clause-idle : goal.returns-in-DropCvd-clause-idle
+returns-in-DropCvd-clause-idle g c =
+    idle_spared c.args.store.now c.drop_cvd.new.store (g.T.Stage.staged c.args.stage.now) (g.T.Stage.staged c.args.stage.now) (g.H.Host.state c.args.host.now) (g.H.Host.state c.drop_cvd.new.host)
+    c.drop_cvd.result c.drop_cvd.ensures.host_alone c.drop_cvd.ensures.undamaged
+
+pub returns-in_err-log-in-Log-clause-fetched : goal.returns-in_err-log-in-Log-clause-fetched
+returns-in_err-log-in-Log-clause-fetched g c = fetched_none _ _
+
+pub returns-in-Log-clause-fetched : goal.returns-in-Log-clause-fetched
+returns-in-Log-clause-fetched g c = fetched_none _ _
+
+pub returns-in_err-ls-in-Ls-clause-fetched : goal.returns-in_err-ls-in-Ls-clause-fetched
+returns-in_err-ls-in-Ls-clause-fetched g c = fetched_none _ _
+
+pub returns-in-Ls-clause-fetched : goal.returns-in-Ls-clause-fetched
+returns-in-Ls-clause-fetched g c = fetched_none _ _
+
+pub returns-in-Log-clause-at : goal.returns-in-Log-clause-at
+returns-in-Log-clause-at g c = λ w at. at_still w c.args.store.now.held (g.H.Host.state c.args.host.now) at
+
+pub returns-in-Log-clause-missed : goal.returns-in-Log-clause-missed
+returns-in-Log-clause-missed g c = λ name is. absurd (c.in_ok-log-in-Log.ensures.seen name is)
+
+pub returns-in-Ls-clause-at : goal.returns-in-Ls-clause-at
+returns-in-Ls-clause-at g c = λ w at. at_still w c.args.store.now.held (g.H.Host.state c.args.host.now) at
+
+pub returns-in-Ls-clause-missed : goal.returns-in-Ls-clause-missed
+returns-in-Ls-clause-missed g c = λ name is. absurd (c.in_ok-ls-in-Ls.ensures.seen name is)

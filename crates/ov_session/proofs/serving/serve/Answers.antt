@@ -11,6 +11,16 @@ use Rattle.ov_model.specs.Forms.{built_forms}
 use Rattle.ov_model.specs.Line.{Asks, Refused, line_of}
 use Rattle.ov_session.proofs.Saying.{comment_none, line_unserved, says_refusal, says_reply}
 use Rattle.ov_session.specs.Commands.{IsNoDamage, is_comment_in, is_refused}
+use Rattle.std.proofs.Common.{◌+◌, ℕ, Some}
+use Rattle.std.specs.Prelude.{◌≤◌}
+use Rattle.ov_model.specs.Line.{Line}
+use Rattle.ov_model.specs.declared.reply.Reply.TheVariants as says
+use Rattle.ov_session.proofs.Bounds.{fetched_none, fetched_still}
+use Rattle.ov_session.proofs.Replying.{is_replied, line_seen, refused_missed}
+use Rattle.ov_session.proofs.Standing.{at_said, idle_unsaid, on_any}
+use Rattle.ov_session.specs.Bounds.{line_off, may_fetch}
+use Rattle.ov_session.specs.Replying.{IsReplyTo}
+use Rattle.ov_session.specs.Standing.{IsIdle}
 use Rattle.ov_session.proofs.serving.serve.Goals as goal
 
 pub answer-requires-clause-asked : goal.answer-requires-clause-asked
@@ -71,4 +81,79 @@ returns-in_ok-refusal-in-Err-clause-serves g c = λ w told at.
     says_refusal c.args.steps w (session_of (g.T.Stage.staged c.args.stage.now).files c.args.user.now) c.args.line.now c.in_ok-refusal-in-Err.field-0
     c.args.store.now.held (g.H.Host.state c.args.host.now) (g.H.Host.state c.say-in-Err.new.host)
     (c.in-Err.ensures.err c.in_ok-refusal-in-Err.ensures.some ∙ ap Refused (sym c.in_ok-refusal-in-Err.ensures.refusal)) at c.say-in-Err.result
+    (record { answer = c.say-in-Err.ensures.served; why = c.say-in-Err.ensures.host_alone; silent = c.say-in-Err.ensures.unsaid; printed = c.say-in-Err.ensures.said })
+
+-- ---- what was fetched
+
+pub returns-in_err-reply-in-Ok-Some-clause-fetched : goal.returns-in_err-reply-in-Ok-Some-clause-fetched
+returns-in_err-reply-in-Ok-Some-clause-fetched g c =
+    subst (λ (l : Line). (g.H.Host.state c.answer.new.host).fetched ≤ (g.H.Host.state c.args.host.now).fetched + may_fetch c.args.store.now.held.numbers l) (sym (c.in-Ok-Some.ensures.ok ∙ ap said c.in-Ok-Some.field-0-is)) c.answer.ensures.fetched
+
+pub returns-in_err-refusal-in-Err-clause-fetched : goal.returns-in_err-refusal-in-Err-clause-fetched
+returns-in_err-refusal-in-Err-clause-fetched g c = fetched_none _ _
+
+pub returns-in-Ok-None-clause-fetched : goal.returns-in-Ok-None-clause-fetched
+returns-in-Ok-None-clause-fetched g c = fetched_none _ _
+
+pub returns-in_ok-reply-in-Ok-Some-clause-fetched : goal.returns-in_ok-reply-in-Ok-Some-clause-fetched
+returns-in_ok-reply-in-Ok-Some-clause-fetched g c =
+    subst (λ (n : ℕ). n ≤ (g.H.Host.state c.args.host.now).fetched + may_fetch c.args.store.now.held.numbers (line_of built_forms c.args.line.now)) (sym c.say.ensures.fetched)
+    (subst (λ (l : Line). (g.H.Host.state c.answer.new.host).fetched ≤ (g.H.Host.state c.args.host.now).fetched + may_fetch c.args.store.now.held.numbers l) (sym (c.in-Ok-Some.ensures.ok ∙ ap said c.in-Ok-Some.field-0-is)) c.answer.ensures.fetched)
+
+pub returns-in_ok-refusal-in-Err-clause-fetched : goal.returns-in_ok-refusal-in-Err-clause-fetched
+returns-in_ok-refusal-in-Err-clause-fetched g c = fetched_still (g.H.Host.state c.args.host.now) (g.H.Host.state c.say-in-Err.new.host) _ c.say-in-Err.ensures.fetched
+
+pub returns-in_ok-reply-in-Ok-Some-clause-unread : goal.returns-in_ok-reply-in-Ok-Some-clause-unread
+returns-in_ok-reply-in-Ok-Some-clause-unread g c = λ off is.
+    on_any _ c.say.result (c.say.ensures.fetched ∙ c.in_ok-reply-in-Ok-Some.ensures.unread off (subst (λ (l : Line). line_off c.args.store.now.held.numbers l ≡ Some off) (c.in-Ok-Some.ensures.ok ∙ ap said c.in-Ok-Some.field-0-is) is))
+
+pub returns-in_ok-refusal-in-Err-clause-unread : goal.returns-in_ok-refusal-in-Err-clause-unread
+returns-in_ok-refusal-in-Err-clause-unread g c = λ off is. on_any _ c.say-in-Err.result c.say-in-Err.ensures.fetched
+
+-- ---- where it leaves the store
+
+pub returns-in_err-reply-in-Ok-Some-clause-idle : goal.returns-in_err-reply-in-Ok-Some-clause-idle
+returns-in_err-reply-in-Ok-Some-clause-idle g c =
+    let fact : IsIdle c.in_err-reply-in-Ok-Some.field-0.0 c.args.store.now c.answer.new.store (g.T.Stage.staged c.args.stage.now) (g.T.Stage.staged c.answer.new.stage) (g.H.Host.state c.args.host.now) (g.H.Host.state c.answer.new.host) = c.in_err-reply-in-Ok-Some.ensures.idle
+    in search (rules, fact)
+
+pub returns-in_ok-reply-in-Ok-Some-clause-idle : goal.returns-in_ok-reply-in-Ok-Some-clause-idle
+returns-in_ok-reply-in-Ok-Some-clause-idle g c =
+    idle_unsaid c.args.store.now c.answer.new.store (g.T.Stage.staged c.args.stage.now) (g.T.Stage.staged c.answer.new.stage) (g.H.Host.state c.args.host.now) (g.H.Host.state c.say.new.host) c.say.result c.say.ensures.host_alone
+
+pub returns-in_ok-refusal-in-Err-clause-idle : goal.returns-in_ok-refusal-in-Err-clause-idle
+returns-in_ok-refusal-in-Err-clause-idle g c =
+    idle_unsaid c.args.store.now c.args.store.now (g.T.Stage.staged c.args.stage.now) (g.T.Stage.staged c.args.stage.now) (g.H.Host.state c.args.host.now) (g.H.Host.state c.say-in-Err.new.host) c.say-in-Err.result c.say-in-Err.ensures.host_alone
+
+pub returns-in-Ok-None-clause-at : goal.returns-in-Ok-None-clause-at
+returns-in-Ok-None-clause-at g c = λ w at. (w, at)
+
+pub returns-in_ok-reply-in-Ok-Some-clause-at : goal.returns-in_ok-reply-in-Ok-Some-clause-at
+returns-in_ok-reply-in-Ok-Some-clause-at g c = λ w at.
+    at_said c.answer.new.store.held (g.H.Host.state c.answer.new.host) (g.H.Host.state c.say.new.host) c.in_ok-reply-in-Ok-Some.reply c.say.result
+    (record { answer = c.say.ensures.served; why = c.say.ensures.host_alone; silent = c.say.ensures.unsaid; printed = c.say.ensures.said })
+    (c.in_ok-reply-in-Ok-Some.ensures.at w at).at
+
+pub returns-in_ok-refusal-in-Err-clause-at : goal.returns-in_ok-refusal-in-Err-clause-at
+returns-in_ok-refusal-in-Err-clause-at g c = λ w at.
+    at_said c.args.store.now.held (g.H.Host.state c.args.host.now) (g.H.Host.state c.say-in-Err.new.host) (says.Refused c.in_ok-refusal-in-Err.field-0) c.say-in-Err.result
+    (record { answer = c.say-in-Err.ensures.served; why = c.say-in-Err.ensures.host_alone; silent = c.say-in-Err.ensures.unsaid; printed = c.say-in-Err.ensures.said }) (w, at)
+
+-- ---- its reply
+
+pub returns-in-Ok-None-clause-replied : goal.returns-in-Ok-None-clause-replied
+returns-in-Ok-None-clause-replied g c = refl
+
+pub returns-in_ok-reply-in-Ok-Some-clause-replied : goal.returns-in_ok-reply-in-Ok-Some-clause-replied
+returns-in_ok-reply-in-Ok-Some-clause-replied g c =
+    is_replied (line_of built_forms c.args.line.now) c.in_ok-reply-in-Ok-Some.reply c.args.store.now.held (g.T.Stage.staged c.args.stage.now) (g.T.Stage.staged c.answer.new.stage) (g.H.Host.state c.args.host.now) (g.H.Host.state c.answer.new.host) (g.H.Host.state c.say.new.host)
+    (subst (λ (l : Line). IsReplyTo l c.in_ok-reply-in-Ok-Some.reply) (sym (c.in-Ok-Some.ensures.ok ∙ ap said c.in-Ok-Some.field-0-is)) tt) c.answer.ensures.goes.told
+    (λ some. (c.in_ok-reply-in-Ok-Some.ensures.at some.0 some.1).printed) c.in_ok-reply-in-Ok-Some.ensures.missed c.say.result
+    (record { answer = c.say.ensures.served; why = c.say.ensures.host_alone; silent = c.say.ensures.unsaid; printed = c.say.ensures.said })
+
+pub returns-in_ok-refusal-in-Err-clause-replied : goal.returns-in_ok-refusal-in-Err-clause-replied
+returns-in_ok-refusal-in-Err-clause-replied g c =
+    is_replied (line_of built_forms c.args.line.now) (says.Refused c.in_ok-refusal-in-Err.field-0) c.args.store.now.held (g.T.Stage.staged c.args.stage.now) (g.T.Stage.staged c.args.stage.now) (g.H.Host.state c.args.host.now) (g.H.Host.state c.args.host.now) (g.H.Host.state c.say-in-Err.new.host)
+    (subst (λ (l : Line). IsReplyTo l (says.Refused c.in_ok-refusal-in-Err.field-0)) (sym (c.in-Err.ensures.err c.in_ok-refusal-in-Err.ensures.some ∙ ap Refused (sym c.in_ok-refusal-in-Err.ensures.refusal))) refl) refl
+    (λ some. refl) (refused_missed _ c.in_ok-refusal-in-Err.field-0 (λ file is. absurd (line_seen c.in-Err.off file (sym c.in_ok-refusal-in-Err.ensures.refusal ∙ is)))) c.say-in-Err.result
     (record { answer = c.say-in-Err.ensures.served; why = c.say-in-Err.ensures.host_alone; silent = c.say-in-Err.ensures.unsaid; printed = c.say-in-Err.ensures.said })

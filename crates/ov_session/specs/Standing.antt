@@ -1,0 +1,33 @@
+-- Where a line leaves the store.
+--     IsAtSome held s      the store is at some World
+--     IsAtSilently held old new      it is, and nothing was printed since
+--     IsIdle why ..      damage and a fault of the stage are met before anything is changed
+use Rattle.std.specs.Prelude.{◌≡◌}
+use Rattle.ov_host.specs.Host.{State}
+use Rattle.ov_host.specs.Stage.{Staged}
+use Rattle.ov_core.specs.AtWorld.{IsAtWorld}
+use Rattle.ov_core.specs.Held.{Held}
+use Rattle.ov_fetch.specs.Extents.{Looked}
+use Rattle.ov_model.specs.World.{World}
+use Rattle.ov_store.specs.Kept.{Kept}
+use Rattle.ov_session.specs.declared.errors.EndErr.{EndErr}
+use Rattle.ov_session.specs.declared.errors.EndErr.TheVariants as ending
+use Rattle.law_runs.specs.Stops.{printed_of}
+
+abbrev pub IsAtSome : Held → State → Type 0
+IsAtSome held s = (w : World) × IsAtWorld w held s
+
+pub record IsAtSilently (held : Held) (old new : State) : Type 0 where
+  pub at : IsAtSome held new
+  pub printed : printed_of new ≡ printed_of old
+
+-- the store is as it was, and the host was at most looked at
+pub record Idle (before now : Kept) (old new : State) : Type 0 where
+  pub store : now ≡ before
+  pub looked : Looked old new
+
+-- where damage was met, the stage's files too are as they were
+abbrev pub IsIdle : EndErr → Kept → Kept → Staged → Staged → State → State → Type 0
+IsIdle (ending.Damaged area at) before now stage staged old new = Idle before now old new × (staged.files ≡ stage.files)
+IsIdle ending.Stage before now stage staged old new = Idle before now old new
+IsIdle _ before now stage staged old new = Unit {0}
