@@ -11,7 +11,7 @@ use Rattle.std.specs.Prelude.{◌≤◌}
 use Rattle.ov_session.proofs.Bounds.{fetched_none, fetched_still}
 use Rattle.ov_session.proofs.Replying.{seen_missed}
 use Rattle.ov_session.proofs.Standing.{at_looked, at_still, idle_spared, on_any}
-use Rattle.ov_session.specs.Bounds.{bytes_in, command_fetch, command_off}
+use Rattle.ov_session.specs.Bounds.{IsReadingCommand, bytes_in, command_fetch, command_off}
 use Rattle.ov_store.specs.Committing.{parents_off_in}
 use Rattle.ov_store.specs.Scanning.{scan_off, set_in}
 use Rattle.ov_session.proofs.serving.answer.Goals as goal
@@ -147,3 +147,14 @@ returns-in-Ls-clause-at g c = λ w at. at_still w c.args.store.now.held (g.H.Hos
 
 pub returns-in-Ls-clause-missed : goal.returns-in-Ls-clause-missed
 returns-in-Ls-clause-missed g c = λ name is. absurd (c.in_ok-ls-in-Ls.ensures.seen name is)
+
+-- ---- what changes no store
+
+pub returns-in-Init-clause-still : goal.returns-in-Init-clause-still
+returns-in-Init-clause-still g c = λ is. absurd (subst IsReadingCommand c.in-Init.is is)
+
+pub returns-in-Commit-clause-still : goal.returns-in-Commit-clause-still
+returns-in-Commit-clause-still g c = λ is. absurd (subst IsReadingCommand c.in-Commit.is is)
+
+pub returns-in-DropCvd-clause-still : goal.returns-in-DropCvd-clause-still
+returns-in-DropCvd-clause-still g c = λ is. absurd (subst IsReadingCommand c.in-DropCvd.is is)

@@ -18,7 +18,7 @@ use Rattle.ov_model.specs.declared.reply.Reply.TheVariants as says
 use Rattle.ov_session.proofs.Bounds.{fetched_none, fetched_still}
 use Rattle.ov_session.proofs.Replying.{is_replied, line_seen, refused_missed}
 use Rattle.ov_session.proofs.Standing.{at_said, idle_unsaid, on_any}
-use Rattle.ov_session.specs.Bounds.{line_off, may_fetch}
+use Rattle.ov_session.specs.Bounds.{IsReading, line_off, may_fetch}
 use Rattle.ov_session.specs.Replying.{IsReplyTo}
 use Rattle.ov_session.specs.Standing.{IsIdle}
 use Rattle.ov_session.proofs.serving.serve.Goals as goal
@@ -157,3 +157,11 @@ returns-in_ok-refusal-in-Err-clause-replied g c =
     (subst (λ (l : Line). IsReplyTo l (says.Refused c.in_ok-refusal-in-Err.field-0)) (sym (c.in-Err.ensures.err c.in_ok-refusal-in-Err.ensures.some ∙ ap Refused (sym c.in_ok-refusal-in-Err.ensures.refusal))) refl) refl
     (λ some. refl) (refused_missed _ c.in_ok-refusal-in-Err.field-0 (λ file is. absurd (line_seen c.in-Err.off file (sym c.in_ok-refusal-in-Err.ensures.refusal ∙ is)))) c.say-in-Err.result
     (record { answer = c.say-in-Err.ensures.served; why = c.say-in-Err.ensures.host_alone; silent = c.say-in-Err.ensures.unsaid; printed = c.say-in-Err.ensures.said })
+
+-- ---- what changes no store
+
+pub returns-in_err-reply-in-Ok-Some-clause-still : goal.returns-in_err-reply-in-Ok-Some-clause-still
+returns-in_err-reply-in-Ok-Some-clause-still g c = λ is. c.answer.ensures.still (subst IsReading (c.in-Ok-Some.ensures.ok ∙ ap said c.in-Ok-Some.field-0-is) is)
+
+pub returns-in_ok-reply-in-Ok-Some-clause-still : goal.returns-in_ok-reply-in-Ok-Some-clause-still
+returns-in_ok-reply-in-Ok-Some-clause-still g c = λ is. c.answer.ensures.still (subst IsReading (c.in-Ok-Some.ensures.ok ∙ ap said c.in-Ok-Some.field-0-is) is)
