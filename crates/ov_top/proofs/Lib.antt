@@ -1,3 +1,4 @@
 mod Composed
 mod Lined
 mod Opened
+mod Reading

@@ -34,9 +34,8 @@ use Rattle.ov_model.specs.Act.{Session}
 use Rattle.ov_model.proofs.Replying.{says_some}
 use Rattle.ov_model.specs.Course.{Item, SaysSome, Space, line_served, play, served}
 use Rattle.ov_model.specs.Forms.{built_forms}
-use Rattle.ov_model.specs.Line.{Asks, Refused, line_of}
+use Rattle.ov_model.specs.Line.{Refused, line_of}
 use Rattle.ov_model.specs.Words.{lines_of}
-use Rattle.ov_model.specs.declared.command.Command.{Command}
 use Rattle.ov_model.specs.World.{World}
 use Rattle.ov_model.specs.declared.refusal.Refusal.TheVariants.{LongLine}
 use Rattle.ov_open.specs.Opening.{IsOpened, IsOutside, IsWorld}
@@ -44,7 +43,7 @@ use Rattle.ov_open.specs.Refusing.{Refuses}
 use Rattle.ov_open.specs.declared.errors.OpenErr.{OpenErr}
 use Rattle.ov_open.specs.declared.errors.OpenErr.TheVariants as opened
 use Rattle.law_room.specs.Room.{Entry, IsWithin, Made}
-use Rattle.ov_session.specs.Commands.{Attended, IsDamageOf, IsDamaged, IsNoDamage}
+use Rattle.ov_session.specs.Commands.{Attended, IsNoDamage}
 use Rattle.ov_session.specs.declared.errors.EndErr.{EndErr}
 use Rattle.ov_session.specs.declared.errors.EndErr.TheVariants as ending
 use Rattle.ov_script.specs.declared.reader.ReadErr.{ReadErr}
@@ -53,16 +52,16 @@ use Rattle.ov_top.specs.declared.errors.RunErr.{RunErr}
 use Rattle.ov_top.specs.declared.errors.RunErr.TheVariants as running
 use Rattle.ov_top.specs.declared.status.Status.{Status}
 use Rattle.ov_top.specs.declared.status.Status.TheVariants.{Memory}
-use Rattle.ov_top.specs.Ending.{AreWords, Cause, Ends, HasOpened, IsEntry, IsTold, Keeps, Played, PlayedTaken, Plays, Stops, course_of, course_taken, lines_taken, session_at}
+use Rattle.ov_top.specs.Ending.{AreWords, Cause, Ends, HasOpened, IsEntry, IsTold, IsUndamaged, Keeps, Played, PlayedTaken, Plays, Stops, course_of, course_taken, lines_taken, session_at}
 use Rattle.ov_top.specs.Errors.{by_reading, by_serving}
-use Rattle.ov_top.specs.Running.{AllServed, IsHalted, IsReadWhole, IsRunDamage, Spent, status_by, status_by_opening}
+use Rattle.ov_top.specs.Running.{AllServed, IsHalted, IsReadWhole, IsRunDamage, IsUnharmed, Spent, status_by, status_by_opening}
 use Rattle.ov_script.specs.Reader.{GivesLine, IsCutOff, IsNext, Taken, Took, ended_lines, has_feed, taken_of}
 use Rattle.ov_script.proofs.Readers.{ended_at, next_lines, no_ended, taken_is}
 use Rattle.ov_host.specs.Source.{Script}
 
 -- ---- what is kept of a line says what it is
 
-long_line : (line : List ℕ) → 65536 < length line → line_of built_forms line ≡ Refused LongLine
+pub long_line : (line : List ℕ) → 65536 < length line → line_of built_forms line ≡ Refused LongLine
 long_line line long = cond-true (nat_lt 65536 (length line)) (Refused LongLine) _ (lt-ltb 65536 (length line) long)
 
 pub kept_line : (line : List ℕ) → line_of built_forms (take 65537 line) ≡ line_of built_forms line
@@ -279,14 +278,6 @@ pub no_lines : (ended b : Bool) (before now kept : List ℕ) → b ≡ false →
 no_lines ended true before now kept e g = cc
 no_lines ended false before now kept e g = ap lines_of g.0
 
--- what a command read is damaged, also where the store was only looked at since
-pub run_damage : (e : EndErr) (line : List ℕ) (held : Held) (s : State)
-    → IsDamageOf (λ page. (command : Command) × (line_of built_forms line ≡ Asks command) × IsDamaged command held s page) e → IsRunDamage s (by_serving e)
-run_damage ending.Host line held s is = tt
-run_damage ending.Stage line held s is = tt
-run_damage ending.Memory line held s is = tt
-run_damage (ending.Damaged area at) line held s is = (is.0, is.1.0, held, is.1.2)
-
 -- ---- a whole run
 
 module _ (steps : ℕ) (w : World) (old mid new : Ends) (told : IsTold w old) (held : Held) (opened : IsOpened old.host.tape.disk held mid.host) (at : IsAtWorld w held mid.host)
@@ -402,7 +393,7 @@ rose_in_all old mid new so_far rose = omega (arith, so_far, rose)
 module _ (words : List (List ℕ)) (old mid new : Ends) (are : AreWords words) (opens : HasOpened old) (so_far : old.host.faults ≤ mid.host.faults) where
   cause_ran : (ran : Result Bool RunErr) → (IsErrOf ran running.Host → Rose mid.host.faults new.host.faults)
       → (IsErrOf ran running.Input → Rose old.script.faults new.script.faults ⊎ Rose old.stage.faults new.stage.faults)
-      → IfErr ran (IsRunDamage new.host)
+      → IfErr ran (IsRunDamage old.script new.stage new.host)
       → (IsErrOf ran running.TooLong → old.script.tells ≡ true → length old.script.left ≡ length new.script.left + 2 ^ 32)
       → (old.script.tells ≡ true → IsOk ran → IsReadWhole old.script new.script)
       → Cause (status_by ran) words old new
@@ -413,17 +404,41 @@ module _ (words : List (List ℕ)) (old mid new : Ends) (are : AreWords words) (
   cause_ran (Err running.Input) host input damaged long whole = (are, opens, input refl)
   cause_ran (Err running.Memory) host input damaged long whole = λ none. absurd (are none)
   cause_ran (Err (running.Damaged area at)) host input damaged long whole =
-      (are, inr (opens, damaged.0, record { command = damaged.1; held = damaged.2; damaged = damaged.3 }))
+      (are, inr (opens, damaged.0, damaged.1))
   cause_ran (Err running.TooLong) host input damaged long whole = (are, opens, long refl)
 
   pub cause_opened : (status : Status) (ran : Result Bool RunErr) → status ≡ status_by ran → (IsErrOf ran running.Host → Rose mid.host.faults new.host.faults)
       → (IsErrOf ran running.Input → Rose old.script.faults new.script.faults ⊎ Rose old.stage.faults new.stage.faults)
-      → IfErr ran (IsRunDamage new.host)
+      → IfErr ran (IsRunDamage old.script new.stage new.host)
       → (IsErrOf ran running.TooLong → old.script.tells ≡ true → length old.script.left ≡ length new.script.left + 2 ^ 32)
       → (old.script.tells ≡ true → IsOk ran → IsReadWhole old.script new.script)
       → Cause status words old new
   cause_opened status ran is host input damaged long whole =
       subst (λ (x : Status). Cause x words old new) (sym is) (cause_ran ran host input damaged long whole)
+
+-- ---- no damage
+
+undamaged_ran : (ran : Result Bool RunErr) → IfErr ran IsUnharmed → IsUndamaged (status_by ran)
+undamaged_ran (Ok false) is = tt
+undamaged_ran (Ok true) is = tt
+undamaged_ran (Err running.Host) is = tt
+undamaged_ran (Err running.Input) is = tt
+undamaged_ran (Err running.Memory) is = tt
+undamaged_ran (Err running.TooLong) is = tt
+undamaged_ran (Err (running.Damaged area at)) is = absurd is
+
+pub undamaged_opened : (status : Status) (ran : Result Bool RunErr) → status ≡ status_by ran → IfErr ran IsUnharmed → IsUndamaged status
+undamaged_opened status ran is fine = subst IsUndamaged (sym is) (undamaged_ran ran fine)
+
+undamaged_opening : (off : OpenErr) → IsOutside off → IsUndamaged (status_by_opening off)
+undamaged_opening opened.Host is = tt
+undamaged_opening opened.Memory is = tt
+undamaged_opening opened.NotAStore is = absurd is
+undamaged_opening (opened.Format found) is = absurd is
+undamaged_opening (opened.Damaged area at) is = absurd is
+
+pub undamaged_unopened : (status : Status) (off : OpenErr) → status ≡ status_by_opening off → IsOutside off → IsUndamaged status
+undamaged_unopened status off is outside = subst IsUndamaged (sym is) (undamaged_opening off outside)
 
 -- ---- what a run keeps
 

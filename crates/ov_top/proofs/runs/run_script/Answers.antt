@@ -1,7 +1,11 @@
-use Rattle.std.proofs.Common.{refl, ◌∙◌, arith}
+use Rattle.std.proofs.Common.{refl, ◌≡◌, ◌∙◌, ap, arith}
 use Rattle.std.specs.Prelude.{Err}
-use Rattle.ov_top.proofs.Lined.{attended_still, cause_opened, cause_unopened, plays_status, plays_unopened, spent_still}
-use Rattle.ov_top.proofs.Opened.{opens}
+use Rattle.ov_top.proofs.Lined.{attended_still, cause_opened, cause_unopened, plays_status, plays_unopened, spent_still, undamaged_opened, undamaged_unopened}
+use Rattle.ov_host.specs.declared.area.Extent.{Extent}
+use Rattle.ov_catalog.specs.Numbers.{Numbers}
+use Rattle.ov_model.specs.Words.{lines_of}
+use Rattle.ov_top.specs.Running.{reads}
+use Rattle.ov_top.proofs.Opened.{opens, opens_as, says_one}
 use Rattle.ov_top.proofs.runs.run_script.Goals as goal
 
 pub returns-in-Ok-clause-plays : goal.returns-in-Ok-clause-plays
@@ -22,7 +26,9 @@ returns-in-Ok-clause-cause g c = λ words are.
     (record { host = g.H.Host.state c.serve_all.new.host; script = g.S.Source.script c.serve_all.new.source; stage = g.T.Stage.staged c.serve_all.new.stage })
     are (λ told. opens (g.H.Host.state c.args.host.now).tape.disk c.in-Ok.store.held (g.H.Host.state c.open.new.host) (c.in-Ok.ensures.answer told))
     c.open.ensures.passes.faults c.status_of.result c.serve_all.result c.status_of.ensures
-    c.serve_all.ensures.host c.serve_all.ensures.input c.serve_all.ensures.damaged c.serve_all.ensures.too_long c.serve_all.ensures.ended
+    c.serve_all.ensures.host c.serve_all.ensures.input
+    c.serve_all.ensures.damaged
+    c.serve_all.ensures.too_long c.serve_all.ensures.ended
 
 pub returns-in-Ok-clause-keeps : goal.returns-in-Ok-clause-keeps
 returns-in-Ok-clause-keeps g c = record {
@@ -55,3 +61,25 @@ returns-in-Err-clause-plays g c = λ w told.
     (record { host = g.H.Host.state c.args.host.now; script = g.S.Source.script c.args.source.now; stage = g.T.Stage.staged c.args.stage.now })
     (record { host = g.H.Host.state c.open.new.host; script = g.S.Source.script c.args.source.now; stage = g.T.Stage.staged c.args.stage.now })
     told (c.open.ensures.stops w told.host told.settled told.stands) c.status_unopened.result c.in-Err.off c.status_unopened.ensures (c.in-Err.ensures.world w told.host told.stands)
+
+pub returns-in-Ok-clause-undamaged : goal.returns-in-Ok-clause-undamaged
+returns-in-Ok-clause-undamaged g c = λ w told stands.
+    undamaged_opened c.status_of.result c.serve_all.result c.status_of.ensures (c.serve_all.ensures.undamaged w (c.in-Ok.ensures.world w told stands))
+
+pub returns-in-Err-clause-undamaged : goal.returns-in-Err-clause-undamaged
+returns-in-Err-clause-undamaged g c = λ w told stands.
+    undamaged_unopened c.status_unopened.result c.in-Err.off c.status_unopened.ensures (c.in-Err.ensures.world w told stands)
+
+pub returns-in-Ok-clause-fetched : goal.returns-in-Ok-clause-fetched
+returns-in-Ok-clause-fetched g c = λ numbers told opens_ script are.
+    let held = c.in-Ok.store.held
+    in let lines = lines_of (g.S.Source.script c.args.source.now).left
+    in let same : held.numbers ≡ numbers
+    = says_one held.numbers numbers (g.H.Host.state c.args.host.now).tape.disk
+    (opens_as (g.H.Host.state c.args.host.now).tape.disk held (g.H.Host.state c.open.new.host) (c.in-Ok.ensures.answer told)) opens_
+    in let bound = c.serve_all.ensures.fetched script are
+    in let sum : reads held.numbers lines ≡ reads numbers lines = ap (λ (n : Numbers Extent Extent). reads n lines) same
+    in omega (arith, bound, sum, c.open.ensures.passes.fetched)
+
+pub returns-in-Err-clause-fetched : goal.returns-in-Err-clause-fetched
+returns-in-Err-clause-fetched g c = λ numbers told opens_ script are. omega (arith, c.open.ensures.passes.fetched)
