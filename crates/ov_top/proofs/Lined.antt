@@ -1,6 +1,6 @@
 -- A run out of its lines.
 use Rattle.std.proofs.Common.{◌≡◌, ◌≤◌, ◌<◌, ◌+◌, ◌||◌, ◌⊎◌, inl, inr, ℕ, Bool, true, false, List, [], ◌∷◌, ◌++◌, length, map, take, refl, sym, ◌∙◌, ap, subst, append-nil, append_assoc, arith}
-use Rattle.std.specs.Prelude.{Err, IfErr, IsErr, IsErrOf, IsOk, IsTrue, Ok, Result, ◌^◌, codes, nat_lt}
+use Rattle.std.specs.Prelude.{Err, IfErr, IsErr, IsErrOf, IsOk, IsTrue, Ok, Result, ◌^◌, codes, nat_lt, None, Option, Some}
 use Rattle.std.specs.Result.{IsErrAnd}
 use Rattle.ov_value.specs.Naming.{is_name}
 use Rattle.std.proofs.lemmas.List.{length-take, take_all}
@@ -509,3 +509,7 @@ admin_is_name = refl
 pub err_is : (r : Result Bool RunErr) (x : RunErr) → IsErr r → IsErrAnd r (λ y. y ≡ x) → r ≡ Err x
 err_is (Ok b) x fails is = absurd is
 err_is (Err y) x fails is = ap Err is
+
+-- the words ask for one number of steps
+pub steps_same : (folder : List ℕ) (steps : ℕ) (o : List ℕ × ℕ) → Some (folder, steps) ≡ Some o → steps ≡ o.1
+steps_same folder steps o is = ap (λ (asked : Option (List ℕ × ℕ)). elim asked as (λ _. ℕ) [ None ↦ 0 | Some pair ↦ pair.1 ]) is

@@ -3,6 +3,8 @@ ghost use Rattle.std.specs.Prelude.{◌≡◌, ◌≤◌, ◌||◌, ◌+◌, ◌
 ghost use Rattle.ov_host.specs.declared.area.Extent.{Extent};
 ghost use Rattle.ov_host.specs.Disk.{as_read};
 ghost use Rattle.ov_host.specs.Host.{Rose, State};
+ghost use Rattle.ov_host.specs.Stops.{Only};
+ghost use Rattle.ov_journal.specs.Opened.{IsLeftByOpen};
 ghost use Rattle.ov_model.specs.Words.{lines_of};
 ghost use Rattle.ov_model.specs.World.{World};
 ghost use Rattle.ov_catalog.specs.Numbers.{Numbers};
@@ -14,7 +16,7 @@ ghost use Rattle.ov_session.specs.Commands.{Attended, Goes, is_refusal_of};
 ghost use Rattle.ov_store.specs.Kept.{MayCall};
 ghost use Rattle.ov_args.specs.Words.{options_of};
 ghost use Rattle.ov_script.specs.Reader.{ended_lines, taken_of};
-ghost use Rattle.ov_top.specs.Bytes.{OpensAs};
+ghost use Rattle.ov_top.specs.Bytes.{Opens, OpensAs};
 ghost use Rattle.ov_top.specs.Ending.{AreWords, Cause, IsTold, IsUndamaged, Keeps, Plays};
 ghost use Rattle.ov_top.specs.Running.{AllServed, AreReading, IsReadWhole, IsRunDamage, IsUnharmed, Spent, reads, status_by, status_by_opening};
 
@@ -139,6 +141,8 @@ fn run_script<H: Host, S: Source, T: Stage>(
     ensures keeps { Keeps
         (record { host = H.state host.old; script = S.script source.old; stage = T.staged stage.old })
         (record { host = H.state host.new; script = S.script source.new; stage = T.staged stage.new }) }
+    ensures spares { (H.state host.old).tells ≡ true → (Opens (H.state host.old).tape.disk → ⊥)
+        → Only (H.state host.old).tape (H.state host.new).tape (IsLeftByOpen (H.state host.old).tape.disk) }
     ensures undamaged { (w : World) → (H.state host.old).tells ≡ true → StandsAs w (as_read (H.state host.old).tape.disk) → IsUndamaged result }
     ensures fetched { (numbers : Numbers Extent Extent) → (H.state host.old).tells ≡ true → OpensAs numbers (H.state host.old).tape.disk
         → (S.script source.old).tells ≡ true → AreReading (lines_of (S.script source.old).left)
@@ -172,6 +176,8 @@ pub fn run<H: Host, S: Source, T: Stage>(
     ensures keeps { Keeps
         (record { host = H.state host.old; script = S.script source.old; stage = T.staged stage.old })
         (record { host = H.state host.new; script = S.script source.new; stage = T.staged stage.new }) }
+    ensures spares { (H.state host.old).tells ≡ true → (Opens (H.state host.old).tape.disk → ⊥)
+        → Only (H.state host.old).tape (H.state host.new).tape (IsLeftByOpen (H.state host.old).tape.disk) }
     ensures undamaged { (w : World) → (H.state host.old).tells ≡ true → StandsAs w (as_read (H.state host.old).tape.disk) → IsUndamaged result }
     ensures fetched { (numbers : Numbers Extent Extent) → (H.state host.old).tells ≡ true → OpensAs numbers (H.state host.old).tape.disk
         → (S.script source.old).tells ≡ true → AreReading (lines_of (S.script source.old).left)

@@ -83,3 +83,10 @@ returns-in-Ok-clause-fetched g c = λ numbers told opens_ script are.
 
 pub returns-in-Err-clause-fetched : goal.returns-in-Err-clause-fetched
 returns-in-Err-clause-fetched g c = λ numbers told opens_ script are. omega (arith, c.open.ensures.passes.fetched)
+
+pub returns-in-Ok-clause-spares : goal.returns-in-Ok-clause-spares
+returns-in-Ok-clause-spares g c = λ told none.
+    absurd (none (opens (g.H.Host.state c.args.host.now).tape.disk c.in-Ok.store.held (g.H.Host.state c.open.new.host) (c.in-Ok.ensures.answer told)))
+
+pub returns-in-Err-clause-spares : goal.returns-in-Err-clause-spares
+returns-in-Err-clause-spares g c = λ told none. c.open.ensures.left told
