@@ -1,15 +1,9 @@
 -- One payload more.
-use Rattle.std.proofs.Common.{◌≡◌, ◌<◌, ℕ, ◌+◌, List, [], ◌∷◌, ◌++◌, length, map, take, get_or, refl, sym, ◌∙◌, ap, subst}
-use Rattle.std.specs.Prelude.{None}
-use Rattle.std.specs.List.{AllByRecursion}
-use Rattle.std.proofs.lemmas.List.{map-append, take_more}
-use Rattle.ov_event.specs.declared.event.Event.{Event}
-use Rattle.ov_event.specs.Spelling.{IsEvent, spelling}
+use Rattle.std.proofs.Common.{◌≡◌, ◌<◌, ℕ, ◌+◌, List, [], ◌∷◌, ◌++◌, length, take, get_or, refl, sym, ◌∙◌, ap, subst}
+use Rattle.std.proofs.lemmas.List.{take_more}
+use Rattle.ov_event.specs.Spelling.{spelling}
 use Rattle.ov_host.specs.declared.area.Extent.{Extent}
-use Rattle.ov_catalog.specs.Applying.{AllApply, first_off}
-use Rattle.ov_catalog.specs.Events.{applied, replayed}
 use Rattle.ov_catalog.specs.Numbers.{Numbers, nothing_yet}
-use Rattle.ov_catalog.specs.Raw.{event_in}
 use Rattle.ov_open.specs.declared.replaying.ReplayErr.{ReplayErr}
 use Rattle.ov_open.specs.declared.replaying.ReplayErr.TheVariants.{Damaged, Memory}
 use Rattle.ov_core.specs.Held.{IsReplay}
