@@ -71,7 +71,8 @@ damaged_there s wish page old new looked is = λ tells.
       | inr joined ↦ inr (
         joined.0,
         record { agree = joined.1.agree; read = λ t. subst (λ (b : List ℕ). AllZip (IsParent b s) wish.vids joined.0) bytes (joined.1.read told) },
-        subst (λ (b : List ℕ). RefusesJoined (fetch.Damaged page) s b (joined_of (asked_of s wish joined.0))) bytes joined.2,
+        joined.2,
+        subst (λ (b : List ℕ). RefusesJoined (fetch.Damaged page) s b (joined_of (asked_of s wish joined.0))) bytes joined.3,
       )
     ]
 
