@@ -188,6 +188,14 @@ module _ (held : Held) (name cvd vids : List ℕ) (stage : Staged) (file : Optio
   spared_damaged (Err ending.Stage) alone = tt
   spared_damaged (Err (ending.Damaged area at)) alone = absurd alone
 
+-- ---- what damage comes to
+
+pub damage_wider : (P Q : ℕ → Type 0) (e : EndErr) → ((page : ℕ) → P page → Q page) → IsDamageOf P e → IsDamageOf Q e
+damage_wider P Q ending.Host wider is = tt
+damage_wider P Q ending.Memory wider is = tt
+damage_wider P Q ending.Stage wider is = tt
+damage_wider P Q (ending.Damaged area at) wider is = (is.0, wider at is.1)
+
 -- ---- no host
 
 pub no_host : (e : EndErr) → IsNoHost e → IsNoDamage e
