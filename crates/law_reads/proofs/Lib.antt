@@ -10,3 +10,4 @@ pub mod Parted
 pub mod Served
 pub mod Ascending
 pub mod Scanned
+pub mod Undamaged

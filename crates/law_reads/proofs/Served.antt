@@ -23,10 +23,10 @@ use Rattle.ov_catalog.proofs.Members.{left_in, right_in, of_append, in_map, of_m
 use Rattle.ov_read.specs.Agreement.{Numbers, IsThere, PartAgrees, serves, segments_in, segments_of}
 use Rattle.ov_read.specs.Damages.{LacksMember, IsDamage, RefusesScan, PartDisagrees, RefusesPart}
 use Rattle.ov_read.specs.OfWorld.{IsSetOf, IsSpared, rids_in}
-use Rattle.law_reads.specs.Sights.{record_in, records_in, contents_of}
+use Rattle.law_reads.specs.Sights.{record_in, records_in}
 use Rattle.law_reads.proofs.Founds.{some_is}
 use Rattle.law_reads.proofs.Listed as listed
-use Rattle.law_reads.proofs.Parted.{Read, reads, read, only, agrees, served}
+use Rattle.law_reads.proofs.Parted.{Read, reads, only, agrees, served}
 use Rattle.law_reads.proofs.Stored.{segments_once}
 use Rattle.law_reads.proofs.Together.{has_in}
 

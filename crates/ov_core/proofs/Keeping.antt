@@ -117,11 +117,15 @@ module _ (n : Numbers Extent Extent) (replayed : IsReplayed n) (b : Brought) (un
 
 -- ---- the event
 
-pub event_fits : (b : Brought) (live : List Extent) (l s : Extent) → IsUnplaced b → IsEvent b.event → ArePlaced live b.list.items b.segment.items l s → (y : raw.Event) → y ≡ with_extents l s b.event → Fits y
-event_fits b live l s unplaced event placed y same =
-    subst Fits (sym same) (fits_of (with_extents l s b.event) (event_placed l s b.event event
+-- it has a spelling where its runs are placed
+pub event_spelled : (b : Brought) (live : List Extent) (l s : Extent) → IsUnplaced b → IsEvent b.event → ArePlaced live b.list.items b.segment.items l s → (y : raw.Event) → y ≡ with_extents l s b.event → IsEvent y
+event_spelled b live l s unplaced event placed y same =
+    subst IsEvent (sym same) (event_placed l s b.event event
     (run_extent live b.list.items l placed.list_run (list_small b unplaced event))
-    (run_extent (l ∷ live) b.segment.items s placed.segment_run (segment_small b unplaced event))))
+    (run_extent (l ∷ live) b.segment.items s placed.segment_run (segment_small b unplaced event)))
+
+pub event_fits : (b : Brought) (live : List Extent) (l s : Extent) → IsUnplaced b → IsEvent b.event → ArePlaced live b.list.items b.segment.items l s → (y : raw.Event) → y ≡ with_extents l s b.event → Fits y
+event_fits b live l s unplaced event placed y same = fits_of y (event_spelled b live l s unplaced event placed y same)
 
 -- ---- why not
 
@@ -138,12 +142,12 @@ no_runs_why r held b old new list segment one two h =
     in let there : P b.list.items b.segment.items = subst (λ (ys : List ℕ). P b.list.items ys) two (subst (λ (xs : List ℕ). P xs segment) one h)
     in IfErr-weaker r (IsWhyNoRuns (live held.numbers) b.list.items b.segment.items) (λ why. IsWhy why held b old new) (no_runs held b old new) there
 
-pub not_written_why : (held : Held) (b : Brought) (l s : Extent) (y : raw.Event) (old new : State) (why : ChangeErr) → y ≡ with_extents l s b.event → IsWhyNotWritten held.journal y old new why → IsWhy why held b old new
-not_written_why held b l s y old new errors.Host same h = h
-not_written_why held b l s y old new errors.Memory same h = h
-not_written_why held b l s y old new (errors.Full pages) same h = absurd h
-not_written_why held b l s y old new errors.JournalFull same h =
-    passes_same held.journal l s b.event (subst (λ (v : raw.Event). PassesEnd held.journal v) same h)
+pub not_written_why : (held : Held) (b : Brought) (l s : Extent) → ArePlaced (live held.numbers) b.list.items b.segment.items l s → (y : raw.Event) (old new : State) (why : ChangeErr) → y ≡ with_extents l s b.event → IsWhyNotWritten held.journal y old new why → IsWhy why held b old new
+not_written_why held b l s placed y old new errors.Host same h = h
+not_written_why held b l s placed y old new errors.Memory same h = h
+not_written_why held b l s placed y old new (errors.Full pages) same h = absurd h
+not_written_why held b l s placed y old new errors.JournalFull same h =
+    ((l, s, placed), passes_same held.journal l s b.event (subst (λ (v : raw.Event). PassesEnd held.journal v) same h))
 
 pub had_room : (held : Held) (b : Brought) (l s : Extent) (y : raw.Event) → y ≡ with_extents l s b.event → (PassesEnd held.journal y → ⊥) → PassesEnd held.journal b.event → ⊥
 had_room held b l s y same fits passes =

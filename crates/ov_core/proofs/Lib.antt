@@ -9,3 +9,5 @@ pub mod Storing
 pub mod Changing
 pub mod Keeping
 pub mod Dropping
+pub mod Replaying
+pub mod Roomy

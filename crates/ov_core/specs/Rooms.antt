@@ -1,6 +1,7 @@
 -- Room for the runs of a change, and why one isn't made.
 --     ArePlaced live list segment l s      where the runs go: the list's to the lowest free run, the segment's to the lowest one
 --         off it
+--     HaveRuns live list segment      there are runs for both
 --     IsFull live list segment pages      one of them finds none
 --     IsWhy why held b old new      why a change isn't made
 use Rattle.std.specs.Prelude.{◌≡◌, ◌⊎◌, ◌≤◌, ◌<◌, ℕ, ◌+◌, ◌/◌, ◌^◌, List, [], ◌∷◌, length}
@@ -47,6 +48,10 @@ pub record ArePlaced (live : List Extent) (list segment : List ℕ) (l s : Exten
   pub list_run : IsRun live list l
   pub segment_run : IsRun (l ∷ live) segment s
 
+-- there are runs for both, where they are asked for one after the other
+abbrev pub HaveRuns : List Extent → List ℕ → List ℕ → Type 0
+HaveRuns live list segment = (l : Extent) × (s : Extent) × ArePlaced live list segment l s
+
 pub record IsNoRun (live : List Extent) (bytes : List ℕ) (pages : ℕ) : Type 0 where
   pub some : 0 < length bytes
   pub none : HasNone live (pages_for bytes)
@@ -64,11 +69,13 @@ PassesEnd journal e = 2 ^ 28 < journal.end + 6 + length (spelling e)
 abbrev pub PassesJournal : Held → raw.Event → Type 0
 PassesJournal held e = PassesEnd held.journal e
 
+-- Want of room in the pages comes before want of room in the journal.
 abbrev pub IsWhy : ChangeErr → Held → Brought → State → State → Type 0
 IsWhy errors.Host held b old new = Rose old.faults new.faults
 IsWhy errors.Memory held b old new = Unit {0}
 IsWhy (errors.Full pages) held b old new = IsFull (live held.numbers) b.list.items b.segment.items pages
-IsWhy errors.JournalFull held b old new = PassesJournal held b.event
+IsWhy errors.JournalFull held b old new =
+    HaveRuns (live held.numbers) b.list.items b.segment.items × PassesJournal held b.event
 
 -- the change was made: the runs are placed, the journal had room, and the catalog applied the event
 pub record IsMade (old new : Held) (b : Brought) : Type 0 where

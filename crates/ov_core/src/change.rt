@@ -11,7 +11,7 @@ ghost use Rattle.ov_catalog.specs.Applying.{first_off};
 ghost use Rattle.ov_catalog.specs.Reached.{Fits};
 ghost use Rattle.ov_core.specs.AtWorld.{IsAtWorld, IsEither, IsAtNext};
 ghost use Rattle.ov_core.specs.Brought.{Brings, IsUnplaced};
-ghost use Rattle.ov_core.specs.Held.{GoesOn, IsBeside};
+ghost use Rattle.ov_core.specs.Held.{GoesOn, IsBeside, IsByJournal};
 ghost use Rattle.ov_core.specs.Rooms.{IsDropped, IsMade, IsWhy, IsWhyKept};
 
 use crate::brought::Brought;
@@ -53,6 +53,7 @@ impl Core {
             → OnOk result (IsBeside self.new (H.state host.new)) }
         ensures grows { (payloads : List (List ℕ)) → IsAt payloads self.old.journal (H.state host.old) → PagesAtRest (H.state host.old)
             → OnOk result (self.new.journal.end ≤ self.old.journal.end + 6 + length (spelling brought.event)) }
+        ensures by_journal { IsByJournal self.old (H.state host.old) → OnOk result (IsByJournal self.new (H.state host.new)) }
         ensures stops { (w : World) (m : Move) → IsAtWorld w self.old (H.state host.old) → Brings m w brought
             → Only (H.state host.old).tape (H.state host.new).tape (IsEither w (moved m w) (H.state host.old).tape.disk.printed) }
         ensures done { (w : World) (m : Move) → IsAtWorld w self.old (H.state host.old) → Brings m w brought
@@ -108,6 +109,7 @@ impl Core {
             → IsBeside self.old (H.state host.old) → OnOk result (IsBeside self.new (H.state host.new)) }
         ensures grows { (payloads : List (List ℕ)) → IsAt payloads self.old.journal (H.state host.old) → PagesAtRest (H.state host.old)
             → OnOk result (self.new.journal.end ≤ self.old.journal.end + 6 + length (spelling (says.Drop cvd))) }
+        ensures by_journal { IsByJournal self.old (H.state host.old) → OnOk result (IsByJournal self.new (H.state host.new)) }
         ensures stops { (w : World) → IsAtWorld w self.old (H.state host.old) → Fits (DropMove cvd) w
             → Only (H.state host.old).tape (H.state host.new).tape (IsEither w (moved (DropMove cvd) w) (H.state host.old).tape.disk.printed) }
         ensures done { (w : World) → IsAtWorld w self.old (H.state host.old) → Fits (DropMove cvd) w

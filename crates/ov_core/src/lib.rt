@@ -7,6 +7,7 @@
 mod brought;
 mod change;
 mod errors;
+mod laws;
 mod long;
 mod parts;
 mod runs;
@@ -14,4 +15,5 @@ mod writing;
 
 pub use brought::Brought;
 pub use errors::ChangeErr;
+pub use laws::runs_that_are_there_are_found;
 pub use parts::Core;

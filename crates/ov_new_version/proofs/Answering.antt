@@ -13,7 +13,7 @@ use Rattle.ov_version_bytes.specs.Written.{IsWhy}
 use Rattle.ov_version_bytes.specs.declared.write_err.WriteErr.{WriteErr}
 use Rattle.ov_version_bytes.specs.declared.write_err.WriteErr.TheVariants as write
 use Rattle.ov_new_version.specs.Asked.{Asked}
-use Rattle.ov_new_version.specs.Commits.{Refuses}
+use Rattle.ov_new_version.specs.Commits.{HasRecords, Refuses}
 use Rattle.ov_new_version.specs.Errors.{of_write}
 use Rattle.ov_new_version.specs.Held.{IsOfHeld, RefusesHeld}
 use Rattle.ov_new_version.specs.declared.errors.CommitErr.{CommitErr}
@@ -25,15 +25,15 @@ pub err_match : {X E : Type 0} (P : X → Type 0) (Q : E → Type 0) (r : Result
 err_match P Q (Ok x) e h q = absurd (true≢false (sym h.0))
 err_match P Q (Err x) e h q = subst Q (sym h.1) q
 
-pub not_held : (a : Asked) (told : Bool) (area : List ℕ) (part : Option (PartNumbers Extent)) (e : CommitErr) → part ≡ joined_of a → (told ≡ true → RefusesHeld e a.set area part)
+pub not_held : (a : Asked) → HasRecords a → (told : Bool) (area : List ℕ) (part : Option (PartNumbers Extent)) (e : CommitErr) → part ≡ joined_of a → (told ≡ true → RefusesHeld e a.set area part)
     → IsOfHeld e → Refuses e a told area
-not_held a told area part Memory is why of_held = tt
-not_held a told area part (Damaged page) is why of_held = λ tells. subst (RefusesJoined (fetch.Damaged page) a.set area) is (why tells)
-not_held a told area part TooManyRecords is why of_held = absurd of_held
-not_held a told area part (TooLong list_pages segment_pages) is why of_held = absurd of_held
+not_held a room told area part Memory is why of_held = tt
+not_held a room told area part (Damaged page) is why of_held = (room, λ tells. subst (RefusesJoined (fetch.Damaged page) a.set area) is (why tells))
+not_held a room told area part TooManyRecords is why of_held = absurd of_held
+not_held a room told area part (TooLong list_pages segment_pages) is why of_held = absurd of_held
 
-pub not_written : (a : Asked) (made : Assigned) (place : Place) (is : IsMade a made place) (held : List ℕ) (own : place ≡ Own → held ≡ []) (told : Bool) (area : List ℕ) (e : WriteErr)
+pub not_written : (a : Asked) (made : Assigned) (place : Place) (is : IsMade a made place) (held : List ℕ) (own : place ≡ Own → held ≡ []) → HasRecords a → (told : Bool) (area : List ℕ) (e : WriteErr)
     → JoinedAgrees a.set place held → (told ≡ true → IsReadOf a.set area (joined_of a) held) → IsWhy e held made.rids a.rows → Refuses (of_write e) a told area
-not_written a made place is held own told area write.Memory agrees read why = tt
-not_written a made place is held own told area (write.TooLong list_pages segment_pages) agrees read why =
-    too_long a made place is held own told area list_pages segment_pages agrees read why
+not_written a made place is held own room told area write.Memory agrees read why = tt
+not_written a made place is held own room told area (write.TooLong list_pages segment_pages) agrees read why =
+    too_long a made place is held own room told area list_pages segment_pages agrees read why

@@ -5,3 +5,4 @@ pub mod Answering
 pub mod Worlds
 pub mod Served
 pub mod Finding
+pub mod Undamaged

@@ -36,7 +36,7 @@ use Rattle.ov_version_bytes.proofs.Following.{place_back}
 use Rattle.ov_version_bytes.proofs.Sorting.{all_from}
 use Rattle.ov_new_version.specs.Asked.{Asked, asked_in, rids_of, fresh_of, edges_of, place_of}
 use Rattle.ov_new_version.specs.declared.wanted.Wanted.{Wanted}
-use Rattle.ov_new_version.specs.Commits.{event_for, IsCommitOf, IsTooLong}
+use Rattle.ov_new_version.specs.Commits.{HasRecords, event_for, IsCommitOf, IsTooLong}
 use Rattle.ov_new_version.specs.Joined.{joined_of, IsReadOf}
 use Rattle.ov_new_version.proofs.Placing.{in_range}
 
@@ -149,10 +149,11 @@ module _ (a : Asked) (made : Assigned) (place : Place) (is : IsMade a made place
   event_told e vid list segment vid_is e_is =
       e_is ∙ (λ i. says.Commit a.set.number (vid_is i) a.message (is.edges i) (length a.rows) (is.fresh i) (spelled_place (is.place_is i)) (added i) (extent_at 0 list) (extent_at 0 segment))
 
-  pub commit_is : (told : Bool) (area : List ℕ) (e : raw.Event) (list segment : List ℕ) → JoinedAgrees a.set place held → (told ≡ true → IsReadOf a.set area (joined_of a) held)
+  pub commit_is : HasRecords a → (told : Bool) (area : List ℕ) (e : raw.Event) (list segment : List ℕ) → JoinedAgrees a.set place held → (told ≡ true → IsReadOf a.set area (joined_of a) held)
       → e ≡ event_for a held list segment → list ≡ list_written made.rids → segment ≡ segment_written held made.rids a.rows
       → IsCommitOf a told area e list segment
-  commit_is told area e list segment agrees read e_is list_is segment_is = record {
+  commit_is room told area e list segment agrees read e_is list_is segment_is = record {
+    room = room;
     held = held;
     agrees = subst (λ p. JoinedAgrees a.set p held) is.place_is agrees;
     own = λ e. own (is.place_is ∙ e);
@@ -162,17 +163,17 @@ module _ (a : Asked) (made : Assigned) (place : Place) (is : IsMade a made place
     segment_is = segment_is ∙ ap (λ rids. segment_written held rids a.rows) is.rids;
   }
 
-  pub too_long : (told : Bool) (area : List ℕ) (list_pages segment_pages : ℕ) → JoinedAgrees a.set place held → (told ≡ true → IsReadOf a.set area (joined_of a) held)
+  pub too_long : HasRecords a → (told : Bool) (area : List ℕ) (list_pages segment_pages : ℕ) → JoinedAgrees a.set place held → (told ≡ true → IsReadOf a.set area (joined_of a) held)
       → IsLong list_pages segment_pages (list_written made.rids) (segment_written held made.rids a.rows)
       → IsTooLong a told area list_pages segment_pages
-  too_long told area list_pages segment_pages agrees read long =
+  too_long room told area list_pages segment_pages agrees read long =
       let list : List ℕ = list_written made.rids
       in let segment : List ℕ = segment_written held made.rids a.rows
       in record {
         event = event_for a held list segment;
         list = list;
         segment = segment;
-        commit = commit_is told area (event_for a held list segment) list segment agrees read refl refl refl;
+        commit = commit_is room told area (event_for a held list segment) list segment agrees read refl refl refl;
         long = long;
       }
 

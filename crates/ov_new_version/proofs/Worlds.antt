@@ -158,7 +158,7 @@ module _ (a : Asked) (w : World) (ds : Dataset) (area : List ℕ) (asked : IsAsk
       by None is some it = absurd (some refl)
       by (Some part) is some it =
           let found = number_found id a.set.parts part is
-          in ap (λ ns. has ns rid) (rids w area a.set ds part held asked.of_world found.0 it)
+          in ap (λ ns. has ns rid) (rids w area a.set ds part held asked.of_world found.0 it.0)
           ∙ has_listed (order_of ds.cvd.versions) (held_by ds.parts part.id) rid
           ∙ ap (λ n. has (map (rid_in (order_of ds.cvd.versions)) (held_by ds.parts n)) rid) found.1
 

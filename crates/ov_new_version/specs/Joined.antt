@@ -11,7 +11,7 @@ use Rattle.ov_fetch.specs.declared.errors.FetchErr.{FetchErr}
 use Rattle.ov_fetch.specs.declared.errors.FetchErr.TheVariants.{Host, Memory, Damaged}
 use Rattle.ov_catalog.specs.Applying.{part_numbered, part_serving}
 use Rattle.ov_catalog.specs.Numbers.{PartNumbers}
-use Rattle.ov_read.specs.Agreement.{Numbers}
+use Rattle.ov_read.specs.Agreement.{IsBorneOut, Numbers}
 use Rattle.ov_read.specs.Damages.{RefusesPart}
 use Rattle.ov_read.specs.Partitions.{IsPartRead}
 use Rattle.ov_new_version.specs.Asked.{Asked, edges_of, place_of}
@@ -28,10 +28,10 @@ if_joined (Join id) part = part
 abbrev pub joined_of : Asked → Option (PartNumbers Extent)
 joined_of a = if_joined (place_of a) (part_serving a.set.parts (heaviest (edges_of a)).0)
 
--- these are the rids of its records
+-- these are the rids of its records, and they bear out its numbers
 abbrev pub IsReadOf : Numbers → List ℕ → Option (PartNumbers Extent) → List ℕ → Type 0
 IsReadOf s area None rids = rids ≡ []
-IsReadOf s area (Some part) rids = IsPartRead s.schema area part.segments rids
+IsReadOf s area (Some part) rids = IsPartRead s.schema area part.segments rids × IsBorneOut part.records s.records rids
 
 -- want of memory and a fault of the host say nothing of the bytes
 abbrev pub RefusesJoined : FetchErr → Numbers → List ℕ → Option (PartNumbers Extent) → Type 0

@@ -29,8 +29,8 @@ use std::alloc::Global;
 /// What a dataset's next version brings, where the records of its parents were read and agree with the dataset's numbers.
 /// Its event applies.
 ///
-/// `Damaged` comes exactly where the version joins a partition that doesn't agree, `TooManyRecords` where the dataset would
-/// have over 2^31 records, and `TooLong` where the segment has 2^20 pages or more.
+/// `TooManyRecords` comes where the dataset would have over 2^31 records, else `Damaged` where the version joins a partition that
+/// doesn't agree, and else `TooLong` where the segment has 2^20 pages or more.
 ///
 /// Nothing is read: what the partition holds that the version joins was read for the parents, of which it serves one. It
 /// takes time by the records of the parents and the partition, and the rows.

@@ -15,5 +15,5 @@ mod wanted;
 
 pub use committing::commit_of;
 pub use errors::CommitErr;
-pub use serving::a_joined_partition_serves_a_parent;
+pub use serving::{a_joined_partition_serves_a_parent, a_partition_that_is_read_is_whole};
 pub use wanted::{Commit, Wanted};

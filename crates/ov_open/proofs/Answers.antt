@@ -21,7 +21,8 @@ use Rattle.ov_catalog.specs.Extents.{AreApart, covers, live}
 use Rattle.ov_catalog.specs.Numbers.{Numbers, nothing_yet}
 use Rattle.ov_catalog.specs.Raw.{numbers_in}
 use Rattle.law_image.specs.Pages.{pages_in}
-use Rattle.ov_open.specs.Replaying.{IsReplay, IsStopped}
+use Rattle.ov_core.specs.Held.{IsReplay}
+use Rattle.ov_open.specs.Replaying.{IsStopped}
 use Rattle.ov_core.specs.Held.{Held, IsBeside}
 use Rattle.ov_open.specs.declared.errors.OpenErr.{OpenErr}
 use Rattle.ov_open.specs.declared.errors.OpenErr.TheVariants as errors

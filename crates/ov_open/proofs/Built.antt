@@ -9,7 +9,7 @@ use Rattle.ov_pages.specs.Live.{AreReserved, times_covered, too_high_page}
 use Rattle.ov_pages.specs.Sets.{Reserved}
 use Rattle.ov_catalog.specs.Extents.{covers, live}
 use Rattle.ov_catalog.specs.Numbers.{Numbers}
-use Rattle.ov_open.specs.Replaying.{IsReplay}
+use Rattle.ov_core.specs.Held.{IsReplay}
 use Rattle.ov_core.specs.Held.{Held}
 use Rattle.ov_host.specs.declared.area.Area.TheVariants.{Pages, Journal}
 use Rattle.ov_open.specs.declared.errors.OpenErr.{OpenErr}

@@ -15,7 +15,7 @@ use Rattle.ov_catalog.specs.Raw.{event_in, place_in, shape_in}
 use Rattle.ov_catalog.proofs.Filling.{applied_each}
 use Rattle.law_events.specs.Fitting.{IsSoundEvent}
 use Rattle.law_events.proofs.Asking.{applies_sound}
-use Rattle.ov_open.specs.Replaying.{IsReplay}
+use Rattle.ov_core.specs.Held.{IsReplay}
 
 -- ---- an extent that is too high goes; so what stays as it is isn't
 

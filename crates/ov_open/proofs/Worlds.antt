@@ -26,7 +26,8 @@ use Rattle.ov_catalog.specs.Raw.{event_in, numbers_in}
 use Rattle.law_image.specs.Images.{Spell, StandsBy, StandsAs}
 use Rattle.law_image.specs.Pages.{pages_in}
 use Rattle.law_image.proofs.Standing.{stands_by, no_pages, not_foreign, not_of_format, not_damaged, new_stands}
-use Rattle.ov_open.specs.Replaying.{IsReplay, IsStopped, Follows}
+use Rattle.ov_core.specs.Held.{IsReplay}
+use Rattle.ov_open.specs.Replaying.{IsStopped, Follows}
 use Rattle.ov_core.specs.Held.{Held}
 use Rattle.ov_core.specs.AtWorld.{IsAtWorld}
 use Rattle.ov_open.specs.declared.errors.OpenErr.{OpenErr}

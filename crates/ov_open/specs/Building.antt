@@ -9,8 +9,8 @@ use Rattle.ov_pages.specs.declared.errors.PagesErr.{PagesErr}
 use Rattle.ov_pages.specs.declared.errors.PagesErr.TheVariants as pages
 use Rattle.ov_catalog.specs.Extents.{AreApart, covers, live}
 use Rattle.ov_catalog.specs.Numbers.{Numbers}
-use Rattle.ov_core.specs.Held.{Held}
-use Rattle.ov_open.specs.Replaying.{IsReplay, IsStopped}
+use Rattle.ov_core.specs.Held.{Held, IsReplay}
+use Rattle.ov_open.specs.Replaying.{IsStopped}
 use Rattle.ov_open.specs.declared.errors.OpenErr.{OpenErr}
 use Rattle.ov_open.specs.declared.errors.OpenErr.TheVariants as errors
 use Rattle.ov_open.specs.Refusing.{gate_behind, IsMissing, IsOff}

@@ -11,8 +11,7 @@ use Rattle.ov_model.specs.World.{World}
 use Rattle.ov_catalog.specs.Extents.{AreApart, live}
 use Rattle.law_image.specs.Images.{StandsAs}
 use Rattle.law_image.specs.Pages.{pages_in}
-use Rattle.ov_open.specs.Replaying.{IsReplay}
-use Rattle.ov_core.specs.Held.{Held}
+use Rattle.ov_core.specs.Held.{Held, IsReplay}
 use Rattle.ov_open.specs.declared.errors.OpenErr.{OpenErr}
 use Rattle.ov_open.specs.declared.errors.OpenErr.TheVariants as errors
 

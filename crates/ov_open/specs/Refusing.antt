@@ -11,7 +11,8 @@ use Rattle.ov_journal.specs.Opened.{IsMaking}
 use Rattle.ov_catalog.specs.Extents.{covers, live}
 use Rattle.ov_catalog.specs.Numbers.{Numbers}
 use Rattle.law_image.specs.Pages.{pages_in}
-use Rattle.ov_open.specs.Replaying.{IsReplay, IsStopped}
+use Rattle.ov_core.specs.Held.{IsReplay}
+use Rattle.ov_open.specs.Replaying.{IsStopped}
 use Rattle.ov_open.specs.declared.errors.OpenErr.{OpenErr}
 use Rattle.ov_open.specs.declared.errors.OpenErr.TheVariants as errors
 

@@ -1,24 +1,16 @@
--- What a journal's payloads make of an empty catalog.
---     IsReplay payloads n      they spell events that apply one after another, and these are the numbers then
+-- What a journal's payloads make of an empty catalog, and where they stop. `IsReplay` stands in `ov_core`.
 --     IsStopped payloads nth      those before it do, and the payload at this place spells no event that follows
-use Rattle.std.specs.Prelude.{◌≡◌, ◌<◌, ℕ, List, [], length, map, take, slice_index_or, None}
-use Rattle.std.specs.List.{AllByRecursion}
+use Rattle.std.specs.Prelude.{◌≡◌, ◌<◌, ℕ, List, [], length, take, slice_index_or, None}
 use Rattle.ov_event.specs.declared.event.Event.{Event}
 use Rattle.ov_event.specs.Spelling.{IsEvent, spelling}
 use Rattle.ov_host.specs.declared.area.Extent.{Extent}
-use Rattle.ov_catalog.specs.Applying.{AllApply, first_off}
+use Rattle.ov_catalog.specs.Applying.{first_off}
 use Rattle.ov_catalog.specs.Events.{applied}
-use Rattle.ov_catalog.specs.Numbers.{Numbers, nothing_yet}
-use Rattle.ov_catalog.specs.Raw.{event_in, numbers_in}
+use Rattle.ov_catalog.specs.Numbers.{Numbers}
+use Rattle.ov_catalog.specs.Raw.{event_in}
+use Rattle.ov_core.specs.Held.{IsReplay}
 use Rattle.ov_open.specs.declared.replaying.ReplayErr.{ReplayErr}
 use Rattle.ov_open.specs.declared.replaying.ReplayErr.TheVariants.{Damaged, Memory}
-
-pub record IsReplay (payloads : List (List ℕ)) (n : Numbers Extent Extent) : Type 0 where
-  pub events : List Event
-  pub are : AllByRecursion IsEvent events
-  pub written : payloads ≡ map spelling events
-  pub apply : AllApply events nothing_yet
-  pub end : n ≡ numbers_in events
 
 -- the bytes spell an event that follows these numbers
 abbrev pub Follows : List ℕ → Numbers Extent Extent → Type 0

@@ -2,7 +2,7 @@
 
 ghost use Rattle.std.specs.Prelude.{◌≡◌, None, MatchResult};
 ghost use Rattle.ov_pages.specs.Live.{AreReserved, too_high_page};
-ghost use Rattle.ov_open.specs.Replaying.{IsReplay};
+ghost use Rattle.ov_core.specs.Held.{IsReplay};
 ghost use Rattle.ov_open.specs.Building.{AreThere, IsBuilt, NotBuilt, NotReplayed, NotReserved, gate_within};
 
 use crate::errors::OpenErr;

@@ -1,7 +1,8 @@
 //! The payloads of a journal, one after another.
 
 ghost use Rattle.std.specs.Prelude.{MatchResult};
-ghost use Rattle.ov_open.specs.Replaying.{IsReplay, IsTaken, IsLeft, RefusesPayloads};
+ghost use Rattle.ov_core.specs.Held.{IsReplay};
+ghost use Rattle.ov_open.specs.Replaying.{IsTaken, IsLeft, RefusesPayloads};
 
 use ov_catalog::{ApplyErr, Catalog};
 use ov_event::read_event;

@@ -31,6 +31,8 @@ pub fn add_bare<H: Host>(
     ensures done { (payloads : List (List ℕ)) → IsAt payloads journal.old (H.state host.old) → PagesAtRest (H.state host.old)
         → OnOk result (IsAdded (payloads ++ framed.now ∷ []) (bytes_of Area.Pages (H.state host.old))
         (H.state host.old).tape.disk.printed journal.new (H.state host.new)) }
+    ensures record { (payloads : List (List ℕ)) → IsAt payloads journal.old (H.state host.old)
+        → OnOk result (IsAt (payloads ++ framed.now ∷ []) journal.new (H.state host.new)) }
     ensures room { (H.state host.old).tells ≡ true → OnOk result (journal.new.end < length (bytes_of Area.Journal (H.state host.new))) }
     ensures full_same { IsErrOf result AppendErr.JournalFull → journal.new ≡ journal.old }
     ensures full_untouched { IsErrOf result AppendErr.JournalFull → H.state host.new ≡ H.state host.old }

@@ -94,13 +94,14 @@ are_sound s n vids lists found scan vids_are records_are picks_are h placed = re
     at k low = stands found.records.items (get_or found.picks.items k []) (rows k low).found (rows k low).picked.at
 
 pub are_scanned : (s0 s1 : State) (n : Numbers) (vids : List ℕ) (lists : List (List ℕ)) (found : Gathered) → Looked s0 s1 → s0.tells ≡ true → AreGathered s1 n vids lists found → All (λ vid. is_served n vid ≡ true) vids
-    → AllZip (λ vid. IsList (page_bytes s0) (list_of n vid)) vids lists → AllZip (IsScanned (page_bytes s0) n found.records.items) vids found.picks.items
-are_scanned s0 s1 n vids lists found looked told h placed lists_are =
+    → AllZip (λ vid. IsList (page_bytes s0) (list_of n vid)) vids lists → AllZip (Agrees n) vids lists → AllZip (IsScanned (page_bytes s0) n found.records.items) vids found.picks.items
+are_scanned s0 s1 n vids lists found looked told h placed lists_are agree =
     zip_from (IsScanned (page_bytes s0) n found.records.items) vids found.picks.items 0 [] h.count (λ k low.
     let one = rows_now n.schema s0 s1 (segments_of n (get_or vids k 0)) (segments_of n (get_or vids k 0)) found.records.items (get_or lists k []) (get_or found.picks.items k []) looked refl (h.each k low (placed k 0 low)) in
     record {
       rids = get_or lists k [];
       list = zip_at (λ vid. IsList (page_bytes s0) (list_of n vid)) vids lists k 0 [] lists_are low;
+      agrees = zip_at (Agrees n) vids lists k 0 [] agree low;
       found = one.found;
       picked = one.picked;
       first = one.told told;

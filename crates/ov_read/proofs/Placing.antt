@@ -5,7 +5,7 @@ use Rattle.std.specs.List.{All, filter_map, cons_option}
 use Rattle.std.proofs.lemmas.Bool.{cases_eq, eq-eqb}
 use Rattle.std.proofs.lemmas.Grind.{get_or-set_at}
 use Rattle.std.proofs.lemmas.List.{get_or-set_other}
-use Rattle.std.proofs.lemmas.List.Elements.{All-nil, All-cons}
+use Rattle.std.proofs.lemmas.List.Elements.{All-nil, All-cons, All-head}
 use Rattle.ov_member.specs.Rids.{has}
 use Rattle.ov_member.proofs.RidLemmas.{has-head, has-tail}
 use Rattle.ov_model.specs.Placed.{times}
@@ -78,6 +78,13 @@ is_group vids places versions group are is = record {
   only = subst (All (λ place. (place < length vids) × (has versions (get_or vids place 0) ≡ true))) (sym is) (only_group vids places versions versions are (λ w member. member));
   all = λ place low member. ap (λ (g : List ℕ). has g place) is ∙ has_in places versions place (get_or vids place 0) member (are.all place low);
 }
+
+-- where no versions are asked for, a partition serves none of them
+pub none_served : (vids versions group : List ℕ) → IsGroup vids versions group → vids ≡ [] → group ≡ []
+none_served vids versions [] is none = refl
+none_served vids versions (place ∷ group) is none =
+    let low : place < length vids = (All-head (λ p. (p < length vids) × (has versions (get_or vids p 0) ≡ true)) place group is.only).0
+    in absurd (omega (arith, low, ap length none))
 
 -- ---- the places, one more at a time
 

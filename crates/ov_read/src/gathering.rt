@@ -56,6 +56,8 @@ pub(crate) fn gather<H: Host>(
     ensures looked { Looked (H.state host.old) (H.state host.new) }
     ensures cause { IsErrOf result FetchErr.Host → Rose (H.state host.old).faults (H.state host.new).faults }
     ensures fetched { (H.state host.new).fetched ≤ (H.state host.old).fetched + segment_bytes_for (set_in d.now) vids.now }
+    ensures still { vids.now ≡ [] → H.state host.new ≡ H.state host.old }
+    ensures idle { vids.now ≡ [] → IfErr result (λ e. e ≡ FetchErr.Memory) }
     ensures gathered { IfOk result (λ read. AreGathered (H.state host.old) (set_in d.now) vids.now lists.now read.found) }
     ensures held { IfOk result (λ read. AreHeld (H.state host.old).tells (page_bytes (H.state host.old)) (set_in d.now) vids.now read.held.items) }
     ensures err { (H.state host.old).tells ≡ true → IfErr result (λ e. RefusesScan e (page_bytes (H.state host.old)) (set_in d.now) vids.now) }
@@ -106,6 +108,8 @@ fn add_group<H: Host>(
     ensures looked { Looked (H.state host.old) (H.state host.new) }
     ensures cause { IsErrOf result FetchErr.Host → Rose (H.state host.old).faults (H.state host.new).faults }
     ensures fetched { (H.state host.new).fetched ≤ (H.state host.old).fetched + bytes_if group.now part.now.segments }
+    ensures still { group.now ≡ [] → H.state host.new ≡ H.state host.old }
+    ensures idle { group.now ≡ [] → IfErr result (λ e. e ≡ FetchErr.Memory) }
     ensures added { OnOk result (IsAdded d.now.schema (H.state host.old) part.now vids.now lists.now found.old found.new) }
     ensures rids { (H.state host.old).tells ≡ true → 0 < length group.now
         → IfOk result (λ rids. HaveRids d.now.schema (page_bytes (H.state host.old)) part.now.segments rids.items) }

@@ -1,6 +1,6 @@
 // The lists of versions.
 
-ghost use Rattle.std.specs.Prelude.{◌≡◌, ◌≤◌, ◌+◌, ◌^◌, true, map, All, IfOk, IsErrOf, MatchResult};
+ghost use Rattle.std.specs.Prelude.{◌≡◌, ◌≤◌, ◌+◌, ◌^◌, true, [], map, All, IfOk, IfErr, IsErrOf, MatchResult};
 ghost use Rattle.std.specs.List.{AllZip};
 ghost use Rattle.ov_host.specs.Host.{Rose};
 ghost use Rattle.ov_catalog.specs.Sets.{set_in};
@@ -33,6 +33,8 @@ pub fn lists_of<H: Host>(
     ensures looked { Looked (H.state host.old) (H.state host.new) }
     ensures cause { IsErrOf result FetchErr.Host → Rose (H.state host.old).faults (H.state host.new).faults }
     ensures fetched { (H.state host.new).fetched ≤ (H.state host.old).fetched + list_bytes_for (set_in d.now) vids.now }
+    ensures still { vids.now ≡ [] → H.state host.new ≡ H.state host.old }
+    ensures idle { vids.now ≡ [] → IfErr result (λ e. e ≡ FetchErr.Memory) }
 
     // On every host each list has as many rids as its version has rows, and no rid that came later.
     ensures agree { IfOk result (λ lists. AllZip (Agrees (set_in d.now)) vids.now lists.items) }
@@ -59,6 +61,8 @@ fn read_lists<H: Host>(
     ensures looked { Looked (H.state host.old) (H.state host.new) }
     ensures cause { IsErrOf result FetchErr.Host → Rose (H.state host.old).faults (H.state host.new).faults }
     ensures fetched { (H.state host.new).fetched ≤ (H.state host.old).fetched + list_bytes_for (set_in d.now) vids.now }
+    ensures still { vids.now ≡ [] → H.state host.new ≡ H.state host.old }
+    ensures idle { vids.now ≡ [] → IfErr result (λ e. e ≡ FetchErr.Memory) }
     ensures agree { IfOk result (λ lists. AllZip (Agrees (set_in d.now)) vids.now lists.items) }
     ensures answer { (H.state host.old).tells ≡ true → MatchResult result
         (λ lists. AllZip (λ vid. IsList (page_bytes (H.state host.old)) (list_of (set_in d.now) vid)) vids.now lists.items)

@@ -1,6 +1,6 @@
 // The rows of versions.
 
-ghost use Rattle.std.specs.Prelude.{◌≡◌, ◌↔◌, ◌≤◌, ◌+◌, ℕ, true, IsTrue, All, IfOk, IsErrOf, MatchResult};
+ghost use Rattle.std.specs.Prelude.{◌≡◌, ◌↔◌, ◌≤◌, ◌+◌, ℕ, true, [], IsTrue, All, IfOk, IfErr, IsErrOf, MatchResult};
 ghost use Rattle.std.specs.List.{AllZip};
 ghost use Rattle.ov_host.specs.Host.{Rose};
 ghost use Rattle.ov_catalog.specs.Sets.{set_in};
@@ -29,8 +29,8 @@ use std::alloc::Global;
 /// of their partitions is short or off its grammar; or where a member of a list has no record in its version's
 /// partition. The page is that of one such damage: the first one of the list or the segment.
 ///
-/// Each list is read once, and so is each partition that serves one of the versions. Time beside that: one step for each
-/// version of the dataset and each partition, and for each version asked for one look at each record that is read of its
+/// Each list is read once, and so is each partition that serves one of the versions; for no versions no call of the host is
+/// made, and nothing but memory can be wanting. Time beside that: one step for each version of the dataset and each partition, and for each version asked for one look at each record that is read of its
 /// partition and the sorting of its rows.
 pub fn scan_versions<H: Host>(
     alloc: Global,
@@ -44,6 +44,8 @@ pub fn scan_versions<H: Host>(
     ensures looked { Looked (H.state host.old) (H.state host.new) }
     ensures cause { IsErrOf result FetchErr.Host → Rose (H.state host.old).faults (H.state host.new).faults }
     ensures fetched { (H.state host.new).fetched ≤ (H.state host.old).fetched + bytes_for (set_in d.now) vids.items }
+    ensures still { vids.items ≡ [] → H.state host.new ≡ H.state host.old }
+    ensures idle { vids.items ≡ [] → IfErr result (λ e. e ≡ FetchErr.Memory) }
     ensures vids { IfOk result (λ scan. scan.vids ≡ vids.items) }
     ensures sound { IfOk result (IsSound d.now.schema) }
 
@@ -78,6 +80,8 @@ pub fn read_versions<H: Host>(
     ensures looked { Looked (H.state host.old) (H.state host.new) }
     ensures cause { IsErrOf result FetchErr.Host → Rose (H.state host.old).faults (H.state host.new).faults }
     ensures fetched { (H.state host.new).fetched ≤ (H.state host.old).fetched + bytes_for (set_in d.now) vids.items }
+    ensures still { vids.items ≡ [] → H.state host.new ≡ H.state host.old }
+    ensures idle { vids.items ≡ [] → IfErr result (λ e. e ≡ FetchErr.Memory) }
     ensures vids { IfOk result (λ read. read.scan.vids ≡ vids.items) }
     ensures sound { IfOk result (λ read. IsSound d.now.schema read.scan) }
     ensures rows { IfOk result (λ read. AllZip (HasRows (set_in d.now)) vids.items read.scan.picks) }

@@ -71,7 +71,8 @@ damaged_there s wish page old new looked is = λ tells.
       | inr joined ↦ inr (
         joined.0,
         record { agree = joined.1.agree; read = λ t. subst (λ (b : List ℕ). AllZip (IsParent b s) wish.vids joined.0) bytes (joined.1.read told) },
-        subst (λ (b : List ℕ). RefusesJoined (fetch.Damaged page) s b (joined_of (asked_of s wish joined.0))) bytes joined.2,
+        joined.2,
+        subst (λ (b : List ℕ). RefusesJoined (fetch.Damaged page) s b (joined_of (asked_of s wish joined.0))) bytes joined.3,
       )
     ]
 
@@ -186,6 +187,14 @@ module _ (held : Held) (name cvd vids : List ℕ) (stage : Staged) (file : Optio
   spared_damaged (Err ending.Memory) alone = tt
   spared_damaged (Err ending.Stage) alone = tt
   spared_damaged (Err (ending.Damaged area at)) alone = absurd alone
+
+-- ---- what damage comes to
+
+pub damage_wider : (P Q : ℕ → Type 0) (e : EndErr) → ((page : ℕ) → P page → Q page) → IsDamageOf P e → IsDamageOf Q e
+damage_wider P Q ending.Host wider is = tt
+damage_wider P Q ending.Memory wider is = tt
+damage_wider P Q ending.Stage wider is = tt
+damage_wider P Q (ending.Damaged area at) wider is = (is.0, wider at is.1)
 
 -- ---- no host
 

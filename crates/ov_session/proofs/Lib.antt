@@ -8,3 +8,5 @@ pub mod Saying
 pub mod Standing
 pub mod Bounds
 pub mod Replying
+pub mod Numbering
+pub mod Meeting

@@ -108,11 +108,11 @@ module _ (before now : Kept) (stage staged : Staged) (old new : State) where
   idle_unsaid (Err ending.Stage) alone = absurd alone
   idle_unsaid (Err (ending.Damaged area at)) alone = absurd alone
 
+pub the_end : (a b : EndErr) → Some a ≡ Some b → a ≡ b
+the_end a b is = ap (λ o. elim o as (λ _. EndErr) [ None ↦ a | Some x ↦ x ]) is
+
 -- what met damage or was refused only looked
 module _ (before now : Kept) (old new : State) where
-  the_end : (a b : EndErr) → Some a ≡ Some b → a ≡ b
-  the_end a b is = ap (λ o. elim o as (λ _. EndErr) [ None ↦ a | Some x ↦ x ]) is
-
   end_idle : (off : StoreErr) (e : EndErr) → end_of off ≡ Some e → Stays off before now old new → IfDamaged (Idle before now old new) e
   end_idle why.Host e is stays = subst (IfDamaged (Idle before now old new)) (the_end ending.Host e is) tt
   end_idle why.Memory e is stays = subst (IfDamaged (Idle before now old new)) (the_end ending.Memory e is) tt

@@ -2,6 +2,7 @@
 --     Goes old new      a host: no call changes whether it tells its bytes, and its count of faults doesn't fall
 --     Attended old new      a stage
 --     IsDamaged command stage held s page      what the command reads is damaged, and no number refuses it
+--     MeetsDamage command stage held s page      of a checkout: damage that it meets before it is answered
 --     IfNoFile P reply      this holds where the reply is that there is no such file
 --     Acts d s t w result ..      where the store is at a World, a command does what it means, or is stopped in it
 use Rattle.std.specs.Prelude.{◌≡◌, ◌≤◌, ℕ, Bool, true, false, List, [], length, Option, Some, None, Result, Ok, Err}
@@ -62,6 +63,11 @@ IsDamaged (asks.Commit cvd vids file message added) stage held s page =
     × IfSet (λ set. AreRowsOf set.schema file stage rows × IsDamagedAt set (record { vids = vids; message = message; rows = rows }) s page)
     (set_in held.numbers cvd)
 IsDamaged _ stage held s page = ⊥
+
+-- a checkout that isn't refused reads all that it names before it is answered; a commit may be refused for its rows before that
+abbrev pub MeetsDamage : Command → Staged → Held → State → ℕ → Type 0
+MeetsDamage (asks.Checkout cvd vids file table) stage held s page = IsDamaged (asks.Checkout cvd vids file table) stage held s page
+MeetsDamage _ stage held s page = ⊥
 
 -- what holds where the reply is that there is no file of some name
 abbrev pub IfNoFile : Type 0 → Reply → Type 0

@@ -7,6 +7,7 @@ ghost use Rattle.ov_value.specs.Spelling.{IsRow};
 ghost use Rattle.ov_model.specs.Act.{Session, commit_deed, commit_refusal, commit_rows, drop_deed, init_deed, init_refusal, with_rows};
 ghost use Rattle.ov_model.specs.World.{World, Dataset, set_named};
 ghost use Rattle.ov_core.specs.AtWorld.{IsAtWorld};
+ghost use Rattle.ov_core.specs.Held.{IsByJournal};
 ghost use Rattle.law_runs.specs.Serving.{files_of, session_of};
 ghost use Rattle.ov_store.specs.Beginning.{IsShort};
 ghost use Rattle.ov_read.specs.Sizes.{bytes_for};
@@ -45,6 +46,7 @@ fn begin<H: Host>(
     ensures host_alone { IsErrOf result EndErr.Stage → ⊥ }
     ensures undamaged { IfErr result IsNoDamage }
     ensures usable { OnOk result (MayCall store.new (H.state host.new)) }
+    ensures by_journal { IsByJournal store.old.held (H.state host.old) → (IsErrOf result EndErr.Host → ⊥) → IsByJournal store.new.held (H.state host.new) }
     ensures at { (w : World) → IsAtWorld w store.old.held (H.state host.old) → OnOk result (IsAtSilently store.new.held (H.state host.old) (H.state host.new)) }
     ensures seen { IfOk result (IfNoFile ⊥) }
     ensures acts { (w : World) (s : Session) → IsAtWorld w store.old.held (H.state host.old) → init_refusal w cvd ≡ None
@@ -79,6 +81,7 @@ pub fn init<H: Host, T: Stage>(
     ensures stage { IsErrOf result EndErr.Stage → Rose (T.staged stage.old).faults (T.staged stage.new).faults }
     ensures undamaged { IfErr result IsNoDamage }
     ensures usable { OnOk result (MayCall store.new (H.state host.new)) }
+    ensures by_journal { IsByJournal store.old.held (H.state host.old) → (IsErrOf result EndErr.Host → ⊥) → IsByJournal store.new.held (H.state host.new) }
     ensures at { (w : World) → IsAtWorld w store.old.held (H.state host.old) → OnOk result (IsAtSilently store.new.held (H.state host.old) (H.state host.new)) }
     ensures missed { IfOk result (IfNoFile (Rose (T.staged stage.old).misses (T.staged stage.new).misses)) }
     ensures idle { IfErr result (λ why. IsIdle why store.old store.new (T.staged stage.old) (T.staged stage.new) (H.state host.old) (H.state host.new)) }
@@ -122,6 +125,7 @@ fn next_version<H: Host>(
     ensures idle { IfErr result (IfDamaged (Idle store.old store.new (H.state host.old) (H.state host.new))) }
     ensures undamaged { (w : World) → IsAtWorld w store.old.held (H.state host.old) → IfErr result IsNoDamage }
     ensures usable { OnOk result (MayCall store.new (H.state host.new)) }
+    ensures by_journal { IsByJournal store.old.held (H.state host.old) → (IsErrOf result EndErr.Host → ⊥) → IsByJournal store.new.held (H.state host.new) }
     ensures at { (w : World) → IsAtWorld w store.old.held (H.state host.old) → OnOk result (IsAtSilently store.new.held (H.state host.old) (H.state host.new)) }
     ensures seen { IfOk result (IfNoFile ⊥) }
     ensures acts { (w : World) (s : Session) (d : Dataset) → IsAtWorld w store.old.held (H.state host.old) → set_named w cvd ≡ Some d
@@ -208,6 +212,7 @@ pub fn commit<H: Host, T: Stage>(
         (H.state host.new))) }
     ensures undamaged { (w : World) → IsAtWorld w store.old.held (H.state host.old) → IfErr result IsNoDamage }
     ensures usable { OnOk result (MayCall store.new (H.state host.new)) }
+    ensures by_journal { IsByJournal store.old.held (H.state host.old) → (IsErrOf result EndErr.Host → ⊥) → IsByJournal store.new.held (H.state host.new) }
     ensures at { (w : World) → IsAtWorld w store.old.held (H.state host.old) → OnOk result (IsAtSilently store.new.held (H.state host.old) (H.state host.new)) }
     ensures missed { IfOk result (IfNoFile (Rose (T.staged stage.old).misses (T.staged stage.new).misses)) }
     ensures idle { IfErr result (λ why. IsIdle why store.old store.new (T.staged stage.old) (T.staged stage.new) (H.state host.old) (H.state host.new)) }
@@ -231,6 +236,7 @@ pub fn drop_cvd<H: Host>(store: &mut Store, host: &mut H, cvd: Txt) -> Result<Re
     ensures host_alone { IsErrOf result EndErr.Stage → ⊥ }
     ensures undamaged { IfErr result IsNoDamage }
     ensures usable { OnOk result (MayCall store.new (H.state host.new)) }
+    ensures by_journal { IsByJournal store.old.held (H.state host.old) → (IsErrOf result EndErr.Host → ⊥) → IsByJournal store.new.held (H.state host.new) }
     ensures at { (w : World) → IsAtWorld w store.old.held (H.state host.old) → OnOk result (IsAtSilently store.new.held (H.state host.old) (H.state host.new)) }
     ensures seen { IfOk result (IfNoFile ⊥) }
     ensures acts { (w : World) (s : Session) → IsAtWorld w store.old.held (H.state host.old)

@@ -8,7 +8,7 @@ ghost use Rattle.ov_model.specs.declared.reply.Reply.TheVariants as says;
 ghost use Rattle.ov_core.specs.AtWorld.{IsAtWorld};
 ghost use Rattle.law_runs.specs.Serving.{session_of};
 ghost use Rattle.ov_fetch.specs.Extents.{Looked};
-ghost use Rattle.ov_store.specs.Scanning.{IsUndamaged, IsUnscanned, scan_off, set_in};
+ghost use Rattle.ov_store.specs.Scanning.{IsDamagedIn, IsUndamaged, IsUnscanned, scan_off, set_in};
 ghost use Rattle.ov_store.specs.declared.errors.StoreErr.{StoreErr as StoreErrValue};
 ghost use Rattle.ov_session.specs.Bounds.{bytes_in};
 ghost use Rattle.ov_session.specs.Standing.{IsIdle};
@@ -37,6 +37,8 @@ fn merged<H: Host>(
     ensures fetched { (H.state host.new).fetched ≤ (H.state host.old).fetched + bytes_in (set_in store.now.held.numbers cvd.now) vids.now }
     ensures why { IfErr result (IsUnscanned (scan_off store.now.held.numbers cvd.now vids.now) (set_in store.now.held.numbers cvd.now) vids.now (H.state host.old) (H.state host.new)) }
     ensures allowed { OnOk result (scan_off store.now.held.numbers cvd.now vids.now ≡ None) }
+    ensures whole { (page : ℕ) → (H.state host.old).tells ≡ true
+        → OnOk result (IsDamagedIn (set_in store.now.held.numbers cvd.now) vids.now (H.state host.old) page → ⊥) }
     ensures world { (w : World) (d : Dataset) → IsAtWorld w store.now.held (H.state host.old) → set_named w cvd.now ≡ Some d
         → MatchResult result (IsMergeOf d vids.now) IsUndamaged }
 {
@@ -98,6 +100,8 @@ pub fn checkout<H: Host, T: Stage>(
     ensures stage { IsErrOf result EndErr.Stage → Rose (T.staged stage.old).faults (T.staged stage.new).faults }
     ensures damaged { IfErr result (IsDamageOf (IsDamaged (asks.Checkout cvd vids.now file None) (T.staged stage.old) store.now.held
         (H.state host.new))) }
+    ensures whole { (page : ℕ) → (H.state host.old).tells ≡ true
+        → OnOk result (IsDamaged (asks.Checkout cvd vids.now file None) (T.staged stage.old) store.now.held (H.state host.old) page → ⊥) }
     ensures undamaged { (w : World) → IsAtWorld w store.now.held (H.state host.old) → IfErr result IsNoDamage }
     ensures seen { IfOk result (IfNoFile ⊥) }
     ensures idle { IfErr result (λ why. IsIdle why store.now store.now (T.staged stage.old) (T.staged stage.new) (H.state host.old) (H.state host.new)) }

@@ -11,13 +11,14 @@ ghost use Rattle.ov_model.specs.Replies.{reply_text};
 ghost use Rattle.ov_model.specs.World.{World};
 ghost use Rattle.ov_value.specs.Naming.{is_name};
 ghost use Rattle.ov_core.specs.AtWorld.{IsAtWorld};
+ghost use Rattle.ov_core.specs.Held.{IsByJournal};
 ghost use Rattle.law_runs.specs.Serving.{Serves, is_error as is_error_of, session_of};
 ghost use Rattle.ov_store.specs.Kept.{Kept, MayCall};
 ghost use Rattle.ov_store.specs.declared.errors.StoreErr.{StoreErr};
 ghost use Rattle.ov_session.specs.Bounds.{IsReading, IsReadingCommand, command_fetch, command_off, line_off, may_fetch};
 ghost use Rattle.ov_session.specs.Replying.{IsReplied};
 ghost use Rattle.ov_session.specs.Standing.{IsAtSilently, IsAtSome, IsIdle};
-ghost use Rattle.ov_session.specs.Commands.{Acts, Attended, Goes, IfNoFile, IsDamageOf, IsDamaged, IsNoDamage, IsSaid, IsUnsaid, is_comment_in, is_comment_of, is_refused};
+ghost use Rattle.ov_session.specs.Commands.{Acts, Attended, Goes, IfNoFile, IsDamageOf, IsDamaged, IsNoDamage, IsSaid, IsUnsaid, MeetsDamage, is_comment_in, is_comment_of, is_refused};
 
 use crate::changing::{commit, drop_cvd, init};
 use crate::errors::EndErr;
@@ -61,7 +62,10 @@ fn answer<H: Host, T: Stage>(
     ensures cause { IsErrOf result EndErr.Host → Rose (H.state host.old).faults (H.state host.new).faults }
     ensures stage { IsErrOf result EndErr.Stage → Rose (T.staged stage.old).faults (T.staged stage.new).faults }
     ensures damaged { IfErr result (IsDamageOf (IsDamaged command (T.staged stage.old) store.old.held (H.state host.new))) }
+    ensures whole { (page : ℕ) → (H.state host.old).tells ≡ true
+        → OnOk result (MeetsDamage command (T.staged stage.old) store.old.held (H.state host.old) page → ⊥) }
     ensures usable { OnOk result (MayCall store.new (H.state host.new)) }
+    ensures by_journal { IsByJournal store.old.held (H.state host.old) → (IsErrOf result EndErr.Host → ⊥) → IsByJournal store.new.held (H.state host.new) }
     ensures at { (w : World) → IsAtWorld w store.old.held (H.state host.old) → OnOk result (IsAtSilently store.new.held (H.state host.old) (H.state host.new)) }
     ensures missed { IfOk result (IfNoFile (Rose (T.staged stage.old).misses (T.staged stage.new).misses)) }
     ensures idle { IfErr result (λ why. IsIdle why store.old store.new (T.staged stage.old) (T.staged stage.new) (H.state host.old) (H.state host.new)) }
@@ -163,9 +167,12 @@ pub fn serve<H: Host, T: Stage>(
     ensures stage { IsErrOf result EndErr.Stage → Rose (T.staged stage.old).faults (T.staged stage.new).faults }
     ensures damaged { IfErr result (IsDamageOf (λ page. (command : CommandValue) × (line_of built_forms line.now ≡ Asks command)
         × IsDamaged command (T.staged stage.old) store.old.held (H.state host.new) page)) }
+    ensures whole { (command : CommandValue) (page : ℕ) → line_of built_forms line.now ≡ Asks command → (H.state host.old).tells ≡ true
+        → OnOk result (MeetsDamage command (T.staged stage.old) store.old.held (H.state host.old) page → ⊥) }
     ensures idle { IfErr result (λ why. IsIdle why store.old store.new (T.staged stage.old) (T.staged stage.new) (H.state host.old) (H.state host.new)) }
     ensures undamaged { (w : World) → IsAtWorld w store.old.held (H.state host.old) → IfErr result IsNoDamage }
     ensures usable { OnOk result (MayCall store.new (H.state host.new)) }
+    ensures by_journal { IsByJournal store.old.held (H.state host.old) → (IsErrOf result EndErr.Host → ⊥) → IsByJournal store.new.held (H.state host.new) }
     ensures at { (w : World) → IsAtWorld w store.old.held (H.state host.old) → OnOk result (IsAtSome store.new.held (H.state host.new)) }
     ensures user { user.new ≡ user.old }
     ensures comment { IfOk result (λ served. is_comment_of served ≡ is_comment_in (line_of built_forms line.now)) }

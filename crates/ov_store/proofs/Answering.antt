@@ -44,7 +44,7 @@ pub why_unstored : (off : Option StoreErr) (b : Bringing) (held : Held) (old new
 why_unstored off b held old new why.Host none is = is
 why_unstored off b held old new why.Memory none is = is
 why_unstored off b held old new (why.Full pages) none is = (none, is)
-why_unstored off b held old new why.JournalFull none is = (none, is)
+why_unstored off b held old new why.JournalFull none is = (none, is.0, is.1)
 why_unstored off b held old new (why.Damaged area at) none is = absurd is
 why_unstored off b held old new why.NoCvd none is = absurd is
 why_unstored off b held old new why.CvdExists none is = absurd is

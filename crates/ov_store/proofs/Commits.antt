@@ -6,7 +6,7 @@ use Rattle.std.specs.Option.{option_map, option_or}
 use Rattle.std.proofs.lemmas.List.{length-append}
 use Rattle.std.proofs.lemmas.List.Elements.{All-cons, All-nil, All-head, All-tail}
 use Rattle.ov_event.specs.declared.event.Event as raw
-use Rattle.ov_host.specs.Host.{Rose, State}
+use Rattle.ov_host.specs.Host.{State}
 use Rattle.ov_segment.specs.declared.numbered.Record.{Record}
 use Rattle.ov_model.specs.Assigned.{stored, stored_parents}
 use Rattle.ov_model.specs.Book.{Row, Version}
@@ -22,7 +22,7 @@ use Rattle.ov_model.proofs.Growing.{order_of_more, length_recs}
 use Rattle.ov_records.specs.Records.{lists_of, pairs_of}
 use Rattle.ov_fetch.specs.declared.errors.FetchErr.{FetchErr}
 use Rattle.ov_fetch.specs.declared.errors.FetchErr.TheVariants as fetch
-use Rattle.ov_fetch.specs.Extents.{Looked, page_bytes}
+use Rattle.ov_fetch.specs.Extents.{page_bytes}
 use Rattle.ov_rows.specs.Refusing.{rows_off}
 use Rattle.ov_rows.specs.declared.rows_err.RowsErr.{RowsErr}
 use Rattle.ov_rows.specs.declared.rows_err.RowsErr.TheVariants as rows_err
@@ -39,8 +39,7 @@ use Rattle.ov_parents.specs.Parents.{IsParent, RefusesParents}
 use Rattle.ov_new_version.specs.declared.errors.CommitErr.{CommitErr}
 use Rattle.ov_new_version.specs.declared.errors.CommitErr.TheVariants as commit
 use Rattle.ov_new_version.specs.Asked.{Asked, rids_of}
-use Rattle.ov_new_version.specs.Commits.{IsCommitOf, Refuses}
-use Rattle.ov_new_version.specs.Joined.{IsReadOf, RefusesJoined, joined_of}
+use Rattle.ov_new_version.specs.Commits.{Refuses}
 use Rattle.ov_new_version.specs.OfWorld.{IsAnswered, IsSpared, records_with}
 use Rattle.ov_core.specs.Brought.{content}
 use Rattle.ov_core.specs.Held.{Held}
@@ -154,7 +153,7 @@ refuses_unready s held name set wish u parents (commit.Damaged page) found off a
   refl,
   off,
   subst (IfSet (λ x. IsDamagedAt x wish s page)) (sym found)
-      (λ told. inr (parents, are, is told)),
+      (λ told. inr (parents, are, is.0, is.1 told)),
 )
 refuses_unready s held name set wish u parents commit.TooManyRecords found off are few is =
     (off, subst (IfSet (λ x. HasTooMany x wish s)) (sym found) (record { parents = parents; are = are; many = is }))

@@ -168,7 +168,7 @@ unstored_uncommitted held name set wish s t u b fresh why.Memory found off by ke
 unstored_uncommitted held name set wish s t u b fresh (why.Full pages) found off by kept is =
     (off, subst (IfSet (λ x. FindsNoRun x wish s held pages)) (sym found) (record { brought = b; fresh = fresh; by = by; full = is }))
 unstored_uncommitted held name set wish s t u b fresh why.JournalFull found off by kept is =
-    (off, subst (IfSet (λ x. FindsNoRecord x wish s held)) (sym found) (record { brought = b; fresh = fresh; by = by; passes = is }))
+    (off, subst (IfSet (λ x. FindsNoRecord x wish s held)) (sym found) (record { brought = b; fresh = fresh; by = by; runs = is.0; passes = is.1 }))
 unstored_uncommitted held name set wish s t u b fresh (why.Damaged area at) found off by kept is = absurd is
 unstored_uncommitted held name set wish s t u b fresh why.TooManyRecords found off by kept is = absurd is
 unstored_uncommitted held name set wish s t u b fresh why.NoCvd found off by kept is = absurd is

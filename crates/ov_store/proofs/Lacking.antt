@@ -155,7 +155,7 @@ module _ (entry : Entry) (past : List Made) (held : Held) (m : Move) (w : World)
   unstored_lacks b s t why.Memory unplaced brings is = tt
   unstored_lacks b s t (why.Damaged area at) unplaced brings is = absurd is
   unstored_lacks b s t (why.Full pages) unplaced brings is = full_is_licensed entry past held m w b pages within unplaced brings is
-  unstored_lacks b s t why.JournalFull unplaced brings is = passes_is_licensed entry past held m w b within unplaced brings is
+  unstored_lacks b s t why.JournalFull unplaced brings is = passes_is_licensed entry past held m w b within unplaced brings is.1
   unstored_lacks b s t why.NoCvd unplaced brings is = absurd is
   unstored_lacks b s t why.CvdExists unplaced brings is = absurd is
   unstored_lacks b s t (why.NoVersion vid) unplaced brings is = absurd is

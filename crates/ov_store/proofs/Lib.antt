@@ -15,3 +15,5 @@ pub mod Readying
 pub mod Finishing
 pub mod Deciding
 pub mod Lacking
+pub mod Undamaged
+pub mod Journals

@@ -1,5 +1,5 @@
 -- A version is made ready from what was read of its parents.
-use Rattle.std.proofs.Common.{◌≡◌, ◌≢◌, ◌∙◌, ◌≤◌, ◌<◌, ◌+◌, ◌^◌, ℕ, true, List, [], ◌∷◌, length, refl, ap, subst, arith}
+use Rattle.std.proofs.Common.{◌≡◌, ◌∙◌, ◌≤◌, ◌<◌, ◌^◌, ℕ, true, List, length, ap, subst, arith}
 use Rattle.std.specs.Prelude.{IsUtf8, Some, None}
 use Rattle.std.specs.List.{All, AllZip}
 use Rattle.ov_event.specs.declared.event.Event as raw
@@ -13,8 +13,8 @@ use Rattle.ov_catalog.specs.Reached.{AreParents, AreRows, Fits}
 use Rattle.ov_catalog.specs.Stands.{asked_event}
 use Rattle.ov_fetch.specs.declared.errors.FetchErr.{FetchErr}
 use Rattle.ov_fetch.specs.declared.errors.FetchErr.TheVariants as fetch
-use Rattle.ov_fetch.specs.Extents.{Looked, page_bytes}
-use Rattle.law_commits.specs.Agreeing.{EachAgrees, ParentsAgree}
+use Rattle.ov_fetch.specs.Extents.{page_bytes}
+use Rattle.law_commits.specs.Agreeing.{ParentsAgree}
 use Rattle.ov_read.specs.Agreement.{IsThere}
 use Rattle.ov_read.specs.OfWorld.{IsSetOf}
 use Rattle.ov_parents.specs.Parents.{IsParent, RefusesParents}

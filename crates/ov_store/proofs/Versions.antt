@@ -133,6 +133,25 @@ vids_undamaged count vids why.TooManyCvds is = tt
 vids_undamaged count vids why.NoNumbers is = tt
 vids_undamaged count vids (why.FormatOne row) is = tt
 
+-- no versions are refused for want of memory alone
+pub no_vids : (count : ℕ) (off : StoreErr) → IsVidOff count [] off → off ≡ why.Memory
+no_vids count why.Memory is = refl
+no_vids count why.Host is = cc
+no_vids count (why.Damaged area place) is = cc
+no_vids count (why.Full pages) is = cc
+no_vids count why.JournalFull is = cc
+no_vids count why.NoCvd is = cc
+no_vids count why.CvdExists is = cc
+no_vids count (why.NoVersion vid) is = cc
+no_vids count (why.RepeatedVersion vid) is = cc
+no_vids count (why.DuplicateKey row) is = cc
+no_vids count why.TooManyVersions is = cc
+no_vids count why.TooManyRecords is = cc
+no_vids count why.TooManyRows is = cc
+no_vids count why.TooManyCvds is = cc
+no_vids count why.NoNumbers is = cc
+no_vids count (why.FormatOne row) is = cc
+
 -- ---- as parents
 
 are_there : (count : ℕ) (before vids : List ℕ) → vids_off count before vids ≡ None → AreThere count vids

@@ -14,7 +14,7 @@ use Rattle.ov_catalog.specs.Raw.{event_in}
 use Rattle.ov_core.specs.declared.brought.Brought.{Brought}
 use Rattle.ov_core.specs.Brought.{IsUnplaced, with_extents}
 use Rattle.ov_core.specs.Held.{Held}
-use Rattle.ov_core.specs.Rooms.{ArePlaced, IsFull, PassesJournal}
+use Rattle.ov_core.specs.Rooms.{ArePlaced, HaveRuns, IsFull, PassesJournal}
 use Rattle.ov_store.specs.declared.errors.StoreErr.{StoreErr}
 use Rattle.ov_store.specs.declared.errors.StoreErr.TheVariants as why
 
@@ -40,12 +40,12 @@ pub record IsReady (b : Brought) (held : Held) : Type 0 where
   pub event : IsEvent b.event
   pub applies : first_off b.event held.numbers ≡ None
 
--- Refusals by numbers come first, then those for want of room: of pages, and of the journal.
+-- Refusals by numbers come first, then those for want of room: of pages, and only then of the journal.
 abbrev pub IsWhy : Option StoreErr → Bringing → Held → State → State → StoreErr → Type 0
 IsWhy off b held old new why.Host = Rose old.faults new.faults
 IsWhy off b held old new why.Memory = Unit {0}
 IsWhy off b held old new (why.Full pages) = (off ≡ None) × IsFull (live held.numbers) b.list b.segment pages
-IsWhy off b held old new why.JournalFull = (off ≡ None) × PassesJournal held b.event
+IsWhy off b held old new why.JournalFull = (off ≡ None) × HaveRuns (live held.numbers) b.list b.segment × PassesJournal held b.event
 IsWhy off b held old new other = off ≡ Some other
 
 -- why what was brought isn't stored
@@ -53,5 +53,5 @@ abbrev pub IsUnstored : Held → Bringing → State → State → StoreErr → T
 IsUnstored held b old new why.Host = Rose old.faults new.faults
 IsUnstored held b old new why.Memory = Unit {0}
 IsUnstored held b old new (why.Full pages) = IsFull (live held.numbers) b.list b.segment pages
-IsUnstored held b old new why.JournalFull = PassesJournal held b.event
+IsUnstored held b old new why.JournalFull = HaveRuns (live held.numbers) b.list b.segment × PassesJournal held b.event
 IsUnstored held b old new _ = ⊥

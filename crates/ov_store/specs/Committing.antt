@@ -21,14 +21,14 @@ use Rattle.ov_catalog.specs.Extents.{live}
 use Rattle.ov_catalog.specs.Numbers.{SetNumbers}
 use Rattle.ov_catalog.specs.Reached.{Fits}
 use Rattle.ov_core.specs.Held.{Held}
-use Rattle.ov_core.specs.Rooms.{IsFull, PassesJournal}
+use Rattle.ov_core.specs.Rooms.{HaveRuns, IsFull, PassesJournal}
 use Rattle.ov_fetch.specs.declared.errors.FetchErr.TheVariants as fetch
 use Rattle.ov_fetch.specs.Extents.{page_bytes}
 use Rattle.ov_rows.specs.Refusing.{rows_off}
 use Rattle.law_commits.specs.Agreeing.{ParentsAgree}
 use Rattle.ov_parents.specs.Parents.{IsParent, RefusesParents}
 use Rattle.ov_new_version.specs.Asked.{Asked, fresh_of}
-use Rattle.ov_new_version.specs.Commits.{IsCommitOf, IsTooLong}
+use Rattle.ov_new_version.specs.Commits.{HasRecords, IsCommitOf, IsTooLong}
 use Rattle.ov_new_version.specs.Joined.{RefusesJoined, joined_of}
 use Rattle.ov_store.specs.declared.errors.StoreErr.{StoreErr}
 use Rattle.ov_store.specs.declared.errors.StoreErr.TheVariants as why
@@ -91,10 +91,10 @@ pub record IsCommitted (s : Set) (wish : Wish) (t : State) (old new : Held) (mad
 
 -- ---- why not
 
--- a parent is damaged, or the partition that is joined doesn't agree
+-- a parent is damaged, or the partition that is joined doesn't agree, which is looked at once the records were counted
 abbrev pub IsDamagedAt : Set → Wish → State → ℕ → Type 0
 IsDamagedAt s wish t page = t.tells ≡ true → RefusesParents (fetch.Damaged page) (page_bytes t) s wish.vids
-    ⊎ ((parents : List (List Record)) × AreRead s wish t parents
+    ⊎ ((parents : List (List Record)) × AreRead s wish t parents × HasRecords (asked_of s wish parents)
     × RefusesJoined (fetch.Damaged page) s (page_bytes t) (joined_of (asked_of s wish parents)))
 
 pub record HasTooMany (s : Set) (wish : Wish) (t : State) : Type 0 where
@@ -112,6 +112,7 @@ pub record FindsNoRecord (s : Set) (wish : Wish) (t : State) (held : Held) : Typ
   pub brought : Bringing
   pub fresh : ℕ
   pub by : IsCommitBy s wish t brought fresh
+  pub runs : HaveRuns (live held.numbers) brought.list brought.segment
   pub passes : PassesJournal held brought.event
 
 abbrev pub IfSet : (Set → Type 0) → Option Set → Type 0

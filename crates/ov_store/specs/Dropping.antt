@@ -25,9 +25,11 @@ without (Some d) w = moved (Drop d.cvd.number) w
 abbrev pub dropped : List ℕ → World → World
 dropped name w = without (set_named w name) w
 
+-- the dataset went: it was there, and the journal had room
 pub record IsDropped (name : List ℕ) (old new : Held) : Type 0 where
   pub cvd : ℕ
   pub named : number_named old.numbers name ≡ Some cvd
+  pub fits : PassesJournal old (says.Drop cvd) → ⊥
   pub gone : new.numbers ≡ applied (event_in (says.Drop cvd)) old.numbers
 
 pub record HasNoDrop (name : List ℕ) (held : Held) : Type 0 where

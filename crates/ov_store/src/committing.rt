@@ -12,7 +12,10 @@ ghost use Rattle.ov_catalog.specs.Ready.{IsSet};
 ghost use Rattle.ov_catalog.specs.Sets.{set_in as numbers_of};
 ghost use Rattle.ov_core.specs.AtWorld.{IsAtNext, IsAtWorld, IsEither};
 ghost use Rattle.ov_core.specs.Brought.{Brings};
-ghost use Rattle.ov_fetch.specs.Extents.{Looked};
+ghost use Rattle.ov_core.specs.Held.{IsByJournal};
+ghost use Rattle.ov_fetch.specs.declared.errors.FetchErr.TheVariants as fetch;
+ghost use Rattle.ov_fetch.specs.Extents.{Looked, page_bytes};
+ghost use Rattle.ov_parents.specs.Parents.{RefusesParents};
 ghost use Rattle.ov_read.specs.Sizes.{bytes_for};
 ghost use Rattle.ov_store.specs.Beginning.{IsShort};
 ghost use Rattle.ov_store.specs.Changes.{IsReady, bringing_of};
@@ -223,8 +226,11 @@ impl Store {
         ensures allowed { OnOk result (commit_off self.old.held name.now parents.now rows.items ≡ None) }
         ensures why { IfErr result (IsUncommitted self.old.held name.now (record { vids = parents.now; message = message.now; rows = rows.items })
             (H.state host.old) (H.state host.new)) }
+        ensures undamaged { (s : Set) → (H.state host.old).tells ≡ true → set_in self.old.held.numbers name.now ≡ Some s
+            → OnOk result ((page : ℕ) → RefusesParents (fetch.Damaged page) (page_bytes (H.state host.old)) s parents.now → ⊥) }
         ensures stays { IfErr result (λ off. Stays off self.old self.new (H.state host.old) (H.state host.new)) }
         ensures usable { OnOk result (MayCall self.new (H.state host.new)) }
+        ensures by_journal { IsByJournal self.old.held (H.state host.old) → OnOk result (IsByJournal self.new.held (H.state host.new)) }
         ensures unusable { IsErrOf result StoreErr.Host → self.new.usable ≡ false }
 
         // Where the store is at a World: a stop at any moment, what was made, how many records are new, and why not.

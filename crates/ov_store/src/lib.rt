@@ -13,5 +13,5 @@ mod store;
 mod unready;
 
 pub use errors::StoreErr;
-pub use laws::refusals_are_the_worlds;
+pub use laws::{refusals_are_the_worlds, what_a_commit_reads_is_whole};
 pub use store::{Committed, Store};

@@ -1,6 +1,6 @@
 // What a store reads.
 
-ghost use Rattle.std.specs.Prelude.{◌≡◌, ◌≤◌, ◌+◌, ℕ, true, None, Some, IfOk, IfErr, OnOk, MatchResult, map};
+ghost use Rattle.std.specs.Prelude.{◌≡◌, ◌≤◌, ◌+◌, ℕ, true, [], None, Some, IfOk, IfErr, OnOk, MatchResult, map};
 ghost use Rattle.std.specs.List.{AllZip};
 ghost use Rattle.ov_host.specs.declared.area.Extent.{Extent as ExtentValue};
 ghost use Rattle.ov_catalog.specs.Numbers.{SetNumbers};
@@ -9,8 +9,10 @@ ghost use Rattle.ov_fetch.specs.Scans.{IsSound, rows_at};
 ghost use Rattle.ov_model.specs.Records.{rows_at as rows_of};
 ghost use Rattle.ov_model.specs.World.{Dataset, World, set_named};
 ghost use Rattle.ov_core.specs.AtWorld.{IsAtWorld};
+ghost use Rattle.ov_read.specs.Damages.{IsDamage};
 ghost use Rattle.ov_read.specs.Found.{HasRows, IsScanned};
 ghost use Rattle.ov_read.specs.Sizes.{bytes_for};
+ghost use Rattle.ov_store.specs.declared.errors.StoreErr.TheVariants as refused;
 ghost use Rattle.ov_store.specs.Scanning.{IsUndamaged, IsUnscanned, scan_off, set_in};
 
 use crate::errors::StoreErr;
@@ -26,7 +28,8 @@ impl Store {
     ///
     /// Refusals in their order: `NoCvd`, then per version from the left `NoVersion` and `RepeatedVersion`; before these nothing is
     /// read. Then `Damaged` exactly where a list or a segment that is read is damaged, with the first page of one such. A scan
-    /// reads the list of each version once, and once each partition that serves one of them, and nothing else.
+    /// reads the list of each version once, and once each partition that serves one of them, and nothing else. A scan of no
+    /// versions makes no call of the host, and nothing but memory can be wanting for it.
     pub fn scan<H: Host>(&self, host: &mut H, name: &str, vids: &[u64]) -> Result<Scan, StoreErr>
         requires usable { self.now.usable ≡ true }
         ensures looked { Looked (H.state host.old) (H.state host.new) }
@@ -34,12 +37,17 @@ impl Store {
         ensures why { IfErr result (IsUnscanned (scan_off self.now.held.numbers name.now vids.now) (set_in self.now.held.numbers name.now) vids.now (H.state host.old) (H.state host.new)) }
         ensures fetched { (s : SetNumbers ExtentValue ExtentValue) → set_in self.now.held.numbers name.now ≡ Some s
             → (H.state host.new).fetched ≤ (H.state host.old).fetched + bytes_for s vids.now }
+        ensures still { vids.now ≡ [] → H.state host.new ≡ H.state host.old }
+        ensures idle { (s : SetNumbers ExtentValue ExtentValue) → set_in self.now.held.numbers name.now ≡ Some s → vids.now ≡ []
+            → IfErr result (λ off. off ≡ refused.Memory) }
         ensures vids { IfOk result (λ scan. scan.vids ≡ vids.now) }
         ensures sound { (s : SetNumbers ExtentValue ExtentValue) → set_in self.now.held.numbers name.now ≡ Some s → IfOk result (IsSound s.schema) }
         ensures rows { (s : SetNumbers ExtentValue ExtentValue) → set_in self.now.held.numbers name.now ≡ Some s
             → IfOk result (λ scan. AllZip (HasRows s) vids.now scan.picks) }
         ensures scanned { (s : SetNumbers ExtentValue ExtentValue) → (H.state host.old).tells ≡ true → set_in self.now.held.numbers name.now ≡ Some s
             → IfOk result (λ scan. AllZip (IsScanned (page_bytes (H.state host.old)) s scan.records) vids.now scan.picks) }
+        ensures undamaged { (s : SetNumbers ExtentValue ExtentValue) → (H.state host.old).tells ≡ true → set_in self.now.held.numbers name.now ≡ Some s
+            → OnOk result ((page : ℕ) → IsDamage (page_bytes (H.state host.old)) s vids.now page → ⊥) }
 
         // At a World nothing is damaged, and the rows are those of the versions.
         ensures world { (w : World) (d : Dataset) → IsAtWorld w self.now.held (H.state host.old) → set_named w name.now ≡ Some d

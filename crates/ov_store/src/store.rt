@@ -21,6 +21,7 @@ ghost use Rattle.ov_model.specs.declared.refusal.Refusal.{Refusal};
 ghost use Rattle.law_room.specs.Room.{Entry, IsWithin, Made};
 ghost use Rattle.ov_core.specs.AtWorld.{IsAtNext, IsAtWorld, IsEither};
 ghost use Rattle.ov_core.specs.Brought.{Brings};
+ghost use Rattle.ov_core.specs.Held.{IsByJournal};
 ghost use Rattle.ov_store.specs.declared.errors.StoreErr.TheVariants as why;
 ghost use Rattle.ov_store.specs.Beginning.{first_move, first_of, init_off, IsShort};
 ghost use Rattle.ov_store.specs.Changes.{IsDone, IsReady, IsUnstored, IsWhy, bringing_of};
@@ -92,6 +93,7 @@ impl Store {
             (λ why. Refuses why (H.state host.old).tape.disk (H.state host.new).tape.disk) }
         ensures world { (w : World) → (H.state host.old).tells ≡ true → StandsAs w (as_read (H.state host.old).tape.disk)
             → MatchResult result (λ store. IsAtWorld w store.held (H.state host.new)) IsOutside }
+        ensures by_journal { (H.state host.old).tells ≡ true → IfOk result (λ store. IsByJournal store.held (H.state host.new)) }
         ensures left { (H.state host.old).tells ≡ true → Only (H.state host.old).tape (H.state host.new).tape
             (IsLeftByOpen (H.state host.old).tape.disk) }
         ensures stops { (w : World) → (H.state host.old).tells ≡ true → AllSettled (H.state host.old).tape.disk
@@ -167,6 +169,7 @@ impl Store {
             → OnOk result (IsAtNext (moved m w) self.new.held (H.state host.old) (H.state host.new)) }
         ensures grows { (w : World) → IsAtWorld w self.old.held (H.state host.old)
             → OnOk result (self.new.held.journal.end ≤ self.old.held.journal.end + 6 + length (spelling brought.event)) }
+        ensures by_journal { IsByJournal self.old.held (H.state host.old) → OnOk result (IsByJournal self.new.held (H.state host.new)) }
     {
         match self.core.add(self.alloc, host, brought) {
             Ok(()) => Ok(()),
@@ -235,6 +238,7 @@ impl Store {
             self.old.held (H.state host.old) (H.state host.new)) }
         ensures stays { IfErr result (λ off. Stays off self.old self.new (H.state host.old) (H.state host.new)) }
         ensures usable { OnOk result (MayCall self.new (H.state host.new)) }
+        ensures by_journal { IsByJournal self.old.held (H.state host.old) → OnOk result (IsByJournal self.new.held (H.state host.new)) }
         ensures unusable { IsErrOf result StoreErr.Host → self.new.usable ≡ false }
         ensures stops { (w : World) → IsAtWorld w self.old.held (H.state host.old)
             → Only (H.state host.old).tape (H.state host.new).tape
@@ -282,6 +286,7 @@ impl Store {
         ensures why { IfErr result (IsKept name.now self.old.held (H.state host.old) (H.state host.new)) }
         ensures stays { IfErr result (λ off. Stays off self.old self.new (H.state host.old) (H.state host.new)) }
         ensures usable { OnOk result (MayCall self.new (H.state host.new)) }
+        ensures by_journal { IsByJournal self.old.held (H.state host.old) → OnOk result (IsByJournal self.new.held (H.state host.new)) }
         ensures unusable { IsErrOf result StoreErr.Host → self.new.usable ≡ false }
         ensures stops { (w : World) → IsAtWorld w self.old.held (H.state host.old)
             → Only (H.state host.old).tape (H.state host.new).tape (IsEither w (dropped name.now w) (H.state host.old).tape.disk.printed) }

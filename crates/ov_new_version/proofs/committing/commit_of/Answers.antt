@@ -1,4 +1,4 @@
-use Rattle.std.proofs.Common.{rules, ◌≡◌, ◌≤◌, ◌<◌, ◌+◌, ◌^◌, ℕ, List, [], true, length, sym, ◌∙◌, ap, subst, arith}
+use Rattle.std.proofs.Common.{rules, ◌≡◌, ◌≤◌, ◌<◌, ◌+◌, ◌^◌, [], true, length, sym, ◌∙◌, ap, subst}
 use Rattle.ov_model.specs.Assigned.{fresh_rows}
 use Rattle.ov_records.specs.Records.{lists_of}
 use Rattle.ov_place.specs.declared.place_facts.Place.TheVariants.{Own}
@@ -50,7 +50,7 @@ returns-in_err-held-clause-refuses c =
     in let served : IsServed a.vids (part_at (set_in c.args.d.now) c.in_ok-place.place) =
     joined_served a (part_at (set_in c.args.d.now) c.in_ok-place.place) c.requires.named.some (as_many (set_in c.args.d.now) c.args.wanted.vids.now c.args.wanted.parents.now c.requires.agree.each) part
     in err_on (λ why. Refuses why a told area) c.from_residual-in_err-held.result c.in_err-held.field-0.0 c.from_residual-in_err-held.ensures
-    (not_held a told area (part_at (set_in c.args.d.now) c.in_ok-place.place) c.in_err-held.field-0.0 part (λ tells. c.in_err-held.ensures.answer area a.vids (if_told told area a.set a.vids c.args.wanted.held.now have tells) served) c.in_err-held.ensures.cause)
+    (not_held a (subst (λ rows. c.args.d.now.records + fresh_rows rows (lists_of c.args.wanted.parents.now) ≤ 2 ^ 31) c.deref.ensures.value c.in_ok-made.ensures.room) told area (part_at (set_in c.args.d.now) c.in_ok-place.place) c.in_err-held.field-0.0 part (λ tells. c.in_err-held.ensures.answer area a.vids (if_told told area a.set a.vids c.args.wanted.held.now have tells) served) c.in_err-held.ensures.cause)
 
 pub returns-in_err-held-clause-world : goal.returns-in_err-held-clause-world
 returns-in_err-held-clause-world c =
@@ -96,7 +96,7 @@ returns-in_err-brought-clause-refuses c =
     in let own : c.in_ok-place.place ≡ Own → held ≡ [] = c.in_ok-held.ensures.own
     in let read : told ≡ true → IsReadOf a.set area (joined_of a) held = λ tells. subst (λ o. IsReadOf a.set area o held) part (c.in_ok-held.ensures.answer area a.vids (if_told told area a.set a.vids c.args.wanted.held.now have tells) served)
     in err_on (λ why. Refuses why a told area) c.from_residual-in_err-brought.result (of_write c.in_err-brought.field-0.0) c.from_residual-in_err-brought.ensures
-    (not_written a c.in_ok-made.made c.in_ok-place.place is held own told area c.in_err-brought.field-0.0 c.in_ok-held.ensures.agrees read c.in_err-brought.ensures.cause)
+    (not_written a c.in_ok-made.made c.in_ok-place.place is held own (subst (λ rows. c.args.d.now.records + fresh_rows rows (lists_of c.args.wanted.parents.now) ≤ 2 ^ 31) c.deref.ensures.value c.in_ok-made.ensures.room) told area c.in_err-brought.field-0.0 c.in_ok-held.ensures.agrees read c.in_err-brought.ensures.cause)
 
 pub returns-clause-applies : goal.returns-clause-applies
 returns-clause-applies c =
@@ -135,7 +135,7 @@ returns-clause-is c =
     event_told a c.in_ok-made.made c.in_ok-place.place is held own b.event (c.len.result + 1) b.list.items b.segment.items
     (vid_is c.args.d.now (c.len.result + 1) (ap (λ n. n + 1) count))
     (c.in_ok-brought.ensures.event_is)
-    in commit_is a c.in_ok-made.made c.in_ok-place.place is held own told area b.event b.list.items b.segment.items c.in_ok-held.ensures.agrees read e_is
+    in commit_is a c.in_ok-made.made c.in_ok-place.place is held own (subst (λ rows. c.args.d.now.records + fresh_rows rows (lists_of c.args.wanted.parents.now) ≤ 2 ^ 31) c.deref.ensures.value c.in_ok-made.ensures.room) told area b.event b.list.items b.segment.items c.in_ok-held.ensures.agrees read e_is
     c.in_ok-brought.ensures.list c.in_ok-brought.ensures.segment
 
 pub returns-in_err-brought-clause-world : goal.returns-in_err-brought-clause-world

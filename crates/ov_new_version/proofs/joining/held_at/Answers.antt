@@ -1,4 +1,4 @@
-use Rattle.std.proofs.Common.{◌≡◌, ◌<◌, ℕ, [], List, length, get_or, sym, ◌∙◌, ap, subst, arith}
+use Rattle.std.proofs.Common.{◌≡◌, ◌<◌, ℕ, [], List, length, get_or, sym, ◌∙◌, ap, subst}
 use Rattle.std.specs.Prelude.{None, Some, Result, Ok, Err, IfOk, MatchOption, MatchResult, Option, slice_get}
 use Rattle.ov_host.specs.declared.area.Extent.{Extent}
 use Rattle.ov_layout.specs.declared.part.Part.{Part}
@@ -60,13 +60,13 @@ returns-in-Some-clause-answer c = λ area vids have served.
     in let rids : HaveRids d.schema area here.segments (get_or held c.in-Some.at []) =
     held_of d area vids held c.in-Some.at here have low (subst (λ (ps : List Part). here ≡ get_or ps c.in-Some.at here) c.parts-parts.ensures.parts c.index-parts-at.is) (subst (IsServed vids) is served)
     in subst (λ o. MatchResult c.rids_of.result (IsReadOf s area o) (λ e. RefusesHeld e s area o)) (sym is)
-    (refused c.rids_of.result s area part (c.rids_of.ensures.answer d.schema area (subst (HaveRids d.schema area here.segments) (sym sets) rids)))
+    (refused c.rids_of.result s area part c.rids_of.ensures.agree (c.rids_of.ensures.answer d.schema area (subst (HaveRids d.schema area here.segments) (sym sets) rids)))
   where
-    refused : (r : Result (List ℕ) CommitErr) (s : Numbers) (area : List ℕ) (part : PartNumbers Extent)
+    refused : (r : Result (List ℕ) CommitErr) (s : Numbers) (area : List ℕ) (part : PartNumbers Extent) → IfOk r (IsBorneOut part.records s.records)
         → MatchResult r (IsPartRead s.schema area part.segments) (λ e. RefusesRids e s.schema area part.segments part.records s.records)
         → MatchResult r (IsReadOf s area (Some part)) (λ e. RefusesHeld e s area (Some part))
-    refused (Ok held) s area part is = is
-    refused (Err Memory) s area part is = tt
-    refused (Err (Damaged page)) s area part is = is
-    refused (Err TooManyRecords) s area part is = is
-    refused (Err (TooLong list_pages segment_pages)) s area part is = is
+    refused (Ok held) s area part borne is = (is, borne)
+    refused (Err Memory) s area part borne is = tt
+    refused (Err (Damaged page)) s area part borne is = is
+    refused (Err TooManyRecords) s area part borne is = is
+    refused (Err (TooLong list_pages segment_pages)) s area part borne is = is

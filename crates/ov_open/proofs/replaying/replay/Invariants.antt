@@ -1,5 +1,5 @@
 use Rattle.std.proofs.Common.{take}
-use Rattle.ov_open.specs.Replaying.{IsReplay}
+use Rattle.ov_core.specs.Held.{IsReplay}
 use Rattle.ov_open.proofs.replaying.replay.Given as goal
 
 abbrev pub invariant-loop-nth : goal.invariant-loop-nth

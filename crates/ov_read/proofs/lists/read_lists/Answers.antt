@@ -1,4 +1,4 @@
-use Rattle.std.proofs.Common.{◌-◌, ℕ, List, [], ◌∷◌, ◌++◌, get_or, take, sym, ◌∙◌, subst}
+use Rattle.std.proofs.Common.{◌-◌, ℕ, List, [], ◌∷◌, ◌++◌, length, get_or, take, sym, ◌∙◌, ap, subst, arith}
 use Rattle.std.specs.List.{AllZip}
 use Rattle.std.proofs.lemmas.List.{take_more}
 use Rattle.ov_catalog.specs.Sets.{set_in}
@@ -30,18 +30,20 @@ loop-vid-preserved g c =
     let vid : ℕ = get_or c.args.vids.now c.loop-vid.vid-index 0 in
     let lists : List (List ℕ) = c.loop-vid.lists.items ++ c.in_ok-list_at.field-0 ∷ [] in
     let at : HasLists s0 s2 s (take k vids ++ vid ∷ []) lists =
-    goes_on s0 s1 s2 s (take k vids) vid c.loop-vid.lists.items c.in_ok-list_at.field-0 c.loop-vid.invariant c.in_ok-list_at.ensures.looked c.in_ok-list_at.ensures.fetched c.in_ok-list_at.ensures.agrees c.in_ok-list_at.ensures.answer in
-    rw c.in_ok-push.ensures.items (subst (λ (l : List ℕ). HasLists s0 s2 s l lists) (sym (take_more vids k 0 c.loop-vid-test.true)) at)
+    goes_on s0 s1 s2 s (take k vids) vid c.loop-vid.lists.items c.in_ok-list_at.field-0 c.loop-vid.invariant.0 c.in_ok-list_at.ensures.looked c.in_ok-list_at.ensures.fetched c.in_ok-list_at.ensures.agrees c.in_ok-list_at.ensures.answer in (
+      rw c.in_ok-push.ensures.items (subst (λ (l : List ℕ). HasLists s0 s2 s l lists) (sym (take_more vids k 0 c.loop-vid-test.true)) at),
+      λ none. absurd (omega (arith, c.loop-vid-test.true, ap length none)),
+    )
 
 pub returns-in_err-list_at-clause-fetched : goal.returns-in_err-list_at-clause-fetched
 returns-in_err-list_at-clause-fetched g c =
     within (set_in c.args.d.now) c.args.vids.now c.loop-vid.vid-index (g.H.Host.state c.args.host.now).fetched (g.H.Host.state c.loop-vid.host).fetched (g.H.Host.state c.list_at.new.host).fetched
-    c.loop-vid-test.true c.loop-vid.invariant.fetched c.in_err-list_at.ensures.fetched
+    c.loop-vid-test.true c.loop-vid.invariant.0.fetched c.in_err-list_at.ensures.fetched
 
 pub returns-in_err-push-clause-fetched : goal.returns-in_err-push-clause-fetched
 returns-in_err-push-clause-fetched g c =
     within (set_in c.args.d.now) c.args.vids.now c.loop-vid.vid-index (g.H.Host.state c.args.host.now).fetched (g.H.Host.state c.loop-vid.host).fetched (g.H.Host.state c.list_at.new.host).fetched
-    c.loop-vid-test.true c.loop-vid.invariant.fetched c.in_ok-list_at.ensures.fetched
+    c.loop-vid-test.true c.loop-vid.invariant.0.fetched c.in_ok-list_at.ensures.fetched
 
 pub returns-in_err-list_at-clause-answer : goal.returns-in_err-list_at-clause-answer
 returns-in_err-list_at-clause-answer g c told =
@@ -52,4 +54,4 @@ returns-in_err-list_at-clause-answer g c told =
     passed_on (λ lists. AllZip (λ vid. IsList (page_bytes s0) (list_of s vid)) vids lists.items)
     (λ e. RefusesLists e (page_bytes s0) s vids) c.from_residual-in_err-list_at.result c.in_err-list_at.field-0.0 c.from_residual-in_err-list_at.ensures
     (stops s0 (g.H.Host.state c.loop-vid.host) s vids (take k vids) (get_or vids k 0) c.loop-vid.lists.items
-    c.in_err-list_at.field-0.0 c.loop-vid.invariant (is_among vids k 0 c.loop-vid-test.true) c.in_err-list_at.ensures.answer told)
+    c.in_err-list_at.field-0.0 c.loop-vid.invariant.0 (is_among vids k 0 c.loop-vid-test.true) c.in_err-list_at.ensures.answer told)

@@ -3,6 +3,7 @@ use Rattle.ov_model.specs.Moves.{moved}
 use Rattle.ov_session.proofs.Replying.{result_seen}
 use Rattle.ov_session.proofs.Standing.{at_next, at_refused}
 use Rattle.ov_store.specs.Beginning.{first_move}
+use Rattle.ov_session.proofs.Numbering.{journal_off}
 use Rattle.ov_session.proofs.changing.begin.Goals as goal
 
 pub returns-in-Ok-clause-acts : goal.returns-in-Ok-clause-acts
@@ -32,3 +33,11 @@ returns-in-Ok-clause-seen g c = λ name is. cc
 
 pub returns-in-Err-clause-seen : goal.returns-in-Err-clause-seen
 returns-in-Err-clause-seen g c = result_seen c.args.cvd c.in-Err.off c.refused.result c.refused.ensures.reply
+
+pub returns-in-Ok-clause-by_journal : goal.returns-in-Ok-clause-by_journal
+returns-in-Ok-clause-by_journal g c = λ by fine. c.in-Ok.ensures.by_journal by
+
+pub returns-in-Err-clause-by_journal : goal.returns-in-Err-clause-by_journal
+returns-in-Err-clause-by_journal g c = λ by fine.
+    journal_off c.args.store.now c.init.new.self (g.H.Host.state c.args.host.now) (g.H.Host.state c.init.new.host) by c.args.cvd c.in-Err.off c.refused.result
+    c.refused.ensures.reply c.refused.ensures.end c.in-Err.ensures.stays fine

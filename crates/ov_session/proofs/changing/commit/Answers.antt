@@ -81,3 +81,9 @@ returns-in-Said-clause-at g c = λ w at. at_still w c.args.store.now.held (g.H.H
 
 pub returns-in-Said-clause-missed : goal.returns-in-Said-clause-missed
 returns-in-Said-clause-missed g c = subst (HasMissed (g.T.Stage.staged c.args.stage.now) (g.T.Stage.staged c.rows_for.new.stage)) c.in-Said.is c.in_ok-rows.ensures.missed
+
+pub returns-in_err-rows-clause-by_journal : goal.returns-in_err-rows-clause-by_journal
+returns-in_err-rows-clause-by_journal g c = λ by fine. by
+
+pub returns-in-Said-clause-by_journal : goal.returns-in-Said-clause-by_journal
+returns-in-Said-clause-by_journal g c = λ by fine. by

@@ -74,3 +74,12 @@ returns-in-Err-clause-missed g c = seen_missed _ c.refused.result (result_seen c
 pub returns-in-Err-clause-idle : goal.returns-in-Err-clause-idle
 returns-in-Err-clause-idle g c =
     result_unmoved c.args.store.now c.args.store.now (g.T.Stage.staged c.args.stage.now) (g.T.Stage.staged c.args.stage.now) (g.H.Host.state c.args.host.now) (g.H.Host.state c.args.host.now) c.refused.result (idle_same c.args.store.now (g.H.Host.state c.args.host.now)) refl
+
+pub returns-in_err-rows-in-Ok-clause-by_journal : goal.returns-in_err-rows-in-Ok-clause-by_journal
+returns-in_err-rows-in-Ok-clause-by_journal g c = λ by fine. by
+
+pub returns-in-Refused-clause-by_journal : goal.returns-in-Refused-clause-by_journal
+returns-in-Refused-clause-by_journal g c = λ by fine. by
+
+pub returns-in-Err-clause-by_journal : goal.returns-in-Err-clause-by_journal
+returns-in-Err-clause-by_journal g c = λ by fine. by

@@ -6,6 +6,7 @@ use Rattle.ov_session.proofs.Bounds.{commit_unread, parents_first}
 use Rattle.ov_session.proofs.Replying.{result_seen}
 use Rattle.ov_session.proofs.Standing.{at_next, at_refused, result_idle}
 use Rattle.ov_store.specs.Committing.{committed, parents_off_in}
+use Rattle.ov_session.proofs.Numbering.{journal_off}
 use Rattle.ov_session.proofs.changing.next_version.Goals as goal
 
 pub commit-requires-clause-fit : goal.commit-requires-clause-fit
@@ -82,3 +83,11 @@ pub returns-in-Err-clause-idle : goal.returns-in-Err-clause-idle
 returns-in-Err-clause-idle g c =
     result_idle c.args.store.now c.commit.new.self (g.H.Host.state c.args.host.now) (g.H.Host.state c.commit.new.host) c.in-Err.off c.refused.result
     c.refused.ensures.end c.in-Err.ensures.stays
+
+pub returns-in-Ok-clause-by_journal : goal.returns-in-Ok-clause-by_journal
+returns-in-Ok-clause-by_journal g c = λ by fine. c.in-Ok.ensures.by_journal by
+
+pub returns-in-Err-clause-by_journal : goal.returns-in-Err-clause-by_journal
+returns-in-Err-clause-by_journal g c = λ by fine.
+    journal_off c.args.store.now c.commit.new.self (g.H.Host.state c.args.host.now) (g.H.Host.state c.commit.new.host) by c.args.cvd c.in-Err.off c.refused.result
+    c.refused.ensures.reply c.refused.ensures.end c.in-Err.ensures.stays fine

@@ -12,6 +12,7 @@ use Rattle.ov_session.proofs.Standing.{idle_given, result_unmoved}
 use Rattle.ov_session.specs.Bounds.{bytes_in}
 use Rattle.ov_session.proofs.Lookups.{checkout_given, checkout_off, named_is}
 use Rattle.ov_store.specs.Scanning.{IsUnscanned, scan_off, set_in}
+use Rattle.ov_session.proofs.Meeting.{given_whole, refused_whole}
 use Rattle.ov_session.proofs.reading.checkout.Goals as goal
 
 pub returns-in-Ok-clause-acts : goal.returns-in-Ok-clause-acts
@@ -87,3 +88,13 @@ pub returns-in-Err-clause-damaged : goal.returns-in-Err-clause-damaged
 returns-in-Err-clause-damaged g c =
     scan_damaged c.args.store.now.held c.as_str.result.now c.args.cvd c.args.vids.now (g.T.Stage.staged c.args.stage.now) c.args.file (g.H.Host.state c.args.host.now) (g.H.Host.state c.merged.new.host) c.as_str.ensures.text c.merged.ensures.looked
     c.in-Err.off c.refused.result c.refused.ensures.end c.in-Err.ensures.why
+
+pub returns-in-Ok-clause-whole : goal.returns-in-Ok-clause-whole
+returns-in-Ok-clause-whole g c = λ page told.
+    given_whole c.args.store.now.held c.as_str.result.now c.args.cvd c.args.vids.now c.args.file (g.T.Stage.staged c.args.stage.now) (g.H.Host.state c.args.host.now) (g.H.Host.state c.merged.new.host) page c.as_str.ensures.text c.give.result
+    (c.in-Ok.ensures.whole page told)
+
+pub returns-in-Err-clause-whole : goal.returns-in-Err-clause-whole
+returns-in-Err-clause-whole g c = λ page told.
+    refused_whole c.args.store.now.held c.as_str.result.now c.args.cvd c.args.vids.now c.args.file (g.T.Stage.staged c.args.stage.now) (g.H.Host.state c.args.host.now) (g.H.Host.state c.merged.new.host) page c.as_str.ensures.text c.in-Err.off
+    c.refused.result c.in-Err.ensures.why c.refused.ensures.reply

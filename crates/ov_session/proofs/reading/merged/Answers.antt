@@ -7,6 +7,7 @@ use Rattle.ov_fetch.specs.Scans.{rows_at}
 use Rattle.ov_store.specs.Scanning.{set_in}
 use Rattle.ov_session.proofs.Lookups.{is_merge_of, schema_is}
 use Rattle.ov_session.proofs.Bounds.{fetched_none, fetched_there}
+use Rattle.ov_session.proofs.Meeting.{whole_in}
 use Rattle.ov_session.proofs.reading.merged.Goals as goal
 
 pub returns-in_err-scan-clause-world : goal.returns-in_err-scan-clause-world
@@ -40,3 +41,10 @@ returns-clause-fetched g c =
 
 pub returns-in_default-clause-fetched : goal.returns-in_default-clause-fetched
 returns-in_default-clause-fetched g c = fetched_none _ _
+
+pub returns-clause-whole : goal.returns-clause-whole
+returns-clause-whole g c = λ page told.
+    let found : set_in c.args.store.now.held.numbers c.args.cvd.now ≡ Some (sets.set_in c.in-Some.d.now)
+    = subst (λ (n : Numbers Extent Extent). set_in n c.args.cvd.now ≡ Some (sets.set_in c.in-Some.d.now)) c.catalog.ensures (sym c.in-Some.ensures.found)
+    in whole_in (set_in c.args.store.now.held.numbers c.args.cvd.now) (sets.set_in c.in-Some.d.now) c.args.vids.now (g.H.Host.state c.args.host.now) page found told
+    (c.in_ok-scan.ensures.undamaged (sets.set_in c.in-Some.d.now) told found)

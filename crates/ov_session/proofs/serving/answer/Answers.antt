@@ -14,6 +14,10 @@ use Rattle.ov_session.proofs.Standing.{at_looked, at_still, idle_spared, on_any}
 use Rattle.ov_session.specs.Bounds.{IsReadingCommand, bytes_in, command_fetch, command_off}
 use Rattle.ov_store.specs.Committing.{parents_off_in}
 use Rattle.ov_store.specs.Scanning.{scan_off, set_in}
+use Rattle.ov_session.proofs.Numbering.{journal_looked}
+use Rattle.ov_session.specs.Commands.{IsDamaged, MeetsDamage}
+use Rattle.ov_model.specs.declared.command.Command.TheVariants as asks
+use Rattle.std.specs.Prelude.{OnOk}
 use Rattle.ov_session.proofs.serving.answer.Goals as goal
 
 pub returns-in-Init-clause-acts : goal.returns-in-Init-clause-acts
@@ -147,6 +151,48 @@ returns-in-Ls-clause-at g c = λ w at. at_still w c.args.store.now.held (g.H.Hos
 
 pub returns-in-Ls-clause-missed : goal.returns-in-Ls-clause-missed
 returns-in-Ls-clause-missed g c = λ name is. absurd (c.in_ok-ls-in-Ls.ensures.seen name is)
+
+pub returns-in-Checkout-clause-by_journal : goal.returns-in-Checkout-clause-by_journal
+returns-in-Checkout-clause-by_journal g c = λ by fine.
+    journal_looked c.args.store.now.held (g.H.Host.state c.args.host.now) (g.H.Host.state c.checkout.new.host) c.checkout.ensures.looked by
+
+pub returns-in_err-log-in-Log-clause-by_journal : goal.returns-in_err-log-in-Log-clause-by_journal
+returns-in_err-log-in-Log-clause-by_journal g c = λ by fine. by
+
+pub returns-in-Log-clause-by_journal : goal.returns-in-Log-clause-by_journal
+returns-in-Log-clause-by_journal g c = λ by fine. by
+
+pub returns-in_err-ls-in-Ls-clause-by_journal : goal.returns-in_err-ls-in-Ls-clause-by_journal
+returns-in_err-ls-in-Ls-clause-by_journal g c = λ by fine. by
+
+pub returns-in-Ls-clause-by_journal : goal.returns-in-Ls-clause-by_journal
+returns-in-Ls-clause-by_journal g c = λ by fine. by
+
+pub returns-in-Init-clause-whole : goal.returns-in-Init-clause-whole
+returns-in-Init-clause-whole g c = λ page told.
+    on_any _ c.init.result (subst (λ (command : Command). MeetsDamage command (g.T.Stage.staged c.args.stage.now) c.args.store.now.held (g.H.Host.state c.args.host.now) page → ⊥) (sym c.in-Init.is) (λ met. met))
+
+pub returns-in-Commit-clause-whole : goal.returns-in-Commit-clause-whole
+returns-in-Commit-clause-whole g c = λ page told.
+    on_any _ c.commit.result (subst (λ (command : Command). MeetsDamage command (g.T.Stage.staged c.args.stage.now) c.args.store.now.held (g.H.Host.state c.args.host.now) page → ⊥) (sym c.in-Commit.is) (λ met. met))
+
+pub returns-in-DropCvd-clause-whole : goal.returns-in-DropCvd-clause-whole
+returns-in-DropCvd-clause-whole g c = λ page told.
+    on_any _ c.drop_cvd.result (subst (λ (command : Command). MeetsDamage command (g.T.Stage.staged c.args.stage.now) c.args.store.now.held (g.H.Host.state c.args.host.now) page → ⊥) (sym c.in-DropCvd.is) (λ met. met))
+
+pub returns-in-Log-clause-whole : goal.returns-in-Log-clause-whole
+returns-in-Log-clause-whole g c = λ page told.
+    subst (λ (command : Command). MeetsDamage command (g.T.Stage.staged c.args.stage.now) c.args.store.now.held (g.H.Host.state c.args.host.now) page → ⊥) (sym c.in-Log.is) (λ met. met)
+
+pub returns-in-Ls-clause-whole : goal.returns-in-Ls-clause-whole
+returns-in-Ls-clause-whole g c = λ page told.
+    subst (λ (command : Command). MeetsDamage command (g.T.Stage.staged c.args.stage.now) c.args.store.now.held (g.H.Host.state c.args.host.now) page → ⊥) (sym c.in-Ls.is) (λ met. met)
+
+pub returns-in-Checkout-clause-whole : goal.returns-in-Checkout-clause-whole
+returns-in-Checkout-clause-whole g c = λ page told.
+    subst (λ (command : Command). OnOk c.checkout.result (MeetsDamage command (g.T.Stage.staged c.args.stage.now) c.args.store.now.held (g.H.Host.state c.args.host.now) page → ⊥)) (sym c.in-Checkout.is)
+    (subst (λ (v : List ℕ). OnOk c.checkout.result (IsDamaged (asks.Checkout c.in-Checkout.cvd v c.in-Checkout.file c.in-Checkout.table) (g.T.Stage.staged c.args.stage.now) c.args.store.now.held (g.H.Host.state c.args.host.now) page → ⊥))
+    c.as_slice-in-Checkout.ensures (c.checkout.ensures.whole page told))
 
 -- ---- what changes no store
 

@@ -21,6 +21,14 @@ use Rattle.ov_session.proofs.Standing.{at_said, idle_unsaid, on_any}
 use Rattle.ov_session.specs.Bounds.{IsReading, line_off, may_fetch}
 use Rattle.ov_session.specs.Replying.{IsReplyTo}
 use Rattle.ov_session.specs.Standing.{IsIdle}
+use Rattle.ov_session.proofs.Numbering.{journal_said}
+use Rattle.ov_session.specs.declared.errors.EndErr.TheVariants as ending
+use Rattle.ov_session.proofs.Meeting.{comment_asks, refused_asks, same_command}
+use Rattle.ov_session.specs.Commands.{MeetsDamage}
+use Rattle.ov_model.specs.declared.command.Command.{Command}
+use Rattle.std.specs.Prelude.{IfErr}
+use Rattle.ov_session.proofs.Dealing.{damage_wider}
+use Rattle.ov_session.specs.Commands.{IsDamageOf, IsDamaged}
 use Rattle.ov_session.proofs.serving.serve.Goals as goal
 
 pub answer-requires-clause-asked : goal.answer-requires-clause-asked
@@ -30,6 +38,16 @@ pub returns-in_err-reply-in-Ok-Some-clause-undamaged : goal.returns-in_err-reply
 returns-in_err-reply-in-Ok-Some-clause-undamaged g c = λ w at.
     let fact : IsNoDamage c.in_err-reply-in-Ok-Some.field-0.0 = c.in_err-reply-in-Ok-Some.ensures.undamaged w at
     in search (rules, fact)
+
+pub returns-in_err-reply-in-Ok-Some-clause-damaged : goal.returns-in_err-reply-in-Ok-Some-clause-damaged
+returns-in_err-reply-in-Ok-Some-clause-damaged g c =
+    let IsMet : ℕ → Type 0 = λ page. (command : Command) × (line_of built_forms c.args.line.now ≡ Asks command)
+    × IsDamaged command (g.T.Stage.staged c.args.stage.now) c.args.store.now.held (g.H.Host.state c.answer.new.host) page
+    in let fact : IsDamageOf IsMet c.in_err-reply-in-Ok-Some.field-0.0
+    = damage_wider (IsDamaged c.in-Ok-Some.command (g.T.Stage.staged c.args.stage.now) c.args.store.now.held (g.H.Host.state c.answer.new.host)) IsMet c.in_err-reply-in-Ok-Some.field-0.0
+    (λ page met. (c.in-Ok-Some.command, c.in-Ok-Some.ensures.ok ∙ ap said c.in-Ok-Some.field-0-is, met)) c.in_err-reply-in-Ok-Some.ensures.damaged
+    in let is : c.from_residual.result ≡ Err c.in_err-reply-in-Ok-Some.field-0.0 = search rules
+    in subst (λ (r : Result Served EndErr). IfErr r (IsDamageOf IsMet)) (sym is) fact
 
 pub returns-in_err-reply-in-Ok-Some-clause-serves : goal.returns-in_err-reply-in-Ok-Some-clause-serves
 returns-in_err-reply-in-Ok-Some-clause-serves g c = λ w told at.
@@ -157,6 +175,45 @@ returns-in_ok-refusal-in-Err-clause-replied g c =
     (subst (λ (l : Line). IsReplyTo l (says.Refused c.in_ok-refusal-in-Err.field-0)) (sym (c.in-Err.ensures.err c.in_ok-refusal-in-Err.ensures.some ∙ ap Refused (sym c.in_ok-refusal-in-Err.ensures.refusal))) refl) refl
     (λ some. refl) (refused_missed _ c.in_ok-refusal-in-Err.field-0 (λ file is. absurd (line_seen c.in-Err.off file (sym c.in_ok-refusal-in-Err.ensures.refusal ∙ is)))) c.say-in-Err.result
     (record { answer = c.say-in-Err.ensures.served; why = c.say-in-Err.ensures.host_alone; silent = c.say-in-Err.ensures.unsaid; printed = c.say-in-Err.ensures.said })
+
+-- ---- its numbers
+
+pub returns-in_err-reply-in-Ok-Some-clause-by_journal : goal.returns-in_err-reply-in-Ok-Some-clause-by_journal
+returns-in_err-reply-in-Ok-Some-clause-by_journal g c = λ by fine.
+    let is : c.from_residual.result ≡ Err c.in_err-reply-in-Ok-Some.field-0.0 = search rules
+    in c.in_err-reply-in-Ok-Some.ensures.by_journal by
+    (λ e. let host : c.in_err-reply-in-Ok-Some.field-0.0 ≡ ending.Host = cc in fine (is ∙ ap Err host))
+
+pub returns-in_err-refusal-in-Err-clause-by_journal : goal.returns-in_err-refusal-in-Err-clause-by_journal
+returns-in_err-refusal-in-Err-clause-by_journal g c = λ by fine. by
+
+pub returns-in-Ok-None-clause-by_journal : goal.returns-in-Ok-None-clause-by_journal
+returns-in-Ok-None-clause-by_journal g c = λ by fine. by
+
+pub returns-in_ok-reply-in-Ok-Some-clause-by_journal : goal.returns-in_ok-reply-in-Ok-Some-clause-by_journal
+returns-in_ok-reply-in-Ok-Some-clause-by_journal g c = λ by fine.
+    journal_said c.answer.new.store.held (g.H.Host.state c.answer.new.host) (g.H.Host.state c.say.new.host) c.in_ok-reply-in-Ok-Some.reply c.say.result
+    (record { answer = c.say.ensures.served; why = c.say.ensures.host_alone; silent = c.say.ensures.unsaid; printed = c.say.ensures.said }) fine
+    (c.in_ok-reply-in-Ok-Some.ensures.by_journal by (λ e. cc))
+
+pub returns-in_ok-refusal-in-Err-clause-by_journal : goal.returns-in_ok-refusal-in-Err-clause-by_journal
+returns-in_ok-refusal-in-Err-clause-by_journal g c = λ by fine.
+    journal_said c.args.store.now.held (g.H.Host.state c.args.host.now) (g.H.Host.state c.say-in-Err.new.host) (says.Refused c.in_ok-refusal-in-Err.field-0) c.say-in-Err.result
+    (record { answer = c.say-in-Err.ensures.served; why = c.say-in-Err.ensures.host_alone; silent = c.say-in-Err.ensures.unsaid; printed = c.say-in-Err.ensures.said }) fine by
+
+-- ---- an answer met no damage
+
+pub returns-in-Ok-None-clause-whole : goal.returns-in-Ok-None-clause-whole
+returns-in-Ok-None-clause-whole g c = λ command page asked told. absurd (comment_asks command (sym (c.in-Ok-None.ensures.ok ∙ ap said c.in-Ok-None.field-0-is) ∙ asked))
+
+pub returns-in_ok-reply-in-Ok-Some-clause-whole : goal.returns-in_ok-reply-in-Ok-Some-clause-whole
+returns-in_ok-reply-in-Ok-Some-clause-whole g c = λ command page asked told.
+    on_any _ c.say.result
+    (subst (λ (asked : Command). MeetsDamage asked (g.T.Stage.staged c.args.stage.now) c.args.store.now.held (g.H.Host.state c.args.host.now) page → ⊥) (same_command c.in-Ok-Some.command command (sym (c.in-Ok-Some.ensures.ok ∙ ap said c.in-Ok-Some.field-0-is) ∙ asked))
+    (c.in_ok-reply-in-Ok-Some.ensures.whole page told))
+
+pub returns-in_ok-refusal-in-Err-clause-whole : goal.returns-in_ok-refusal-in-Err-clause-whole
+returns-in_ok-refusal-in-Err-clause-whole g c = λ command page asked told. absurd (refused_asks c.in_ok-refusal-in-Err.field-0 command (sym (c.in-Err.ensures.err c.in_ok-refusal-in-Err.ensures.some ∙ ap Refused (sym c.in_ok-refusal-in-Err.ensures.refusal)) ∙ asked))
 
 -- ---- what changes no store
 

@@ -1,7 +1,7 @@
 use Rattle.std.proofs.Common.{◌≡◌, ℕ, List, [], None, rules, ◌∙◌, ap, refl}
 use Rattle.std.specs.Prelude.{IfErr}
 use Rattle.ov_host.specs.Disk.{Stored}
-use Rattle.ov_event.specs.Spelling.{spelling}
+use Rattle.ov_event.specs.Spelling.{IsEvent, spelling}
 use Rattle.ov_publish.specs.declared.run.Run.{Run}
 use Rattle.ov_publish.specs.Steps.{ranges_of, with_runs}
 use Rattle.ov_catalog.specs.Applying.{first_off}
@@ -11,7 +11,8 @@ use Rattle.ov_core.specs.Held.{Held}
 use Rattle.ov_core.specs.Rooms.{ArePlaced, IsWhyNoRuns}
 use Rattle.ov_core.proofs.Changing.{change_stops, change_done, runs_are, Carries}
 use Rattle.ov_core.proofs.Growing.{grown, grown_placed, none_stays}
-use Rattle.ov_core.proofs.Keeping.{applies_now, event_fits, had_room, kept_add, no_runs_why, not_written_why, pages_there, placed_by}
+use Rattle.ov_core.proofs.Keeping.{applies_now, event_fits, event_spelled, had_room, kept_add, no_runs_why, not_written_why, pages_there, placed_by}
+use Rattle.ov_core.proofs.Replaying.{by_journal_more}
 use Rattle.ov_core.proofs.Storing.{still}
 use Rattle.ov_core.proofs.parts.Core.add.Goals as goal
 
@@ -150,11 +151,33 @@ returns-in-Ok-clause-done g c =
     change_done w held s0 is m b at.list at.segment c.requires.unplaced c.requires.event applies placed brings one two carry c.placed-event.result c.placed-event.ensures s1 c.in-Ok.ensures.stops
     later (c.in-Ok.ensures.done is.payloads is.at) c.in-Ok.ensures.applied)
 
+pub returns-in-Ok-clause-by_journal : goal.returns-in-Ok-clause-by_journal
+returns-in-Ok-clause-by_journal g c =
+    let held : Held = record { journal = c.self.inside.journal; numbers = c.self.inside.catalog.numbers } in
+    let n = c.self.inside.catalog.numbers in
+    let b = c.args.brought in
+    let at = c.in_ok-at.at in
+    let s0 = g.H.Host.state c.args.host.now in
+    let s1 = g.H.Host.state c.write_change.new.host in
+    let applies : first_off b.event n ≡ None = rw (← c.self.view_is) at c.requires.applies in
+    let placed : ArePlaced (live n) b.list.items b.segment.items at.list at.segment =
+    placed_by (live n) c.deref.result.now c.deref-2.result.now b at.list at.segment c.deref.ensures.value c.deref-2.ensures.value (c.in_ok-at.ensures.placed (live n) c.self.invariant.0) in
+    let segment_is : at.segment ≡ extent_at at.segment.page b.segment.items = c.in_ok-at.ensures.segment_is ∙ ap (extent_at at.segment.page) c.deref-2.ensures.value in
+    let spelled : IsEvent c.placed-event.result = event_spelled b (live n) at.list at.segment c.requires.unplaced c.requires.event placed c.placed-event.result c.placed-event.ensures in
+    let follows : first_off c.placed-event.result n ≡ None = rw c.placed-event.ensures (applies_now n c.self.invariant.1 b c.requires.unplaced applies at.list at.segment placed segment_is) in
+    let later : Held = record { journal = c.write_change.new.journal; numbers = c.write_change.new.catalog.numbers } in
+    rw (← c.self.view_is) (by_journal_more held later c.placed-event.result (spelling c.placed-event.result) s0 s1 spelled follows refl c.in-Ok.ensures.applied
+    (λ payloads is. (c.in-Ok.ensures.done payloads is).at))
+
 pub returns-clause-why : goal.returns-clause-why
 returns-clause-why g c =
     let held : Held = record { journal = c.self.inside.journal; numbers = c.self.inside.catalog.numbers } in
+    let n = c.self.inside.catalog.numbers in
+    let b = c.args.brought in
     let at = c.in_ok-at.at in
-    rw (← c.self.view_is) (not_written_why held c.args.brought at.list at.segment c.placed-event.result (g.H.Host.state c.args.host.now) (g.H.Host.state c.write_change.new.host) c.in-Err.why c.placed-event.ensures c.in-Err.ensures.why)
+    let placed : ArePlaced (live n) b.list.items b.segment.items at.list at.segment =
+    placed_by (live n) c.deref.result.now c.deref-2.result.now b at.list at.segment c.deref.ensures.value c.deref-2.ensures.value (c.in_ok-at.ensures.placed (live n) c.self.invariant.0) in
+    rw (← c.self.view_is) (not_written_why held b at.list at.segment placed c.placed-event.result (g.H.Host.state c.args.host.now) (g.H.Host.state c.write_change.new.host) c.in-Err.why c.placed-event.ensures c.in-Err.ensures.why)
 
 pub returns-clause-stops : goal.returns-clause-stops
 returns-clause-stops g c =

@@ -8,8 +8,9 @@ use Rattle.ov_catalog.specs.Extents.{live}
 use Rattle.ov_catalog.specs.Raw.{event_in}
 use Rattle.ov_model.specs.Moves.{Drop}
 use Rattle.ov_core.specs.Held.{Held}
-use Rattle.ov_core.proofs.Dropping.{drop_done, drop_kept, drop_stops, drop_there}
+use Rattle.ov_core.proofs.Dropping.{drop_done, drop_event, drop_kept, drop_stops, drop_there}
 use Rattle.ov_core.proofs.Growing.{grown, none_stays}
+use Rattle.ov_core.proofs.Replaying.{by_journal_more}
 use Rattle.ov_core.proofs.Storing.{still}
 use Rattle.ov_core.proofs.parts.Core.drop_cvd.Goals as goal
 
@@ -88,3 +89,16 @@ returns-clause-done g c =
     rw (← c.self.view_is) (λ w is fits.
     drop_done w held s0 is c.args.cvd small fits c.in_ok-framed.framed c.in_ok-framed.ensures.«record» s1 c.in_ok-add_bare.ensures.stops
     later (c.in_ok-add_bare.ensures.done is.payloads is.at is.rest) numbers)
+
+pub returns-clause-by_journal : goal.returns-clause-by_journal
+returns-clause-by_journal g c =
+    let held : Held = record { journal = c.self.inside.journal; numbers = c.self.inside.catalog.numbers } in
+    let n = c.self.inside.catalog.numbers in
+    let s0 = g.H.Host.state c.args.host.now in
+    let s1 = g.H.Host.state c.add_bare.new.host in
+    let small : c.args.cvd < 2 ^ 32 = omega arith in
+    let applies : first_off (says.Drop c.args.cvd) n ≡ None = rw (← c.self.view_is) at c.requires.applies in
+    let later : Held = record { journal = c.add_bare.new.journal; numbers = c.apply_reserved.new.self.numbers } in
+    let numbers : later.numbers ≡ applied (event_in (says.Drop c.args.cvd)) held.numbers = c.apply_reserved.ensures.applied ∙ ap (applied (event_in (says.Drop c.args.cvd))) c.in_ok-framed.ensures.numbers in
+    rw (← c.self.view_is) (by_journal_more held later (says.Drop c.args.cvd) c.in_ok-framed.framed s0 s1 (drop_event c.args.cvd small) applies c.in_ok-framed.ensures.«record» numbers
+    c.in_ok-add_bare.ensures.«record»)

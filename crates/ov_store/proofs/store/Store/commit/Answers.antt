@@ -14,8 +14,10 @@ use Rattle.ov_store.specs.Worlds.{IsLack, IsRefusedAs, and_made, version_refusal
 use Rattle.ov_store.proofs.Deciding.{version_fits}
 use Rattle.ov_store.proofs.Lacking.{done_within, unstored_lacks, unstored_refused, version_lacks, version_refused_as}
 use Rattle.ov_store.proofs.Finishing.{commits, set_there, unready_spared, unready_uncommitted, unstored_uncommitted}
+use Rattle.ov_store.proofs.Journals.{looked_by}
 use Rattle.ov_store.proofs.Looking.{looked_at}
 use Rattle.ov_store.proofs.Still.{still, still_world}
+use Rattle.ov_store.proofs.Undamaged.{read_not_damaged}
 use Rattle.ov_store.proofs.store.Store.commit.Goals as goal
 
 pub returns-in-Err-clause-why : goal.returns-in-Err-clause-why
@@ -110,3 +112,12 @@ pub returns-clause-room : goal.returns-clause-room
 returns-clause-room g c = λ w d entry past at named within.
     done_within entry past c.args.self.now.held (commit_move d c.args.parents.now c.args.message.now c.args.rows.items) w within c.in-Ok.next.brought c.change.new.self.held c.in-Ok.ensures.ready.unplaced (c.in-Ok.ensures.brings w d at named) c.in_ok-change.ensures.done
     (c.in_ok-change.ensures.grows w (looked_at w c.args.self.now.held (g.H.Host.state c.args.host.now) (g.H.Host.state c.next.new.host) c.next.ensures.looked at))
+
+pub returns-clause-undamaged : goal.returns-clause-undamaged
+returns-clause-undamaged g c = λ s told named page.
+    let by = c.in-Ok.ensures.by s named
+    in read_not_damaged s (record { vids = c.args.parents.now; message = c.args.message.now; rows = c.args.rows.items }) (g.H.Host.state c.args.host.now) by.parents page told by.are
+
+pub returns-clause-by_journal : goal.returns-clause-by_journal
+returns-clause-by_journal g c = λ before.
+    c.in_ok-change.ensures.by_journal (looked_by c.args.self.now.held (g.H.Host.state c.args.host.now) (g.H.Host.state c.next.new.host) c.next.ensures.looked before)

@@ -3,7 +3,7 @@ use Rattle.std.specs.Prelude.{Some}
 use Rattle.ov_host.specs.Stops.{Only}
 use Rattle.ov_model.specs.Moves.{Drop}
 use Rattle.ov_core.specs.AtWorld.{IsAtNext, IsAtWorld, IsEither}
-use Rattle.ov_core.specs.Held.{Held}
+use Rattle.ov_core.specs.Held.{Held, IsByJournal}
 use Rattle.ov_store.specs.Dropping.{dropped, number_named}
 use Rattle.ov_store.specs.Worlds.{IsLack, IsRefusedAs, and_made, drop_of_set, drop_refusal}
 use Rattle.law_room.specs.Room.{IsWithin}
@@ -68,3 +68,7 @@ returns-in-Err-clause-room g c = λ w d entry past at named within.
     (subst (IsLack entry past (Drop c.in-Some.cvd) w) (sym c.refusal.ensures.answer)
     (drop_lacks c.args.name.now c.args.self.now.held (g.H.Host.state c.args.host.now) (g.H.Host.state c.drop_cvd.new.host) w c.in-Some.cvd entry past c.in-Err.off within
     (subst (λ held. IsWhyKept c.in-Err.off held c.in-Some.cvd (g.H.Host.state c.args.host.now) (g.H.Host.state c.drop_cvd.new.host)) (ap (λ kept. kept.held) c.self.view_is) c.in-Err.ensures.why)))
+
+pub returns-in-Ok-clause-by_journal : goal.returns-in-Ok-clause-by_journal
+returns-in-Ok-clause-by_journal g c = λ before.
+    c.in-Ok.ensures.by_journal (subst (λ held. IsByJournal held (g.H.Host.state c.args.host.now)) (sym (ap (λ kept. kept.held) c.self.view_is)) before)

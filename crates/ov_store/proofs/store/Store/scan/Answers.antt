@@ -1,23 +1,25 @@
 use Rattle.std.proofs.Common.{rules, ◌≡◌, ◌≤◌, ◌∙◌, ℕ, List, [], slice_index_or, length, map, sym, ap, subst}
-use Rattle.std.specs.Prelude.{Some}
+use Rattle.std.specs.Prelude.{None, Some}
 use Rattle.std.specs.List.{All, AllZip}
 use Rattle.std.proofs.lemmas.List.{length-map}
 use Rattle.ov_host.specs.declared.area.Extent.{Extent}
 use Rattle.ov_fetch.specs.Extents.{page_bytes}
 use Rattle.ov_model.specs.Placed.{times}
-use Rattle.ov_catalog.specs.Numbers.{Numbers}
+use Rattle.ov_catalog.specs.Numbers.{Numbers, SetNumbers}
 use Rattle.ov_catalog.specs.Sets as sets
 use Rattle.ov_read.specs.Agreement.{IsThere}
-use Rattle.ov_read.specs.Damages.{RefusesScan}
+use Rattle.ov_read.specs.Damages.{IsDamage, RefusesScan}
 use Rattle.ov_read.specs.Found.{IsScanned}
 use Rattle.ov_read.specs.OfWorld.{IsSetOf}
 use Rattle.law_reads.proofs.Served.{scan_spared}
 use Rattle.law_reads.proofs.Scanned.{have_rows}
+use Rattle.law_reads.proofs.Undamaged.{scan_finds_none}
+use Rattle.ov_store.specs.declared.errors.StoreErr.TheVariants.{Memory}
 use Rattle.ov_store.specs.Errors.{of_fetch}
 use Rattle.ov_store.specs.Listing.{IsListed}
 use Rattle.ov_store.specs.Refusals.{IsVidOff}
 use Rattle.ov_store.specs.Scanning.{IsUndamaged, IsUnscanned, scan_off, set_in}
-use Rattle.ov_store.proofs.Versions.{all_there, listed_once, served_there, vids_undamaged, vids_unscanned}
+use Rattle.ov_store.proofs.Versions.{all_there, listed_once, no_vids, served_there, vids_undamaged, vids_unscanned}
 use Rattle.ov_store.proofs.Seeing.{found_set, spared}
 use Rattle.ov_store.proofs.store.Store.scan.Goals as goal
 
@@ -86,3 +88,32 @@ returns-clause-world g c = λ w d at named.
     in have_rows w (page_bytes (g.H.Host.state c.args.host.now)) (sets.set_in c.in-Some.d.now) d c.in_ok-scan_versions.field-0.records c.args.vids.now c.in_ok-scan_versions.field-0.picks is there
     (subst (λ (xs : List ℕ). AllZip (IsScanned (page_bytes (g.H.Host.state c.args.host.now)) (sets.set_in c.in-Some.d.now) c.in_ok-scan_versions.field-0.records) xs c.in_ok-scan_versions.field-0.picks)
     listed.listed_are (c.in_ok-scan_versions.ensures.answer at.at.told))
+
+pub returns-clause-undamaged : goal.returns-clause-undamaged
+returns-clause-undamaged g c = λ s told named page.
+    let found : set_in c.args.self.now.held.numbers c.args.name.now ≡ Some (sets.set_in c.in-Some.d.now)
+    = subst (λ (n : Numbers Extent Extent). set_in n c.args.name.now ≡ Some (sets.set_in c.in-Some.d.now)) (c.catalog.ensures ∙ ap (λ kept. kept.held.numbers) c.self.view_is) (sym c.in-Some.ensures.found)
+    in let listed : IsListed c.len.result c.args.vids.now c.in_ok-vids.vids.items = c.in_ok-vids.ensures
+    in let area : List ℕ = page_bytes (g.H.Host.state c.args.host.now)
+    in let is : sets.set_in c.in-Some.d.now ≡ s = ap (λ o. elim o as (λ _. SetNumbers Extent Extent) [ None ↦ sets.set_in c.in-Some.d.now | Some x ↦ x ]) (sym found ∙ named)
+    in subst (λ (x : SetNumbers Extent Extent). IsDamage area x c.args.vids.now page → ⊥) is
+    (scan_finds_none area (sets.set_in c.in-Some.d.now) c.in_ok-scan_versions.field-0.records c.args.vids.now c.in_ok-scan_versions.field-0.picks page
+    (subst (λ (xs : List ℕ). AllZip (IsScanned area (sets.set_in c.in-Some.d.now) c.in_ok-scan_versions.field-0.records) xs c.in_ok-scan_versions.field-0.picks)
+    listed.listed_are (c.in_ok-scan_versions.ensures.answer told)))
+
+pub returns-in_err-scan_versions-clause-still : goal.returns-in_err-scan_versions-clause-still
+returns-in_err-scan_versions-clause-still g c = λ none. c.in_err-scan_versions.ensures.still (c.in_ok-vids.ensures.listed_are ∙ none)
+
+pub returns-clause-still : goal.returns-clause-still
+returns-clause-still g c = λ none. c.in_ok-scan_versions.ensures.still (c.in_ok-vids.ensures.listed_are ∙ none)
+
+pub returns-in_err-vids-clause-idle : goal.returns-in_err-vids-clause-idle
+returns-in_err-vids-clause-idle g c = λ s named none.
+    let fact : c.in_err-vids.field-0.0 ≡ Memory = no_vids c.len.result c.in_err-vids.field-0.0 (subst (λ (xs : List ℕ). IsVidOff c.len.result xs c.in_err-vids.field-0.0) none c.in_err-vids.ensures)
+    in search (rules, fact)
+
+pub returns-in_err-scan_versions-clause-idle : goal.returns-in_err-scan_versions-clause-idle
+returns-in_err-scan_versions-clause-idle g c = λ s named none.
+    let idle = c.in_err-scan_versions.ensures.idle (c.in_ok-vids.ensures.listed_are ∙ none)
+    in let fact : of_fetch c.in_err-scan_versions.field-0.0 ≡ Memory = ap of_fetch idle
+    in search (rules, fact)
