@@ -1,8 +1,9 @@
 //! A query that fits a schema.
 
 ghost use Rattle.std.specs.Prelude.{◌≡◌, Ok};
-ghost use Rattle.ov_model.specs.Kinds.{kinds};
+ghost use Rattle.ov_model.specs.Kinds.{is_grouped, kinds};
 
+use crate::grouping::is_grouped;
 use ov_model::{Query, Seq};
 use ov_value::{Kind, Schema};
 use std::marker::Model;
@@ -44,6 +45,13 @@ impl<'a> Typed<'a> {
         ensures { result.now ≡ self.now.schema }
     {
         self.schema
+    }
+
+    /// Whether the query is grouped: it has GROUP BY, or an aggregate among its items or in its order.
+    pub fn is_grouped(&self) -> bool
+        ensures { result ≡ is_grouped self.now.query }
+    {
+        is_grouped(self.query)
     }
 
     /// The kind of each column of the query's answer.

@@ -1,9 +1,11 @@
-//! The tests of texts: the program's words, script lines, tokens, queries with their kinds and terms, replies, and CSV files
-//! (`ov_args`, `ov_cmd`, `ov_lex`, `ov_parse`, `ov_typing`, `ov_terms`, `ov_reply`, `ov_csv`).
+//! The tests of texts: the program's words, script lines, tokens, queries with their kinds, terms and answers, replies, and CSV files
+//! (`ov_args`, `ov_cmd`, `ov_lex`, `ov_parse`, `ov_typing`, `ov_terms`, `ov_qrun`, `ov_reply`, `ov_csv`).
 //!
 //! In a crate of their own they are proved without proving those crates once more.
 #![tactic(auto)]
 
+#[cfg(test)]
+mod answers;
 #[cfg(test)]
 mod asked;
 #[cfg(test)]

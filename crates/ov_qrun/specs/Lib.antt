@@ -1,0 +1,3 @@
+pub mod Ranking
+pub mod Runs
+pub mod Keys

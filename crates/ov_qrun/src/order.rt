@@ -1,0 +1,28 @@
+//! An order of all that is seen, of one kind or not.
+
+ghost use Rattle.std.specs.Prelude.{◌≡◌};
+ghost use Rattle.ov_terms.specs.Seeing.{cell_of};
+ghost use Rattle.ov_qrun.specs.Ranking.{rank, ranked};
+
+use ov_terms::{Seen, cmp_seen};
+use ov_value::Value;
+use std::cmp::Ordering;
+
+// Where those of unlike kinds stand.
+fn rank(seen: Seen<'_>) -> u8
+    ensures { result ≡ rank (cell_of seen.entry) }
+{
+    match seen {
+        Seen::Value(Value::Null) | Seen::Null | Seen::Nothing => 0,
+        Seen::Value(Value::Flag(_)) => 1,
+        Seen::Value(Value::Int(_)) | Seen::Vid(_) | Seen::Sum(_) => 2,
+        Seen::Value(Value::Text(_)) => 3,
+    }
+}
+
+/// By kind, and within a kind as the definitions say: NULL and nothing are one value below all others.
+pub(crate) fn cmp_ranked(a: Seen<'_>, b: Seen<'_>) -> Ordering
+    ensures { result ≡ ranked (cell_of a.entry) (cell_of b.entry) }
+{
+    rank(a).cmp(&rank(b)).then(cmp_seen(a, b))
+}

@@ -1,0 +1,189 @@
+//! The answer of a query over a scan.
+
+ghost use Rattle.std.specs.Prelude.{◌≡◌, Ok, List, IfOk, OnOk, if◌then◌else◌, length, map};
+ghost use Rattle.ov_model.specs.Answers.{Related, answer, grouped_pairs, here_for, limited, order_by, places, shown, sorted_by};
+ghost use Rattle.ov_model.specs.Kinds.{is_grouped, kinds};
+ghost use Rattle.ov_fetch.specs.Scans.{AllFit, IsSound};
+ghost use Rattle.ov_terms.specs.Standing.{NoLineages, pairs_at, pairs_shown};
+ghost use Rattle.ov_terms.specs.declared.spot.Spot.{Spot as SpotValue};
+ghost use Rattle.ov_qrun.specs.Keys.{pairs_of, spot_order};
+
+use crate::groups::{alone, held, runs, sort_spots};
+use crate::places::{Place, places_of, sort_places};
+use ov_fetch::Scan;
+use ov_model::{Answer, Cell, Col, Items, Key, Query, Seq};
+use ov_terms::{Spot, Table, spots_of};
+use ov_typing::Typed;
+use ov_value::Kind;
+use std::alloc::{AllocError, Global};
+
+// The groups of spots that are sorted by the values of the group columns; where there are no columns, all in one group.
+fn groups_in<'b>(
+    alloc: Global,
+    table: &Table<'_>,
+    cols: &[Col],
+    spots: &'b [Spot],
+) -> Result<Vec<&'b [Spot]>, AllocError>
+    requires { AllFit table.now.schema.now table.now.records.now }
+    ensures { (all : List SpotValue) → spots.now ≡ sorted_by (spot_order table.now.schema.now table.now.records.now cols.now) all
+        → IfOk result (λ found. map (λ group. pairs_at table.now.records.now group.now) found.items
+        ≡ grouped_pairs table.now.schema.now cols.now (pairs_at table.now.records.now all)) }
+{
+    if cols.is_empty() {
+        let mut found = Vec::new(alloc);
+        found.push(spots)?;
+        return Ok(found);
+    }
+    let found = runs(alloc, table, cols, spots)?;
+    Ok(found)
+}
+
+// The groups that give the rows of the answer: those that HAVING takes, or each spot alone.
+fn taken<'a, 'b>(
+    alloc: Global,
+    table: &Table<'a>,
+    query: &'a Query,
+    grouped: bool,
+    spots: &'b [Spot],
+) -> Result<Vec<&'b [Spot]>, AllocError>
+    requires fit { AllFit table.now.schema.now table.now.records.now }
+    requires free { NoLineages query.now.having }
+    requires grouped { grouped ≡ is_grouped query.now }
+    ensures { (related : Related) (all : List SpotValue)
+        → spots.now ≡ (if grouped then sorted_by (spot_order table.now.schema.now table.now.records.now query.now.groups) all else all)
+        → IfOk result (λ found. map (λ group. pairs_at table.now.records.now group.now) found.items
+        ≡ places query.now table.now.schema.now related (pairs_at table.now.records.now all)) }
+{
+    if grouped {
+        let groups = groups_in(alloc, table, query.groups.as_slice(), spots)?;
+        let found = held(alloc, table, groups.as_slice(), &query.having)?;
+        return Ok(found);
+    }
+    let found = alone(alloc, spots)?;
+    Ok(found)
+}
+
+// The places of groups, in their order.
+fn ordered<'a, 'b>(
+    alloc: Global,
+    table: &Table<'a>,
+    order: &[Key],
+    groups: &[&'b [Spot]],
+) -> Result<Vec<Place<'a, 'b>>, AllocError>
+    requires { AllFit table.now.schema.now table.now.records.now }
+    ensures { (related : Related) → IfOk result (λ found. map (pairs_of table.now.records.now) found.items
+        ≡ sorted_by (λ a b. order_by order.now (here_for table.now.schema.now related a) (here_for table.now.schema.now related b))
+        (map (λ group. pairs_at table.now.records.now group.now) groups.now)) }
+{
+    let mut found = places_of(alloc, table, order, groups)?;
+    sort_places(order, &mut found)?;
+    Ok(found)
+}
+
+// The first places, as many as LIMIT says.
+fn first_places<'a, 'b, 'c>(places: &'c [Place<'a, 'b>], limit: Option<u64>) -> &'c [Place<'a, 'b>]
+    ensures { result.now ≡ limited limit places.now }
+{
+    match limit {
+        None => places,
+        Some(most) => {
+            if most < places.len() as u64 {
+                &places[..most as usize]
+            } else {
+                places
+            }
+        }
+    }
+}
+
+// The rows of the answer that these places give.
+fn rows_at(
+    alloc: Global,
+    table: &Table<'_>,
+    items: &Items,
+    places: &[Place<'_, '_>],
+) -> Result<Seq<Seq<Cell>>, AllocError>
+    ensures { IfOk result (λ rows. rows ≡ map (shown table.now.schema.now items.now) (map (pairs_of table.now.records.now) places.now)) }
+{
+    let mut rows = Vec::with_capacity(alloc, places.len())?;
+    for place in places {
+        rows.push(table.shown(alloc, place.group, items)?)?;
+    }
+    Ok(Seq::from_vec(rows))
+}
+
+fn copy_of(alloc: Global, kinds: &[Kind]) -> Result<Seq<Kind>, AllocError>
+    ensures { IfOk result (λ copy. copy ≡ kinds.now) }
+{
+    let mut copy = Vec::with_capacity(alloc, kinds.len())?;
+    for kind in kinds {
+        copy.push(*kind)?;
+    }
+    Ok(Seq::from_vec(copy))
+}
+
+// Where the query is grouped, sorts the spots by the values of its group columns.
+fn sort_if(
+    table: &Table<'_>,
+    cols: &[Col],
+    grouped: bool,
+    spots: &mut Vec<Spot>,
+) -> Result<(), AllocError>
+    ensures { OnOk result (spots.new.items
+        ≡ (if grouped then sorted_by (spot_order table.now.schema.now table.now.records.now cols.now) spots.old.items else spots.old.items)) }
+{
+    if grouped {
+        sort_spots(table, cols, spots)?;
+    }
+    Ok(())
+}
+
+// The rows of the answer.
+fn answer_rows<'a>(
+    alloc: Global,
+    table: &Table<'a>,
+    query: &'a Query,
+    grouped: bool,
+    scan: &Scan,
+) -> Result<Seq<Seq<Cell>>, AllocError>
+    requires records { table.now.records.now ≡ scan.now.records }
+    requires paired { length scan.now.vids ≡ length scan.now.picks }
+    requires fit { AllFit table.now.schema.now table.now.records.now }
+    requires filter { NoLineages query.now.filter }
+    requires having { NoLineages query.now.having }
+    requires grouped { grouped ≡ is_grouped query.now }
+    ensures { (related : Related) → IfOk result (λ rows. rows ≡ answer query.now table.now.schema.now related (pairs_shown scan.now)) }
+{
+    let spots = spots_of(alloc, scan)?;
+    let mut kept = table.kept(alloc, spots.as_slice(), &query.filter)?;
+    sort_if(table, query.groups.as_slice(), grouped, &mut kept)?;
+    let groups = taken(alloc, table, query, grouped, kept.as_slice())?;
+    let places = ordered(alloc, table, query.order.as_slice(), groups.as_slice())?;
+    let first = first_places(places.as_slice(), query.limit);
+    let rows = rows_at(alloc, table, &query.items, first)?;
+    Ok(rows)
+}
+
+/// The answer of a query over the versions of a scan, where the rows fit the schema that the query was typed with, and its
+/// conditions name no lineage.
+///
+/// Memory goes by the spots that WHERE takes, 16 bytes each, and by the places of the answer's rows; a row has values of its own
+/// only in the answer. Time: one pass over the spots, and a sort of those that are taken where the query is grouped, and of the
+/// places where it has ORDER BY.
+pub fn run_typed(alloc: Global, typed: &Typed<'_>, scan: &Scan) -> Result<Answer, AllocError>
+    requires sound { IsSound typed.now.schema scan.now }
+    requires filter { NoLineages typed.now.query.filter }
+    requires having { NoLineages typed.now.query.having }
+    ensures kinds { IfOk result (λ made. kinds typed.now.query typed.now.schema ≡ Ok made.kinds) }
+    ensures rows { (related : Related) → IfOk result (λ made. made.rows
+        ≡ answer typed.now.query typed.now.schema related (pairs_shown scan.now)) }
+{
+    let query = typed.query();
+    let table = Table {
+        schema: typed.schema(),
+        records: scan.records.as_slice(),
+    };
+    let rows = answer_rows(alloc, &table, query, typed.is_grouped(), scan)?;
+    let kinds = copy_of(alloc, typed.kinds())?;
+    Ok(Answer { kinds, rows })
+}
