@@ -18,12 +18,12 @@ use Rattle.ov_catalog.specs.Extents.{AreApart, live}
 use Rattle.ov_catalog.specs.Numbers.{Numbers, nothing_yet}
 use Rattle.ov_catalog.specs.Raw.{event_in, numbers_in}
 use Rattle.law_image.specs.Pages.{pages_in}
-use Rattle.ov_core.specs.Held.{Held}
+use Rattle.ov_core.specs.Held.{Held, IsByJournal, IsReplay}
 use Rattle.ov_open.specs.declared.errors.OpenErr.{OpenErr}
 use Rattle.ov_open.specs.declared.errors.OpenErr.TheVariants as errors
 use Rattle.ov_open.specs.Opening.{IsOpened, IsOutside}
 use Rattle.ov_open.specs.Refusing.{HasPageOff, IsOff, Refuses, StopsAt}
-use Rattle.ov_open.specs.Replaying.{Follows, IsReplay, IsStopped}
+use Rattle.ov_open.specs.Replaying.{Follows, IsStopped}
 use Rattle.ov_top.specs.Bytes.{IsStore, Opens, OpensAs}
 
 -- ---- payloads spell one list of events
@@ -157,3 +157,7 @@ opens_as d held s is = opens_by d held s is is.journal
 
 pub opens : (d : Disk) (held : Held) (s : State) → IsOpened d held s → Opens d
 opens d held s is = (held.numbers, opens_as d held s is)
+
+-- the store's numbers are by the journal then
+pub by_opened : (d : Disk) (held : Held) (s : State) → IsOpened d held s → IsByJournal held s
+by_opened d held s is = record { payloads = is.payloads; at = is.at; replays = is.replays }

@@ -4,12 +4,18 @@ use Rattle.std.specs.Prelude.{None, Ok, Option, Some}
 use Rattle.std.specs.FinMap.{get}
 use Rattle.std.proofs.lemmas.List.{length-take, take_all}
 use Rattle.std.proofs.lemmas.Bool.{cases_lt}
+use Rattle.ov_host.specs.Disk.{settled}
 use Rattle.ov_host.specs.Host.{State}
 use Rattle.ov_host.specs.Source.{Script}
 use Rattle.ov_host.specs.Stage.{Files as Map, Staged}
+use Rattle.ov_host.specs.Tape.{Tape}
+use Rattle.ov_journal.specs.Bytes.{IsLive}
+use Rattle.ov_journal.specs.Held.{IsAt, kept_by}
+use Rattle.ov_journal.specs.Journal.{IsJournal}
+use Rattle.ov_fetch.specs.Extents.{Looked}
 use Rattle.ov_files.specs.Files.{file_rows}
 use Rattle.ov_value.specs.Shapes.{Shape}
-use Rattle.ov_core.specs.Held.{Held}
+use Rattle.ov_core.specs.Held.{Held, IsByJournal}
 use Rattle.ov_model.specs.Book.{Row}
 use Rattle.ov_model.specs.Forms.{built_forms}
 use Rattle.ov_model.specs.Line.{Asks, Refused, line_of}
@@ -101,6 +107,21 @@ module _ (before now : Held) (all left later : List (List ℕ)) (x line : List �
 
 -- ---- damage
 
+by_looked : (held : Held) (old new : State) → Looked old new → old.tells ≡ true → IsByJournal held old → IsByJournal held new
+by_looked held old new looked told is =
+    let tape : old.tape ≡ new.tape = sym (looked.tape told)
+    in record {
+      payloads = is.payloads;
+      at = record {
+        told = looked.told ∙ told;
+        rest = subst (λ (t : Tape). t.disk.journal ≡ settled t.disk.journal.bytes) tape is.at.rest;
+        spells = subst (λ (t : Tape). IsJournal (kept_by held.journal is.payloads) t.disk.journal.bytes) tape is.at.spells;
+        place = is.at.place;
+        slots = subst (λ (t : Tape). IsLive held.journal.side held.journal.spare_open (take 38 t.disk.journal.bytes)) tape is.at.slots;
+      };
+      replays = is.replays;
+    }
+
 module _ (stage staged : Staged) (files : staged.files ≡ stage.files) (told : staged.tells ≡ stage.tells) (held : Held) (s : State) (page : ℕ) where
   rows_as : (schema : Shape) (file : List ℕ) (rows : List Row) → AreRowsOf schema file stage rows → AreRowsOf schema file staged rows
   rows_as schema file rows are = λ tells. subst (λ (m : Map). file_rows schema file (get m file) ≡ Ok rows) (sym files) (are (sym told ∙ tells))
@@ -134,6 +155,7 @@ module _ (stage staged : Staged) (files : staged.files ≡ stage.files) (told : 
   damaged_as asks.Tables is = absurd is
 
 module _ (x : List ℕ) (before now : Kept) (script : Script) (stage staged : Staged) (old new : State) (told : staged.tells ≡ stage.tells)
+    (numbers : old.tells ≡ true → IsByJournal before.held old)
     (among : (command : Command) → line_of built_forms x ≡ Asks command → script.tells ≡ true → IsLineOf script.left x) where
   pub run_damage : (e : EndErr)
       → IsDamageOf (λ page. (command : Command) × (line_of built_forms x ≡ Asks command) × IsDamaged command stage before.held new page) e
@@ -149,6 +171,7 @@ module _ (x : List ℕ) (before now : Kept) (script : Script) (stage staged : St
       command = is.1.0;
       asks = is.1.1;
       held = before.held;
+      numbers = λ tells. let tells_old : old.tells ≡ true = sym idle.0.looked.told ∙ tells in by_looked before.held old new idle.0.looked tells_old (numbers tells_old);
       damaged = damaged_as stage staged idle.1 told before.held new at is.1.0 is.1.2;
     },
   )

@@ -8,7 +8,7 @@ use Rattle.ov_journal.specs.Journal.{Kept, IsJournal, IsUnmade}
 use Rattle.ov_catalog.specs.Extents.{AreApart, live}
 use Rattle.ov_catalog.specs.Numbers.{Numbers, nothing_yet}
 use Rattle.law_image.specs.Pages.{pages_in}
-use Rattle.ov_open.specs.Replaying.{IsReplay}
+use Rattle.ov_core.specs.Held.{IsReplay}
 
 -- A journal stands there, and its payloads spell events that apply one after another and make these numbers, whose live extents
 -- share no page and stand whole.

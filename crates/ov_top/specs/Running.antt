@@ -11,7 +11,7 @@ use Rattle.ov_host.specs.Host.{State}
 use Rattle.ov_host.specs.Source.{Script}
 use Rattle.ov_host.specs.Stage.{Staged}
 use Rattle.ov_catalog.specs.Numbers.{Numbers}
-use Rattle.ov_core.specs.Held.{Held}
+use Rattle.ov_core.specs.Held.{Held, IsByJournal}
 use Rattle.law_runs.specs.Serving.{Ends, Halts, Runs}
 use Rattle.ov_model.specs.Act.{Session}
 use Rattle.ov_model.specs.Forms.{built_forms}
@@ -59,14 +59,15 @@ AllServed steps w s t lines taken still (Err _) before old new = Runs steps w s 
 abbrev pub IsLineOf : List ℕ → List ℕ → Type 0
 IsLineOf text line = (before : List (List ℕ)) × (after : List (List ℕ)) × (lines_of text ≡ before ++ line ∷ after)
 
--- A line of the script asked for what is damaged at this page, by the numbers that the store kept, and by the files of the stage,
--- where it tells them.
+-- A line of the script asked for what is damaged at this page, by the numbers that the journal on the host says, and by the files
+-- of the stage, where it tells them.
 pub record ReadsDamage (script : Script) (stage : Staged) (s : State) (page : ℕ) : Type 0 where
   pub line : List ℕ
   pub among : script.tells ≡ true → IsLineOf script.left line
   pub command : Command
   pub asks : line_of built_forms line ≡ Asks command
   pub held : Held
+  pub numbers : s.tells ≡ true → IsByJournal held s
   pub damaged : IsDamaged command stage held s page
 
 abbrev pub IsRunDamage : Script → Staged → State → RunErr → Type 0

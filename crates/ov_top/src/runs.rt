@@ -10,6 +10,7 @@ ghost use Rattle.ov_model.specs.World.{World};
 ghost use Rattle.ov_catalog.specs.Numbers.{Numbers};
 ghost use Rattle.law_image.specs.Images.{StandsAs};
 ghost use Rattle.ov_core.specs.AtWorld.{IsAtWorld};
+ghost use Rattle.ov_core.specs.Held.{IsByJournal};
 ghost use Rattle.law_runs.specs.Serving.{session_of};
 ghost use Rattle.ov_open.specs.Opening.{IsWorld};
 ghost use Rattle.ov_session.specs.Commands.{Attended, Goes, is_refusal_of};
@@ -65,7 +66,8 @@ fn serve_all<H: Host, S: Source, T: Stage>(
     ensures input { IsErrOf result RunErr.Input
         → Rose (S.script source.old).faults (S.script source.new).faults
         ⊎ Rose (T.staged stage.old).faults (T.staged stage.new).faults }
-    ensures damaged { IfErr result (IsRunDamage (S.script source.old) (T.staged stage.new) (H.state host.new)) }
+    ensures damaged { ((H.state host.old).tells ≡ true → IsByJournal store.held (H.state host.old))
+        → IfErr result (IsRunDamage (S.script source.old) (T.staged stage.new) (H.state host.new)) }
     ensures undamaged { (w : World) → IsAtWorld w store.held (H.state host.old) → IfErr result IsUnharmed }
     ensures fetched { (S.script source.old).tells ≡ true → AreReading (lines_of (S.script source.old).left)
         → (H.state host.new).fetched ≤ (H.state host.old).fetched + reads store.held.numbers (lines_of (S.script source.old).left) }

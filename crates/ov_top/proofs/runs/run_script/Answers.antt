@@ -1,11 +1,11 @@
-use Rattle.std.proofs.Common.{refl, ◌≡◌, ◌∙◌, ap, arith}
+use Rattle.std.proofs.Common.{sym, refl, ◌≡◌, ◌∙◌, ap, arith}
 use Rattle.std.specs.Prelude.{Err}
 use Rattle.ov_top.proofs.Lined.{attended_still, cause_opened, cause_unopened, plays_status, plays_unopened, spent_still, undamaged_opened, undamaged_unopened}
 use Rattle.ov_host.specs.declared.area.Extent.{Extent}
 use Rattle.ov_catalog.specs.Numbers.{Numbers}
 use Rattle.ov_model.specs.Words.{lines_of}
 use Rattle.ov_top.specs.Running.{reads}
-use Rattle.ov_top.proofs.Opened.{opens, opens_as, says_one}
+use Rattle.ov_top.proofs.Opened.{by_opened, opens, opens_as, says_one}
 use Rattle.ov_top.proofs.runs.run_script.Goals as goal
 
 pub returns-in-Ok-clause-plays : goal.returns-in-Ok-clause-plays
@@ -27,7 +27,8 @@ returns-in-Ok-clause-cause g c = λ words are.
     are (λ told. opens (g.H.Host.state c.args.host.now).tape.disk c.in-Ok.store.held (g.H.Host.state c.open.new.host) (c.in-Ok.ensures.answer told))
     c.open.ensures.passes.faults c.status_of.result c.serve_all.result c.status_of.ensures
     c.serve_all.ensures.host c.serve_all.ensures.input
-    c.serve_all.ensures.damaged
+    (c.serve_all.ensures.damaged (λ tells. by_opened (g.H.Host.state c.args.host.now).tape.disk c.in-Ok.store.held (g.H.Host.state c.open.new.host)
+    (c.in-Ok.ensures.answer (sym c.open.ensures.passes.told ∙ tells))))
     c.serve_all.ensures.too_long c.serve_all.ensures.ended
 
 pub returns-in-Ok-clause-keeps : goal.returns-in-Ok-clause-keeps

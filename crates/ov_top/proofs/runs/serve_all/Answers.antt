@@ -50,6 +50,7 @@ lines-init g c = record {
       c.args.store.held c.args.store.held (g.H.Host.state c.args.host.now) (g.H.Host.state c.args.host.now)) (sym c.in_ok-reader.ensures)
       (gone_start c.args.steps w s (g.S.Source.script c.args.source.now).left c.args.store.held (g.H.Host.state c.args.host.now) at);
   lined = λ told. ([], ap (λ (r : Taken). lines_of (left_of r (g.S.Source.script c.args.source.now))) (sym c.in_ok-reader.ensures));
+  by_journal = λ by. by;
   at = λ w at. (w, at);
   fetched = λ told are.
       subst (λ (r : Taken). Fetches c.args.store.held c.args.store.held (lines_of (g.S.Source.script c.args.source.now).left)
@@ -151,6 +152,9 @@ lines-preserved g c =
           let given = given_true _ _ _ _ _ c.if-branch.true (c.in_ok-next_line.ensures.given (inv.told ∙ told) (inv.at_end told))
           in lined_more c.next_line.new.self.ended (g.S.Source.script c.args.source.now).left given.0 (left_of c.lines.reader (g.S.Source.script c.lines.source))
           (left_of c.next_line.new.self (g.S.Source.script c.next_line.new.source)) (inv.lined told) given.1;
+      by_journal = λ by tells.
+          let tells_old : (g.H.Host.state c.lines.host).tells ≡ true = sym c.serve.ensures.goes.told ∙ tells
+          in c.in_ok-served.ensures.by_journal (inv.by_journal by tells_old) (λ is. cc);
       at = λ w at. let so = inv.at w at in c.in_ok-served.ensures.at so.0 so.1;
       fetched = λ told are.
           let left = left_of c.lines.reader (g.S.Source.script c.lines.source)
@@ -205,7 +209,7 @@ returns-clause-served g c = λ w script stage at.
     )
 
 pub returns-in_err-next_line-clause-damaged : goal.returns-in_err-next_line-clause-damaged
-returns-in_err-next_line-clause-damaged g c =
+returns-in_err-next_line-clause-damaged g c = λ by.
     let e = c.in_err-next_line.field-0.0
     in let is : c.from_residual-in_err-next_line.result ≡ Err (by_reading e)
     = err_is c.from_residual-in_err-next_line.result (by_reading e) c.from_residual-in_err-next_line.ensures.0 c.from_residual-in_err-next_line.ensures.1
@@ -230,7 +234,7 @@ returns-clause-fetched g c = λ told are.
     (lines_of (left_of c.lines.reader (g.S.Source.script c.lines.source))) (g.H.Host.state c.args.host.now) (g.H.Host.state c.lines.host) (c.lines.invariant.fetched told are)
 
 pub returns-in_err-served-clause-damaged : goal.returns-in_err-served-clause-damaged
-returns-in_err-served-clause-damaged g c =
+returns-in_err-served-clause-damaged g c = λ by.
     let first = g.S.Source.script c.args.source.now
     in let left = left_of c.lines.reader (g.S.Source.script c.lines.source)
     in let later = left_of c.next_line.new.self (g.S.Source.script c.next_line.new.source)
@@ -242,6 +246,7 @@ returns-in_err-served-clause-damaged g c =
     = err_is c.from_residual-in_err-served.result (by_serving e) c.from_residual-in_err-served.ensures.0 c.from_residual-in_err-served.ensures.1
     in subst (λ (r : Result Bool RunErr). IfErr r (IsRunDamage first staged host)) (sym is)
     (run_damage c.as_slice.result.now c.lines.store c.serve.new.store first stage staged (g.H.Host.state c.lines.host) host c.serve.ensures.attended.told
+    (c.lines.invariant.by_journal by)
     (λ command asks_ told.
     let given = given_true _ _ _ _ _ c.if-branch.true (c.in_ok-next_line.ensures.given (c.lines.invariant.told ∙ told) (c.lines.invariant.at_end told))
     in asked_among c.next_line.new.self.ended c.as_slice.result.now c.next_line.new.line.items given.0 first.left left later c.as_slice.ensures.value given.2

@@ -1,6 +1,7 @@
 use Rattle.std.proofs.Common.{◌≡◌, ◌≤◌, ◌+◌, ℕ, List, ◌++◌, true, length, codes}
 use Rattle.ov_core.specs.AtWorld.{IsAtWorld}
 use Rattle.law_runs.specs.Serving.{session_of}
+use Rattle.ov_core.specs.Held.{IsByJournal}
 use Rattle.ov_model.specs.Words.{lines_of}
 use Rattle.ov_model.specs.World.{World}
 use Rattle.ov_session.specs.Commands.{Attended, Goes}
@@ -30,6 +31,8 @@ invariant-lines g l =
           (script l.fn.source).left (left_of l.reader (script l.source)) l.reader.ended l.failed l.fn.store.held l.store.held (state l.fn.host) (state l.host);
       lined : (script l.fn.source).tells ≡ true
           → (gone : List (List ℕ)) × (lines_of (script l.fn.source).left ≡ gone ++ lines_of (left_of l.reader (script l.source)));
+      by_journal : ((state l.fn.host).tells ≡ true → IsByJournal l.fn.store.held (state l.fn.host)) → (state l.host).tells ≡ true
+          → IsByJournal l.store.held (state l.host);
       at : (w : World) → IsAtWorld w l.fn.store.held (state l.fn.host) → IsAtSome l.store.held (state l.host);
       fetched : (script l.fn.source).tells ≡ true → AreReading (lines_of (script l.fn.source).left)
           → Fetches l.fn.store.held l.store.held (lines_of (script l.fn.source).left) (lines_of (left_of l.reader (script l.source)))
