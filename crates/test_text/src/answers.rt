@@ -1,5 +1,8 @@
 //! Answers of queries over a few people in three versions.
 
+ghost use Rattle.std.specs.Prelude.{IfOk};
+ghost use Rattle.ov_fetch.specs.Scans.{IsSound};
+
 use crate::asked::query;
 use crate::schemas::{PEOPLE, schema};
 use ov_fetch::{Scan, Vids};
@@ -13,9 +16,6 @@ use ov_typing::typed;
 use ov_value::{Schema, Value};
 use std::alloc::{AllocError, Global};
 use std::test::Fail;
-
-ghost use Rattle.std.specs.Prelude.{IfOk};
-ghost use Rattle.ov_fetch.specs.Scans.{IsSound};
 
 // The records 1 to 5: (1, ann, 10), (2, bob, 20), (2, bob, 25), (3, cy, 30) and (4, dee, NULL).
 const SEGMENT: &[u8] = b"\0\0\0\x01\0\0\0\x17\0\0\0\0\0\0\0\x01\0\0\0\x03ann\0\0\0\0\0\0\0\x0a\
@@ -150,7 +150,11 @@ const ANSWERS: &[(usize, &str, &str)] = &[
 #[test]
 fn answers_over_versions(rt: HostRuntime) -> Result<(), Fail> {
     for (count, text, want) in ANSWERS {
-        assert_eq!(rt; answered(rt.alloc(), *count, text)?.as_str(), *want, "{text}");
+        assert_eq!(rt;
+            answered(rt.alloc(), *count, text)?.as_str(),
+            *want,
+            "{text}"
+        );
     }
     Ok(())
 }
