@@ -10,7 +10,7 @@ use Rattle.ov_host.specs.Source.{Script}
 use Rattle.ov_host.specs.Stage.{Files as Map, Staged}
 use Rattle.ov_host.specs.Tape.{Tape}
 use Rattle.ov_journal.specs.Bytes.{IsLive}
-use Rattle.ov_journal.specs.Held.{IsAt, kept_by}
+use Rattle.ov_journal.specs.Held.{kept_by}
 use Rattle.ov_journal.specs.Journal.{IsJournal}
 use Rattle.ov_fetch.specs.Extents.{Looked}
 use Rattle.ov_files.specs.Files.{file_rows}

@@ -59,8 +59,8 @@ HasOpened old = old.host.tells ≡ true → Opens old.host.tape.disk
 
 -- The areas' bytes are a cause only where the host tells them, the script's where the source does. Bytes that open are refused for
 -- nothing, so `NotAStore`, `Format` and opening's `Damaged` come exactly by the bytes, but for a fault and want of memory. A
--- script that was read to its end has fewer than 2^32 bytes, so `ScriptTooLong` comes exactly where one that has more was read
--- so far.
+-- script that was read to its end has fewer than 2^32 bytes, so a longer one never ends as `Done` or `Refused`, nor a shorter one
+-- as `ScriptTooLong`.
 abbrev pub Cause : Status → List (List ℕ) → Ends → Ends → Type 0
 Cause Done words old new = AreWords words × HasOpened old × (old.script.tells ≡ true → IsReadWhole old.script new.script)
 Cause Refused words old new = AreWords words × HasOpened old × (old.script.tells ≡ true → IsReadWhole old.script new.script)
