@@ -1,5 +1,5 @@
 // The lines of a script, taken from its source by pieces.
-ghost use Rattle.std.specs.Prelude.{◌≡◌, ◌<◌, ◌≤◌, ◌+◌, ◌-◌, ◌^◌, ◌++◌, ◌∷◌, [], true, length, take, IsErr, IsErrOf, IfErr, IfOk, OnOk, IfSome, IfNone, MatchBool, slice_index, false, is_ok};
+ghost use Rattle.std.specs.Prelude.{◌≡◌, ◌<◌, ◌≤◌, ◌+◌, ◌-◌, ◌^◌, ◌++◌, ◌∷◌, [], true, length, take, IsErr, IsErrOf, IfErr, IfOk, OnOk, IfSome, IfNone, MatchBool, slice_index, false, is_ok, Ok};
 ghost use Rattle.ov_host.specs.Source.{Asks, Gives};
 ghost use Rattle.ov_host.specs.Host.{Rose};
 ghost use Rattle.ov_script.specs.Reader.{Taken, left_of, Took, GivesLine, TakesLine, Fills, has_feed, IsAtEnd, IsCutOff, IsShorter, IsUnread, room_of};
@@ -58,14 +58,14 @@ pub struct Reader {
 }
 
 impl Model for Reader {
-    ghost use Rattle.std.specs.Prelude.{◌≡◌, ◌≤◌, ◌-◌, ◌^◌, take, drop, length};
+    ghost use Rattle.std.specs.Prelude.{◌≡◌, ◌<◌, ◌≤◌, ◌-◌, ◌^◌, true, take, drop, length};
     ghost use Rattle.ov_script.specs.Reader.{Taken};
 
     ghost Value = { Taken };
 
     ghost view = { λ r. record { unread = take (r.end - r.at) (drop r.at r.buffer.items); count = r.count; ended = r.ended } };
 
-    ghost invariant = { λ r. (r.at ≤ r.end) × (r.end ≤ length r.buffer.items) × (length r.buffer.items ≡ 65536) × (r.count ≤ 2 ^ 32) };
+    ghost invariant = { λ r. (r.at ≤ r.end) × (r.end ≤ length r.buffer.items) × (length r.buffer.items ≡ 65536) × (r.count ≤ 2 ^ 32) × (r.ended ≡ true → r.count < 2 ^ 32) };
 }
 
 fn piece(alloc: Global) -> Result<Vec<u8>, AllocError>
@@ -104,6 +104,7 @@ impl Reader {
             Fills more self.old (S.script source.old) self.new (S.script source.new)) }
         ensures unfilled { (S.script source.old).tells ≡ true → IsErr result → IsUnread self.old (S.script source.old) (S.script source.new) }
         ensures bounded { self.new.count ≤ 2 ^ 32 }
+        ensures below { self.new.ended ≡ true → self.new.count < 2 ^ 32 }
         ensures unread { OnOk result (length self.new.unread + self.old.count ≡ self.new.count) }
     {
         if self.ended {
@@ -133,6 +134,7 @@ impl Reader {
         ensures taken { IfOk result (λ found. TakesLine found self.old.unread self.new.unread line.old.items line.new.items) }
         ensures fewer { IfOk result (λ found. IsShorter found self.old.unread self.new.unread line.old.items line.new.items) }
         ensures bounded { self.new.count ≤ 2 ^ 32 }
+        ensures below { self.new.ended ≡ true → self.new.count < 2 ^ 32 }
     {
         let unread = &self.buffer[self.at..self.end];
         match feed_in(unread) {
@@ -161,6 +163,9 @@ impl Reader {
         ensures took { Took self.old self.new (S.script source.old) (S.script source.new) }
         ensures cause { IsErrOf result ReadErr.Input → Rose (S.script source.old).faults (S.script source.new).faults }
         ensures too_long { IsErrOf result ReadErr.TooLong → self.new.count ≡ 2 ^ 32 }
+        ensures bounded { self.new.count ≤ 2 ^ 32 }
+        ensures below { self.new.ended ≡ true → self.new.count < 2 ^ 32 }
+        ensures seen { result ≡ Ok false → self.new.ended ≡ true }
         ensures given { (S.script source.old).tells ≡ true → IsAtEnd self.old (S.script source.old) → IfOk result (λ more.
             GivesLine self.new.ended more (left_of self.old (S.script source.old)) (left_of self.new (S.script source.new)) line.new.items) }
         ensures cut_off { (S.script source.old).tells ≡ true → IfErr result (λ e.

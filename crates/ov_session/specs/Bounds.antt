@@ -1,5 +1,6 @@
 -- How many bytes of pages serving a line may fetch.
 --     may_fetch n line      of a checkout and of a commit what the versions that it lists have; of every other line nothing
+--     IsReading line      the line changes no store
 --     line_off n line      why the numbers refuse a checkout's versions or a commit's parents
 use Rattle.std.specs.Prelude.{ℕ, List, Option, Some, None}
 use Rattle.ov_host.specs.declared.area.Extent.{Extent}
@@ -35,3 +36,14 @@ command_off n _ = None
 abbrev pub line_off : Numbers Extent Extent → Line → Option StoreErr
 line_off n (Asks command) = command_off n command
 line_off n _ = None
+
+-- commands and lines that change no store: a comment and one that is refused too
+abbrev pub IsReadingCommand : Command → Type 0
+IsReadingCommand (asks.Checkout cvd vids file table) = Unit {0}
+IsReadingCommand (asks.Log cvd) = Unit {0}
+IsReadingCommand asks.Ls = Unit {0}
+IsReadingCommand _ = ⊥
+
+abbrev pub IsReading : Line → Type 0
+IsReading (Asks command) = IsReadingCommand command
+IsReading _ = Unit {0}

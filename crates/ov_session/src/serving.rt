@@ -15,7 +15,7 @@ ghost use Rattle.ov_core.specs.Held.{IsByJournal};
 ghost use Rattle.law_runs.specs.Serving.{Serves, is_error as is_error_of, session_of};
 ghost use Rattle.ov_store.specs.Kept.{Kept, MayCall};
 ghost use Rattle.ov_store.specs.declared.errors.StoreErr.{StoreErr};
-ghost use Rattle.ov_session.specs.Bounds.{command_fetch, command_off, line_off, may_fetch};
+ghost use Rattle.ov_session.specs.Bounds.{IsReading, IsReadingCommand, command_fetch, command_off, line_off, may_fetch};
 ghost use Rattle.ov_session.specs.Replying.{IsReplied};
 ghost use Rattle.ov_session.specs.Standing.{IsAtSilently, IsAtSome, IsIdle};
 ghost use Rattle.ov_session.specs.Commands.{Acts, Attended, Goes, IfNoFile, IsDamageOf, IsDamaged, IsNoDamage, IsSaid, IsUnsaid, MeetsDamage, is_comment_in, is_comment_of, is_refused};
@@ -55,6 +55,7 @@ fn answer<H: Host, T: Stage>(
     requires asked { IsAsked command }
     ensures goes { Goes (H.state host.old) (H.state host.new) }
     ensures attended { Attended (T.staged stage.old) (T.staged stage.new) }
+    ensures still { IsReadingCommand command → store.new.held ≡ store.old.held }
     ensures fetched { (H.state host.new).fetched ≤ (H.state host.old).fetched + command_fetch store.old.held.numbers command }
     ensures unread { (off : StoreErr) → command_off store.old.held.numbers command ≡ Some off
         → OnOk result ((H.state host.new).fetched ≡ (H.state host.old).fetched) }
@@ -157,6 +158,7 @@ pub fn serve<H: Host, T: Stage>(
     requires user { IsTrue (is_name user.old) }
     ensures goes { Goes (H.state host.old) (H.state host.new) }
     ensures attended { Attended (T.staged stage.old) (T.staged stage.new) }
+    ensures still { IsReading (line_of built_forms line.now) → store.new.held ≡ store.old.held }
     ensures fetched { (H.state host.new).fetched
         ≤ (H.state host.old).fetched + may_fetch store.old.held.numbers (line_of built_forms line.now) }
     ensures unread { (off : StoreErr) → line_off store.old.held.numbers (line_of built_forms line.now) ≡ Some off

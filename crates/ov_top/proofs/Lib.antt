@@ -1,1 +1,4 @@
-pub mod Lined
+mod Composed
+mod Lined
+mod Opened
+mod Reading

@@ -1,13 +1,13 @@
 -- A run out of its lines.
 use Rattle.std.proofs.Common.{◌≡◌, ◌≤◌, ◌<◌, ◌+◌, ◌||◌, ◌⊎◌, inl, inr, ℕ, Bool, true, false, List, [], ◌∷◌, ◌++◌, length, map, take, refl, sym, ◌∙◌, ap, subst, append-nil, append_assoc, arith}
-use Rattle.std.specs.Prelude.{Err, IsErr, IsTrue, Ok, Result, codes, nat_lt}
+use Rattle.std.specs.Prelude.{Err, IfErr, IsErr, IsErrOf, IsOk, IsTrue, Ok, Result, ◌^◌, codes, nat_lt, None, Option, Some}
 use Rattle.std.specs.Result.{IsErrAnd}
 use Rattle.ov_value.specs.Naming.{is_name}
 use Rattle.std.proofs.lemmas.List.{length-take, take_all}
 use Rattle.std.proofs.lemmas.Bool.{cases_lt, cond-true, lt-ltb}
 use Rattle.ov_host.specs.Disk.{Disk, Image, Leaves, Stored, as_read}
 use Rattle.ov_host.specs.Host.{Rose, State}
-use Rattle.ov_host.specs.Stage.{Files as Map}
+use Rattle.ov_host.specs.Stage.{Files as Map, Staged}
 use Rattle.ov_host.specs.Stops.{Only}
 use Rattle.ov_host.specs.Tape.{clock, left_since}
 use Rattle.ov_host.proofs.Stops.{only_left, only_start, only_then, only_wider}
@@ -34,9 +34,8 @@ use Rattle.ov_model.specs.Act.{Session}
 use Rattle.ov_model.proofs.Replying.{says_some}
 use Rattle.ov_model.specs.Course.{Item, SaysSome, Space, line_served, play, served}
 use Rattle.ov_model.specs.Forms.{built_forms}
-use Rattle.ov_model.specs.Line.{Asks, Refused, line_of}
+use Rattle.ov_model.specs.Line.{Refused, line_of}
 use Rattle.ov_model.specs.Words.{lines_of}
-use Rattle.ov_model.specs.declared.command.Command.{Command}
 use Rattle.ov_model.specs.World.{World}
 use Rattle.ov_model.specs.declared.refusal.Refusal.TheVariants.{LongLine}
 use Rattle.ov_open.specs.Opening.{IsOpened, IsOutside, IsWorld}
@@ -44,7 +43,7 @@ use Rattle.ov_open.specs.Refusing.{Refuses}
 use Rattle.ov_open.specs.declared.errors.OpenErr.{OpenErr}
 use Rattle.ov_open.specs.declared.errors.OpenErr.TheVariants as opened
 use Rattle.law_room.specs.Room.{Entry, IsWithin, Made}
-use Rattle.ov_session.specs.Commands.{IsDamageOf, IsDamaged, IsNoDamage}
+use Rattle.ov_session.specs.Commands.{Attended, IsNoDamage}
 use Rattle.ov_session.specs.declared.errors.EndErr.{EndErr}
 use Rattle.ov_session.specs.declared.errors.EndErr.TheVariants as ending
 use Rattle.ov_script.specs.declared.reader.ReadErr.{ReadErr}
@@ -53,16 +52,16 @@ use Rattle.ov_top.specs.declared.errors.RunErr.{RunErr}
 use Rattle.ov_top.specs.declared.errors.RunErr.TheVariants as running
 use Rattle.ov_top.specs.declared.status.Status.{Status}
 use Rattle.ov_top.specs.declared.status.Status.TheVariants.{Memory}
-use Rattle.ov_top.specs.Ending.{AreWords, Cause, Ends, IsEntry, IsTold, Played, PlayedTaken, Plays, Stops, course_of, course_taken, lines_taken, session_at}
+use Rattle.ov_top.specs.Ending.{AreWords, Cause, Ends, HasOpened, IsEntry, IsTold, IsUndamaged, Keeps, Played, PlayedTaken, Plays, Stops, course_of, course_taken, lines_taken, session_at}
 use Rattle.ov_top.specs.Errors.{by_reading, by_serving}
-use Rattle.ov_top.specs.Running.{AllServed, IsHalted, IsRunDamage, status_by, status_by_opening}
-use Rattle.ov_script.specs.Reader.{GivesLine, IsCutOff, IsNext, Taken, ended_lines, has_feed, taken_of}
+use Rattle.ov_top.specs.Running.{AllServed, IsHalted, IsReadWhole, IsRunDamage, IsUnharmed, Spent, status_by, status_by_opening}
+use Rattle.ov_script.specs.Reader.{GivesLine, IsCutOff, IsNext, Taken, Took, ended_lines, has_feed, taken_of}
 use Rattle.ov_script.proofs.Readers.{ended_at, next_lines, no_ended, taken_is}
 use Rattle.ov_host.specs.Source.{Script}
 
 -- ---- what is kept of a line says what it is
 
-long_line : (line : List ℕ) → 65536 < length line → line_of built_forms line ≡ Refused LongLine
+pub long_line : (line : List ℕ) → 65536 < length line → line_of built_forms line ≡ Refused LongLine
 long_line line long = cond-true (nat_lt 65536 (length line)) (Refused LongLine) _ (lt-ltb 65536 (length line) long)
 
 pub kept_line : (line : List ℕ) → line_of built_forms (take 65537 line) ≡ line_of built_forms line
@@ -279,14 +278,6 @@ pub no_lines : (ended b : Bool) (before now kept : List ℕ) → b ≡ false →
 no_lines ended true before now kept e g = cc
 no_lines ended false before now kept e g = ap lines_of g.0
 
--- what a command read is damaged, also where the store was only looked at since
-pub run_damage : (e : EndErr) (line : List ℕ) (held : Held) (s : State)
-    → IsDamageOf (λ page. (command : Command) × (line_of built_forms line ≡ Asks command) × IsDamaged command held s page) e → IsRunDamage s (by_serving e)
-run_damage ending.Host line held s is = tt
-run_damage ending.Stage line held s is = tt
-run_damage ending.Memory line held s is = tt
-run_damage (ending.Damaged area at) line held s is = (is.0, is.1.0, held, is.1.2)
-
 -- ---- a whole run
 
 module _ (steps : ℕ) (w : World) (old mid new : Ends) (told : IsTold w old) (held : Held) (opened : IsOpened old.host.tape.disk held mid.host) (at : IsAtWorld w held mid.host)
@@ -382,16 +373,105 @@ module _ (steps : ℕ) (w : World) (old new : Ends) (told : IsTold w old) (openi
   plays_memory = stops_none
 
 cause_opening : (off : OpenErr) (words : List (List ℕ)) (old new : Ends) → AreWords words → (off ≡ opened.Host → Rose old.host.faults new.host.faults)
-    → (old.host.tells ≡ true → Refuses off old.host.tape.disk new.host.tape.disk) → new.script ≡ old.script → Cause (status_by_opening off) words old new
-cause_opening opened.Host words old new are rose refuses same = (are, rose refl)
-cause_opening opened.Memory words old new are rose refuses same = λ none. absurd (are none)
-cause_opening opened.NotAStore words old new are rose refuses same = (are, record { refuses = refuses; script_same = same })
-cause_opening (opened.Format found) words old new are rose refuses same = (are, record { refuses = refuses; script_same = same })
-cause_opening (opened.Damaged area at) words old new are rose refuses same = (are, inl (record { refuses = refuses; script_same = same }))
+    → (old.host.tells ≡ true → Refuses off old.host.tape.disk new.host.tape.disk) → new.script ≡ old.script → new.stage ≡ old.stage → Cause (status_by_opening off) words old new
+cause_opening opened.Host words old new are rose refuses same still = (are, rose refl)
+cause_opening opened.Memory words old new are rose refuses same still = λ none. absurd (are none)
+cause_opening opened.NotAStore words old new are rose refuses same still = (are, record { refuses = refuses; script_same = same; stage_same = still })
+cause_opening (opened.Format found) words old new are rose refuses same still = (are, record { refuses = refuses; script_same = same; stage_same = still })
+cause_opening (opened.Damaged area at) words old new are rose refuses same still = (are, inl (record { refuses = refuses; script_same = same; stage_same = still }))
 
 pub cause_unopened : (status : Status) (off : OpenErr) (words : List (List ℕ)) (old new : Ends) → status ≡ status_by_opening off → AreWords words → (off ≡ opened.Host → Rose old.host.faults new.host.faults)
-    → (old.host.tells ≡ true → Refuses off old.host.tape.disk new.host.tape.disk) → new.script ≡ old.script → Cause status words old new
-cause_unopened status off words old new is are rose refuses same = subst (λ (x : Status). Cause x words old new) (sym is) (cause_opening off words old new are rose refuses same)
+    → (old.host.tells ≡ true → Refuses off old.host.tape.disk new.host.tape.disk) → new.script ≡ old.script → new.stage ≡ old.stage → Cause status words old new
+cause_unopened status off words old new is are rose refuses same still = subst (λ (x : Status). Cause x words old new) (sym is) (cause_opening off words old new are rose refuses same still)
+
+-- ---- a store that was opened
+
+-- where a count rose in the end, it rose in all
+pub rose_in_all : (old mid new : ℕ) → old ≤ mid → Rose mid new → Rose old new
+rose_in_all old mid new so_far rose = omega (arith, so_far, rose)
+
+module _ (words : List (List ℕ)) (old mid new : Ends) (are : AreWords words) (opens : HasOpened old) (so_far : old.host.faults ≤ mid.host.faults) where
+  cause_ran : (ran : Result Bool RunErr) → (IsErrOf ran running.Host → Rose mid.host.faults new.host.faults)
+      → (IsErrOf ran running.Input → Rose old.script.faults new.script.faults ⊎ Rose old.stage.faults new.stage.faults)
+      → IfErr ran (IsRunDamage old.script new.stage new.host)
+      → (IsErrOf ran running.TooLong → old.script.tells ≡ true → length old.script.left ≡ length new.script.left + 2 ^ 32)
+      → (old.script.tells ≡ true → IsOk ran → IsReadWhole old.script new.script)
+      → Cause (status_by ran) words old new
+  cause_ran (Ok false) host input damaged long whole = (are, opens, λ told. whole told refl)
+  cause_ran (Ok true) host input damaged long whole = (are, opens, λ told. whole told refl)
+  cause_ran (Err running.Host) host input damaged long whole =
+      let rose = host refl in (are, rose_in_all old.host.faults mid.host.faults new.host.faults so_far rose)
+  cause_ran (Err running.Input) host input damaged long whole = (are, opens, input refl)
+  cause_ran (Err running.Memory) host input damaged long whole = λ none. absurd (are none)
+  cause_ran (Err (running.Damaged area at)) host input damaged long whole =
+      (are, inr (opens, damaged.0, damaged.1))
+  cause_ran (Err running.TooLong) host input damaged long whole = (are, opens, long refl)
+
+  pub cause_opened : (status : Status) (ran : Result Bool RunErr) → status ≡ status_by ran → (IsErrOf ran running.Host → Rose mid.host.faults new.host.faults)
+      → (IsErrOf ran running.Input → Rose old.script.faults new.script.faults ⊎ Rose old.stage.faults new.stage.faults)
+      → IfErr ran (IsRunDamage old.script new.stage new.host)
+      → (IsErrOf ran running.TooLong → old.script.tells ≡ true → length old.script.left ≡ length new.script.left + 2 ^ 32)
+      → (old.script.tells ≡ true → IsOk ran → IsReadWhole old.script new.script)
+      → Cause status words old new
+  cause_opened status ran is host input damaged long whole =
+      subst (λ (x : Status). Cause x words old new) (sym is) (cause_ran ran host input damaged long whole)
+
+-- ---- no damage
+
+undamaged_ran : (ran : Result Bool RunErr) → IfErr ran IsUnharmed → IsUndamaged (status_by ran)
+undamaged_ran (Ok false) is = tt
+undamaged_ran (Ok true) is = tt
+undamaged_ran (Err running.Host) is = tt
+undamaged_ran (Err running.Input) is = tt
+undamaged_ran (Err running.Memory) is = tt
+undamaged_ran (Err running.TooLong) is = tt
+undamaged_ran (Err (running.Damaged area at)) is = absurd is
+
+pub undamaged_opened : (status : Status) (ran : Result Bool RunErr) → status ≡ status_by ran → IfErr ran IsUnharmed → IsUndamaged status
+undamaged_opened status ran is fine = subst IsUndamaged (sym is) (undamaged_ran ran fine)
+
+undamaged_opening : (off : OpenErr) → IsOutside off → IsUndamaged (status_by_opening off)
+undamaged_opening opened.Host is = tt
+undamaged_opening opened.Memory is = tt
+undamaged_opening opened.NotAStore is = absurd is
+undamaged_opening (opened.Format found) is = absurd is
+undamaged_opening (opened.Damaged area at) is = absurd is
+
+pub undamaged_unopened : (status : Status) (off : OpenErr) → status ≡ status_by_opening off → IsOutside off → IsUndamaged status
+undamaged_unopened status off is outside = subst IsUndamaged (sym is) (undamaged_opening off outside)
+
+-- ---- what a run keeps
+
+pub spent_still : (script : Script) → Spent script script
+spent_still script = record { told = refl; faults = omega arith; taken = λ told. omega arith }
+
+pub attended_still : (stage : Staged) → Attended stage stage
+attended_still stage = record { told = refl; faults = omega arith; misses = omega arith }
+
+pub keeps_still : (ends : Ends) → Keeps ends ends
+keeps_still ends = record {
+  host = record { told = refl; kept = refl; faults = omega arith };
+  script = spent_still ends.script;
+  stage = attended_still ends.stage;
+}
+
+pub spent_by : (first mid last : Script) (before now : Taken) → mid.tells ≡ first.tells → first.faults ≤ mid.faults
+    → (first.tells ≡ true → length first.left ≡ length mid.left + before.count) → Took before now mid last → now.count ≤ 2 ^ 32 → Spent first last
+spent_by first mid last before now told faults counted took bounded = record {
+  told = took.told ∙ told;
+  faults = omega (arith, faults, took.faults);
+  taken = λ tells.
+      let so_far = counted tells
+      in let more = took.counted (told ∙ tells)
+      in omega (arith, so_far, more, bounded);
+}
+
+pub read_whole : (first mid last : Script) (before now : Taken) → length first.left ≡ length mid.left + before.count
+    → length mid.left + before.count ≡ length last.left + now.count → now.count < 2 ^ 32 → last.left ≡ [] → IsReadWhole first last
+read_whole first mid last before now so_far more below none = record {
+  left = none;
+  fewer = let nothing : length last.left ≡ 0 = ap length none in omega (arith, so_far, more, below, nothing);
+}
 
 -- where no end was called, a stop leaves the World as it was
 pub still_world : (w : World) (ends : Ends) → IsTold w ends → Only ends.host.tape ends.host.tape (IsWorld w (printed_of ends.host))
@@ -420,10 +500,6 @@ pub not_seen : (b : Bool) → b ≡ true → b ≡ false → ⊥
 not_seen true seen open_ = cc
 not_seen false seen open_ = cc
 
--- where a count rose in the end, it rose in all
-pub rose_in_all : (old mid new : ℕ) → old ≤ mid → Rose mid new → Rose old new
-rose_in_all old mid new so_far rose = omega (arith, so_far, rose)
-
 -- the first user is a user
 pub admin_is_name : IsTrue (is_name (codes "admin"))
 unfolding is_name
@@ -433,3 +509,7 @@ admin_is_name = refl
 pub err_is : (r : Result Bool RunErr) (x : RunErr) → IsErr r → IsErrAnd r (λ y. y ≡ x) → r ≡ Err x
 err_is (Ok b) x fails is = absurd is
 err_is (Err y) x fails is = ap Err is
+
+-- the words ask for one number of steps
+pub steps_same : (folder : List ℕ) (steps : ℕ) (o : List ℕ × ℕ) → Some (folder, steps) ≡ Some o → steps ≡ o.1
+steps_same folder steps o is = ap (λ (asked : Option (List ℕ × ℕ)). elim asked as (λ _. ℕ) [ None ↦ 0 | Some pair ↦ pair.1 ]) is

@@ -1,5 +1,7 @@
 -- How a run ended: the cause of each status, what was printed, and what a stop at any moment of it leaves.
 --     Cause status words old new      why the run ended so
+--     IsUndamaged status      no bytes are the cause
+--     Keeps old new      what every run keeps to, however it ends
 --     IsTold w old      the ends tell their bytes, nothing is pending, and the store's bytes stand for the World
 --     Plays status steps w old new      what was said and done, and what a stop left
 use Rattle.std.specs.Prelude.{◌≡◌, ◌≢◌, ◌≤◌, ◌<◌, ◌⊎◌, ◌+◌, ◌^◌, ◌++◌, ℕ, Bool, true, false, List, [], length, None, codes}
@@ -14,8 +16,6 @@ use Rattle.ov_journal.specs.Journal.{IsUnmade, Kept, end_of}
 use Rattle.ov_catalog.specs.Extents.{covers, live}
 use Rattle.ov_catalog.specs.Raw.{numbers_in}
 use Rattle.law_image.specs.Images.{StandsAs, StandsBy}
-use Rattle.ov_core.specs.AtWorld.{IsAtWorld}
-use Rattle.ov_core.specs.Held.{Held}
 use Rattle.law_runs.specs.Licence.{Licensed}
 use Rattle.law_runs.specs.Serving.{has_error, session_of}
 use Rattle.law_runs.specs.Stops.{IsDue, printed_of}
@@ -24,14 +24,15 @@ use Rattle.ov_model.specs.Course.{Served, Space, course, play}
 use Rattle.ov_model.specs.Forms.{built_forms}
 use Rattle.ov_model.specs.Words.{lines_of}
 use Rattle.ov_model.specs.World.{World}
-use Rattle.ov_model.specs.declared.command.Command.{Command}
 use Rattle.ov_open.specs.declared.errors.OpenErr.{OpenErr}
 use Rattle.ov_open.specs.declared.errors.OpenErr.TheVariants as opening
 use Rattle.ov_open.specs.Refusing.{Refuses}
 use Rattle.law_room.specs.Room.{Entry}
-use Rattle.ov_session.specs.Commands.{IsDamaged}
+use Rattle.ov_session.specs.Commands.{Attended, Goes}
 use Rattle.ov_args.specs.Words.{options_of}
 use Rattle.ov_script.specs.Reader.{ended_lines, taken_of}
+use Rattle.ov_top.specs.Bytes.{Opens}
+use Rattle.ov_top.specs.Running.{IsReadWhole, ReadsDamage, Spent}
 use Rattle.ov_top.specs.declared.status.Status.{Status}
 use Rattle.ov_top.specs.declared.status.Status.TheVariants.{Done, Refused, Usage, HostFault, InputFault, Memory, NotAStore, Damaged, Format, ScriptTooLong}
 
@@ -46,29 +47,45 @@ AreWords words = options_of words ≢ None
 
 -- ---- the cause of each status
 
--- opening refuses the bytes so, where the host tells them; nothing of the script was taken
+-- opening refuses the bytes so, where the host tells them; nothing of the script was taken, and the stage wasn't called
 pub record IsUnopened (why : OpenErr) (old new : Ends) : Type 0 where
   pub refuses : old.host.tells ≡ true → Refuses why old.host.tape.disk new.host.tape.disk
   pub script_same : new.script ≡ old.script
+  pub stage_same : new.stage ≡ old.stage
 
--- a command of the script read what is damaged, by what the store kept then
-pub record ReadsDamage (page : ℕ) (new : Ends) : Type 0 where
-  pub command : Command
-  pub held : Held
-  pub damaged : IsDamaged command held new.host page
+-- opening refused nothing: the bytes at the entry open, where the host tells them
+abbrev pub HasOpened : Ends → Type 0
+HasOpened old = old.host.tells ≡ true → Opens old.host.tape.disk
 
--- The areas' bytes are a cause only where the host tells them, the script's where the source does.
+-- The areas' bytes are a cause only where the host tells them, the script's where the source does. Bytes that open are refused for
+-- nothing, so `NotAStore`, `Format` and opening's `Damaged` come exactly by the bytes, but for a fault and want of memory. A
+-- script that was read to its end has fewer than 2^32 bytes, so `ScriptTooLong` comes exactly where one that has more was read
+-- so far.
 abbrev pub Cause : Status → List (List ℕ) → Ends → Ends → Type 0
-Cause Done words old new = AreWords words × (old.script.tells ≡ true → new.script.left ≡ [])
-Cause Refused words old new = AreWords words × (old.script.tells ≡ true → new.script.left ≡ [])
+Cause Done words old new = AreWords words × HasOpened old × (old.script.tells ≡ true → IsReadWhole old.script new.script)
+Cause Refused words old new = AreWords words × HasOpened old × (old.script.tells ≡ true → IsReadWhole old.script new.script)
 Cause Usage words old new = (options_of words ≡ None) × (new ≡ old)
 Cause HostFault words old new = AreWords words × Rose old.host.faults new.host.faults
-Cause InputFault words old new = AreWords words × (Rose old.script.faults new.script.faults ⊎ Rose old.stage.faults new.stage.faults)
+Cause InputFault words old new = AreWords words × HasOpened old × (Rose old.script.faults new.script.faults ⊎ Rose old.stage.faults new.stage.faults)
 Cause Memory words old new = options_of words ≡ None → new ≡ old
 Cause NotAStore words old new = AreWords words × IsUnopened opening.NotAStore old new
-Cause (Damaged area at) words old new = AreWords words × (IsUnopened (opening.Damaged area at) old new ⊎ ((area ≡ Pages) × ReadsDamage at new))
+Cause (Damaged area at) words old new = AreWords words × (IsUnopened (opening.Damaged area at) old new ⊎ (HasOpened old × (area ≡ Pages) × ReadsDamage old.script new.stage new.host at))
 Cause (Format found) words old new = AreWords words × IsUnopened (opening.Format found) old new
-Cause ScriptTooLong words old new = AreWords words × (old.script.tells ≡ true → length old.script.left ≡ length new.script.left + 2 ^ 32)
+Cause ScriptTooLong words old new = AreWords words × HasOpened old × (old.script.tells ≡ true → length old.script.left ≡ length new.script.left + 2 ^ 32)
+
+-- no bytes are the cause
+abbrev pub IsUndamaged : Status → Type 0
+IsUndamaged NotAStore = ⊥
+IsUndamaged (Damaged area at) = ⊥
+IsUndamaged (Format found) = ⊥
+IsUndamaged _ = Unit {0}
+
+-- What every run keeps to: whether an end tells, and whether the host keeps to the model, stays as it was; no count of faults or
+-- of misses falls; and at most 2^32 bytes of the script are taken.
+pub record Keeps (old new : Ends) : Type 0 where
+  pub host : Goes old.host new.host
+  pub script : Spent old.script new.script
+  pub stage : Attended old.stage new.stage
 
 -- ---- what was said and done
 

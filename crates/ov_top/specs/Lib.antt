@@ -1,3 +1,5 @@
 pub mod Errors
+pub mod Bytes
 pub mod Running
 pub mod Ending
+pub mod Composing

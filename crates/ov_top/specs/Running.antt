@@ -1,22 +1,43 @@
 -- The lines of a script, served one after another.
+--     Spent old new, IsReadWhole old new      what was taken of a script
 --     AllServed steps w s t lines taken still result ..      where the store is at a World
---     IsRunDamage s why      what a command read is damaged
+--     ReadsDamage script stage s page      a line of the script asked for what is damaged at this page
+--     reads n lines      how many bytes of pages these lines may fetch
 --     status_by ran, status_by_opening off      the status
-use Rattle.std.specs.Prelude.{◌≡◌, ℕ, Bool, true, false, List, Result, Ok, Err}
+use Rattle.std.specs.Prelude.{◌≡◌, ◌≤◌, ◌<◌, ◌+◌, ◌^◌, ℕ, Bool, true, false, List, [], ◌∷◌, ◌++◌, length, Result, Ok, Err}
 use Rattle.ov_host.specs.declared.area.Area.TheVariants.{Pages}
+use Rattle.ov_host.specs.declared.area.Extent.{Extent}
 use Rattle.ov_host.specs.Host.{State}
-use Rattle.ov_core.specs.Held.{Held}
+use Rattle.ov_host.specs.Source.{Script}
+use Rattle.ov_host.specs.Stage.{Staged}
+use Rattle.ov_catalog.specs.Numbers.{Numbers}
+use Rattle.ov_core.specs.Held.{Held, IsByJournal}
 use Rattle.law_runs.specs.Serving.{Ends, Halts, Runs}
 use Rattle.ov_model.specs.Act.{Session}
+use Rattle.ov_model.specs.Forms.{built_forms}
+use Rattle.ov_model.specs.Line.{Asks, line_of}
+use Rattle.ov_model.specs.Words.{lines_of}
 use Rattle.ov_model.specs.World.{World}
 use Rattle.ov_model.specs.declared.command.Command.{Command}
 use Rattle.ov_open.specs.declared.errors.OpenErr.{OpenErr}
 use Rattle.ov_open.specs.declared.errors.OpenErr.TheVariants as opening
+use Rattle.ov_session.specs.Bounds.{IsReading, may_fetch}
 use Rattle.ov_session.specs.Commands.{IsDamaged}
 use Rattle.ov_top.specs.declared.errors.RunErr.{RunErr}
 use Rattle.ov_top.specs.declared.errors.RunErr.TheVariants as running
 use Rattle.ov_top.specs.declared.status.Status.{Status}
 use Rattle.ov_top.specs.declared.status.Status.TheVariants.{Done, Refused, HostFault, InputFault, Memory, NotAStore, Damaged, Format, ScriptTooLong}
+
+-- whether the source tells its bytes stays as it was, its count of faults doesn't fall, and at most 2^32 bytes were taken
+pub record Spent (old new : Script) : Type 0 where
+  pub told : new.tells ≡ old.tells
+  pub faults : old.faults ≤ new.faults
+  pub taken : old.tells ≡ true → length old.left ≤ length new.left + 2 ^ 32
+
+-- all of the script was taken, and it has fewer than 2^32 bytes
+pub record IsReadWhole (old new : Script) : Type 0 where
+  pub left : new.left ≡ []
+  pub fewer : length old.left < 2 ^ 32
 
 -- it ended between two lines, when these were served
 abbrev pub IsHalted : ℕ → World → Session → Session → List (List ℕ) → List (List ℕ) → Held → State → State → Type 0
@@ -32,9 +53,41 @@ AllServed steps w s t lines taken still (Err running.Input) before old new =
 AllServed steps w s t lines taken still (Err running.TooLong) before old new = IsHalted steps w s t taken lines before old new
 AllServed steps w s t lines taken still (Err _) before old new = Runs steps w s lines before old new
 
-abbrev pub IsRunDamage : State → RunErr → Type 0
-IsRunDamage s (running.Damaged area at) = (area ≡ Pages) × (command : Command) × (held : Held) × IsDamaged command held s at
-IsRunDamage s _ = Unit {0}
+-- ---- damage
+
+-- one of the lines of a text
+abbrev pub IsLineOf : List ℕ → List ℕ → Type 0
+IsLineOf text line = (before : List (List ℕ)) × (after : List (List ℕ)) × (lines_of text ≡ before ++ line ∷ after)
+
+-- A line of the script asked for what is damaged at this page, by the numbers that the journal on the host says, and by the files
+-- of the stage, where it tells them.
+pub record ReadsDamage (script : Script) (stage : Staged) (s : State) (page : ℕ) : Type 0 where
+  pub line : List ℕ
+  pub among : script.tells ≡ true → IsLineOf script.left line
+  pub command : Command
+  pub asks : line_of built_forms line ≡ Asks command
+  pub held : Held
+  pub numbers : s.tells ≡ true → IsByJournal held s
+  pub damaged : IsDamaged command stage held s page
+
+abbrev pub IsRunDamage : Script → Staged → State → RunErr → Type 0
+IsRunDamage script stage s (running.Damaged area at) = (area ≡ Pages) × ReadsDamage script stage s at
+IsRunDamage script stage s _ = Unit {0}
+
+abbrev pub IsUnharmed : RunErr → Type 0
+IsUnharmed (running.Damaged area at) = ⊥
+IsUnharmed _ = Unit {0}
+
+-- ---- reads
+
+-- lines that change no store
+abbrev pub AreReading : List (List ℕ) → Type 0
+AreReading [] = Unit {0}
+AreReading (line ∷ lines) = IsReading (line_of built_forms line) × AreReading lines
+
+abbrev pub reads : Numbers Extent Extent → List (List ℕ) → ℕ
+reads n [] = 0
+reads n (line ∷ lines) = may_fetch n (line_of built_forms line) + reads n lines
 
 abbrev pub status_by : Result Bool RunErr → Status
 status_by (Ok false) = Done

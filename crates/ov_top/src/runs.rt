@@ -1,17 +1,25 @@
 // A whole run.
 ghost use Rattle.std.specs.Prelude.{◌≡◌, ◌≤◌, ◌||◌, ◌+◌, ◌^◌, ◌⊎◌, true, None, Some, List, ℕ, [], codes, length, IsErrOf, IfOk, IfErr, IsOk, MatchResult};
+ghost use Rattle.ov_host.specs.declared.area.Extent.{Extent};
+ghost use Rattle.ov_host.specs.Disk.{as_read};
 ghost use Rattle.ov_host.specs.Host.{Rose, State};
+ghost use Rattle.ov_host.specs.Stops.{Only};
+ghost use Rattle.ov_journal.specs.Opened.{IsLeftByOpen};
 ghost use Rattle.ov_model.specs.Words.{lines_of};
 ghost use Rattle.ov_model.specs.World.{World};
+ghost use Rattle.ov_catalog.specs.Numbers.{Numbers};
+ghost use Rattle.law_image.specs.Images.{StandsAs};
 ghost use Rattle.ov_core.specs.AtWorld.{IsAtWorld};
+ghost use Rattle.ov_core.specs.Held.{IsByJournal};
 ghost use Rattle.law_runs.specs.Serving.{session_of};
 ghost use Rattle.ov_open.specs.Opening.{IsWorld};
-ghost use Rattle.ov_session.specs.Commands.{Goes, is_refusal_of};
+ghost use Rattle.ov_session.specs.Commands.{Attended, Goes, is_refusal_of};
 ghost use Rattle.ov_store.specs.Kept.{MayCall};
 ghost use Rattle.ov_args.specs.Words.{options_of};
 ghost use Rattle.ov_script.specs.Reader.{ended_lines, taken_of};
-ghost use Rattle.ov_top.specs.Ending.{AreWords, Cause, IsTold, Plays};
-ghost use Rattle.ov_top.specs.Running.{AllServed, IsRunDamage, status_by, status_by_opening};
+ghost use Rattle.ov_top.specs.Bytes.{Opens, OpensAs};
+ghost use Rattle.ov_top.specs.Ending.{AreWords, Cause, IsTold, IsUndamaged, Keeps, Plays};
+ghost use Rattle.ov_top.specs.Running.{AllServed, AreReading, IsReadWhole, IsRunDamage, IsUnharmed, Spent, reads, status_by, status_by_opening};
 
 use crate::errors::RunErr;
 use crate::status::Status;
@@ -52,14 +60,20 @@ fn serve_all<H: Host, S: Source, T: Stage>(
     requires call { MayCall store (H.state host.old) }
     requires steps { steps ≤ 1000 }
     ensures goes { Goes (H.state host.old) (H.state host.new) }
+    ensures attended { Attended (T.staged stage.old) (T.staged stage.new) }
+    ensures spent { Spent (S.script source.old) (S.script source.new) }
     ensures host { IsErrOf result RunErr.Host → Rose (H.state host.old).faults (H.state host.new).faults }
     ensures input { IsErrOf result RunErr.Input
         → Rose (S.script source.old).faults (S.script source.new).faults
         ⊎ Rose (T.staged stage.old).faults (T.staged stage.new).faults }
-    ensures damaged { IfErr result (IsRunDamage (H.state host.new)) }
+    ensures damaged { ((H.state host.old).tells ≡ true → IsByJournal store.held (H.state host.old))
+        → IfErr result (IsRunDamage (S.script source.old) (T.staged stage.new) (H.state host.new)) }
+    ensures undamaged { (w : World) → IsAtWorld w store.held (H.state host.old) → IfErr result IsUnharmed }
+    ensures fetched { (S.script source.old).tells ≡ true → AreReading (lines_of (S.script source.old).left)
+        → (H.state host.new).fetched ≤ (H.state host.old).fetched + reads store.held.numbers (lines_of (S.script source.old).left) }
     ensures too_long { IsErrOf result RunErr.TooLong → (S.script source.old).tells ≡ true
         → length (S.script source.old).left ≡ length (S.script source.new).left + 2 ^ 32 }
-    ensures ended { (S.script source.old).tells ≡ true → IsOk result → (S.script source.new).left ≡ [] }
+    ensures ended { (S.script source.old).tells ≡ true → IsOk result → IsReadWhole (S.script source.old) (S.script source.new) }
     ensures served { (w : World) → (S.script source.old).tells ≡ true → (T.staged stage.old).tells ≡ true
         → IsAtWorld w store.held (H.state host.old) → AllServed steps w (session_of (T.staged stage.old).files (codes "admin"))
         (session_of (T.staged stage.new).files (codes "admin")) (lines_of (S.script source.old).left)
@@ -126,6 +140,15 @@ fn run_script<H: Host, S: Source, T: Stage>(
     ensures cause { (words : List (List ℕ)) → AreWords words → Cause result words
         (record { host = H.state host.old; script = S.script source.old; stage = T.staged stage.old })
         (record { host = H.state host.new; script = S.script source.new; stage = T.staged stage.new }) }
+    ensures keeps { Keeps
+        (record { host = H.state host.old; script = S.script source.old; stage = T.staged stage.old })
+        (record { host = H.state host.new; script = S.script source.new; stage = T.staged stage.new }) }
+    ensures spares { (H.state host.old).tells ≡ true → (Opens (H.state host.old).tape.disk → ⊥)
+        → Only (H.state host.old).tape (H.state host.new).tape (IsLeftByOpen (H.state host.old).tape.disk) }
+    ensures undamaged { (w : World) → (H.state host.old).tells ≡ true → StandsAs w (as_read (H.state host.old).tape.disk) → IsUndamaged result }
+    ensures fetched { (numbers : Numbers Extent Extent) → (H.state host.old).tells ≡ true → OpensAs numbers (H.state host.old).tape.disk
+        → (S.script source.old).tells ≡ true → AreReading (lines_of (S.script source.old).left)
+        → (H.state host.new).fetched ≤ (H.state host.old).fetched + reads numbers (lines_of (S.script source.old).left) }
     ensures plays { (w : World) → IsTold w (record { host = H.state host.old; script = S.script source.old; stage = T.staged stage.old })
         → Plays result steps w
         (record { host = H.state host.old; script = S.script source.old; stage = T.staged stage.old })
@@ -152,6 +175,15 @@ pub fn run<H: Host, S: Source, T: Stage>(
     ensures cause { Cause result words.now
         (record { host = H.state host.old; script = S.script source.old; stage = T.staged stage.old })
         (record { host = H.state host.new; script = S.script source.new; stage = T.staged stage.new }) }
+    ensures keeps { Keeps
+        (record { host = H.state host.old; script = S.script source.old; stage = T.staged stage.old })
+        (record { host = H.state host.new; script = S.script source.new; stage = T.staged stage.new }) }
+    ensures spares { (H.state host.old).tells ≡ true → (Opens (H.state host.old).tape.disk → ⊥)
+        → Only (H.state host.old).tape (H.state host.new).tape (IsLeftByOpen (H.state host.old).tape.disk) }
+    ensures undamaged { (w : World) → (H.state host.old).tells ≡ true → StandsAs w (as_read (H.state host.old).tape.disk) → IsUndamaged result }
+    ensures fetched { (numbers : Numbers Extent Extent) → (H.state host.old).tells ≡ true → OpensAs numbers (H.state host.old).tape.disk
+        → (S.script source.old).tells ≡ true → AreReading (lines_of (S.script source.old).left)
+        → (H.state host.new).fetched ≤ (H.state host.old).fetched + reads numbers (lines_of (S.script source.old).left) }
     ensures plays { (w : World) (o : List ℕ × ℕ) → options_of words.now ≡ Some o
         → IsTold w (record { host = H.state host.old; script = S.script source.old; stage = T.staged stage.old })
         → Plays result o.1 w

@@ -11,7 +11,7 @@ use Rattle.std.specs.Prelude.{◌≤◌}
 use Rattle.ov_session.proofs.Bounds.{fetched_none, fetched_still}
 use Rattle.ov_session.proofs.Replying.{seen_missed}
 use Rattle.ov_session.proofs.Standing.{at_looked, at_still, idle_spared, on_any}
-use Rattle.ov_session.specs.Bounds.{bytes_in, command_fetch, command_off}
+use Rattle.ov_session.specs.Bounds.{IsReadingCommand, bytes_in, command_fetch, command_off}
 use Rattle.ov_store.specs.Committing.{parents_off_in}
 use Rattle.ov_store.specs.Scanning.{scan_off, set_in}
 use Rattle.ov_session.proofs.Numbering.{journal_looked}
@@ -193,3 +193,14 @@ returns-in-Checkout-clause-whole g c = λ page told.
     subst (λ (command : Command). OnOk c.checkout.result (MeetsDamage command (g.T.Stage.staged c.args.stage.now) c.args.store.now.held (g.H.Host.state c.args.host.now) page → ⊥)) (sym c.in-Checkout.is)
     (subst (λ (v : List ℕ). OnOk c.checkout.result (IsDamaged (asks.Checkout c.in-Checkout.cvd v c.in-Checkout.file c.in-Checkout.table) (g.T.Stage.staged c.args.stage.now) c.args.store.now.held (g.H.Host.state c.args.host.now) page → ⊥))
     c.as_slice-in-Checkout.ensures (c.checkout.ensures.whole page told))
+
+-- ---- what changes no store
+
+pub returns-in-Init-clause-still : goal.returns-in-Init-clause-still
+returns-in-Init-clause-still g c = λ is. absurd (subst IsReadingCommand c.in-Init.is is)
+
+pub returns-in-Commit-clause-still : goal.returns-in-Commit-clause-still
+returns-in-Commit-clause-still g c = λ is. absurd (subst IsReadingCommand c.in-Commit.is is)
+
+pub returns-in-DropCvd-clause-still : goal.returns-in-DropCvd-clause-still
+returns-in-DropCvd-clause-still g c = λ is. absurd (subst IsReadingCommand c.in-DropCvd.is is)

@@ -18,7 +18,7 @@ use Rattle.ov_model.specs.declared.reply.Reply.TheVariants as says
 use Rattle.ov_session.proofs.Bounds.{fetched_none, fetched_still}
 use Rattle.ov_session.proofs.Replying.{is_replied, line_seen, refused_missed}
 use Rattle.ov_session.proofs.Standing.{at_said, idle_unsaid, on_any}
-use Rattle.ov_session.specs.Bounds.{line_off, may_fetch}
+use Rattle.ov_session.specs.Bounds.{IsReading, line_off, may_fetch}
 use Rattle.ov_session.specs.Replying.{IsReplyTo}
 use Rattle.ov_session.specs.Standing.{IsIdle}
 use Rattle.ov_session.proofs.Numbering.{journal_said}
@@ -214,3 +214,11 @@ returns-in_ok-reply-in-Ok-Some-clause-whole g c = λ command page asked told.
 
 pub returns-in_ok-refusal-in-Err-clause-whole : goal.returns-in_ok-refusal-in-Err-clause-whole
 returns-in_ok-refusal-in-Err-clause-whole g c = λ command page asked told. absurd (refused_asks c.in_ok-refusal-in-Err.field-0 command (sym (c.in-Err.ensures.err c.in_ok-refusal-in-Err.ensures.some ∙ ap Refused (sym c.in_ok-refusal-in-Err.ensures.refusal)) ∙ asked))
+
+-- ---- what changes no store
+
+pub returns-in_err-reply-in-Ok-Some-clause-still : goal.returns-in_err-reply-in-Ok-Some-clause-still
+returns-in_err-reply-in-Ok-Some-clause-still g c = λ is. c.answer.ensures.still (subst IsReading (c.in-Ok-Some.ensures.ok ∙ ap said c.in-Ok-Some.field-0-is) is)
+
+pub returns-in_ok-reply-in-Ok-Some-clause-still : goal.returns-in_ok-reply-in-Ok-Some-clause-still
+returns-in_ok-reply-in-Ok-Some-clause-still g c = λ is. c.answer.ensures.still (subst IsReading (c.in-Ok-Some.ensures.ok ∙ ap said c.in-Ok-Some.field-0-is) is)

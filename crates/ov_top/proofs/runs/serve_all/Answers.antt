@@ -1,18 +1,18 @@
-use Rattle.std.proofs.Common.{◌≡◌, ◌∙◌, ◌||◌, Bool, ℕ, List, codes, true, false, refl, sym, ap, subst, arith, rules}
-use Rattle.std.specs.Prelude.{Err, IsTrue, Result}
+use Rattle.std.proofs.Common.{◌≡◌, ◌∙◌, Bool, ℕ, List, [], codes, true, false, refl, sym, ap, subst, arith, rules}
+use Rattle.std.specs.Prelude.{Err, IfErr, IsTrue, Ok, Result}
 use Rattle.ov_host.specs.Host.{Rose}
 use Rattle.law_runs.specs.Serving.{Serves, session_of}
 use Rattle.ov_model.specs.Words.{lines_of}
 use Rattle.ov_session.specs.Commands.{is_refusal_of}
-use Rattle.ov_session.specs.declared.errors.EndErr.{EndErr}
-use Rattle.ov_session.specs.declared.errors.EndErr.TheVariants as ending
 use Rattle.ov_value.specs.Naming.{is_name}
 use Rattle.ov_script.specs.Reader.{Taken, ended_lines, left_of, taken_of}
 use Rattle.ov_top.specs.Errors.{by_reading, by_serving}
-use Rattle.ov_top.specs.Running.{AllServed}
+use Rattle.ov_top.specs.Running.{AllServed, IsRunDamage, IsUnharmed}
 use Rattle.ov_top.specs.declared.errors.RunErr.{RunErr}
 use Rattle.ov_top.specs.declared.errors.RunErr.TheVariants as running
-use Rattle.ov_top.proofs.Lined.{Gone, admin_is_name, ends_reading, ends_serving, err_is, given_true, gone_all, gone_ends, gone_more, gone_start, no_lines, nothing_left, runs_start, not_seen, rose_in_all, serves_as}
+use Rattle.ov_top.proofs.Lined.{Gone, admin_is_name, ends_reading, ends_serving, err_is, given_true, gone_all, gone_ends, gone_more, gone_start, no_lines, nothing_left, read_whole, runs_start, not_seen, rose_in_all, serves_as, spent_by}
+use Rattle.ov_script.proofs.Readers.{next_lines}
+use Rattle.ov_top.proofs.Reading.{Fetches, asked_among, fetches_all, fetches_ends, fetches_more, fetches_start, line_kept, lined_more, reading_harmless, run_damage, unharmed, unharmed_reading}
 use Rattle.ov_top.proofs.runs.serve_all.Goals as goal
 
 pub returns-in_err-user-clause-served : goal.returns-in_err-user-clause-served
@@ -49,6 +49,13 @@ lines-init g c = record {
       in subst (λ (r : Taken). Gone c.args.steps w s s (g.S.Source.script c.args.source.now).left (left_of r (g.S.Source.script c.args.source.now)) r.ended false
       c.args.store.held c.args.store.held (g.H.Host.state c.args.host.now) (g.H.Host.state c.args.host.now)) (sym c.in_ok-reader.ensures)
       (gone_start c.args.steps w s (g.S.Source.script c.args.source.now).left c.args.store.held (g.H.Host.state c.args.host.now) at);
+  lined = λ told. ([], ap (λ (r : Taken). lines_of (left_of r (g.S.Source.script c.args.source.now))) (sym c.in_ok-reader.ensures));
+  by_journal = λ by. by;
+  at = λ w at. (w, at);
+  fetched = λ told are.
+      subst (λ (r : Taken). Fetches c.args.store.held c.args.store.held (lines_of (g.S.Source.script c.args.source.now).left)
+      (lines_of (left_of r (g.S.Source.script c.args.source.now))) (g.H.Host.state c.args.host.now) (g.H.Host.state c.args.host.now)) (sym c.in_ok-reader.ensures)
+      (fetches_start c.args.store.held (lines_of (g.S.Source.script c.args.source.now).left) (g.H.Host.state c.args.host.now) are);
   at_end = λ told seen. let open_ = ap (λ (r : Taken). r.ended) c.in_ok-reader.ensures in absurd (not_seen _ seen open_);
 }
 
@@ -141,12 +148,54 @@ lines-preserved g c =
           (gone_more c.args.steps w s t u all left later given.0 c.lines.reader.ended c.next_line.new.self.ended c.lines.failed (is_refusal_of c.in_ok-served.served)
           c.args.store.held c.lines.store.held c.serve.new.store.held (g.H.Host.state c.args.host.now) (g.H.Host.state c.lines.host) (g.H.Host.state c.serve.new.host)
           gone (c.in_ok-next_line.ensures.stays) given.1 serves);
+      lined = λ told.
+          let given = given_true _ _ _ _ _ c.if-branch.true (c.in_ok-next_line.ensures.given (inv.told ∙ told) (inv.at_end told))
+          in lined_more c.next_line.new.self.ended (g.S.Source.script c.args.source.now).left given.0 (left_of c.lines.reader (g.S.Source.script c.lines.source))
+          (left_of c.next_line.new.self (g.S.Source.script c.next_line.new.source)) (inv.lined told) given.1;
+      by_journal = λ by tells.
+          let tells_old : (g.H.Host.state c.lines.host).tells ≡ true = sym c.serve.ensures.goes.told ∙ tells
+          in c.in_ok-served.ensures.by_journal (inv.by_journal by tells_old) (λ is. cc);
+      at = λ w at. let so = inv.at w at in c.in_ok-served.ensures.at so.0 so.1;
+      fetched = λ told are.
+          let left = left_of c.lines.reader (g.S.Source.script c.lines.source)
+          in let later = left_of c.next_line.new.self (g.S.Source.script c.next_line.new.source)
+          in let given = given_true _ _ _ _ _ c.if-branch.true (c.in_ok-next_line.ensures.given (inv.told ∙ told) (inv.at_end told))
+          in fetches_more c.args.store.held c.lines.store.held (lines_of (g.S.Source.script c.args.source.now).left) (lines_of left) (lines_of later)
+          c.as_slice.result.now given.0 (g.H.Host.state c.args.host.now) (g.H.Host.state c.lines.host) (g.H.Host.state c.serve.new.host) (inv.fetched told are)
+          (next_lines c.next_line.new.self.ended given.0 left later given.1)
+          (line_kept c.as_slice.result.now c.next_line.new.line.items given.0 c.as_slice.ensures.value given.2)
+          c.serve.ensures.fetched c.serve.new.store.held c.serve.ensures.still;
       at_end = λ told. c.in_ok-next_line.ensures.at_end (inv.told ∙ told) (inv.at_end told);
     }
 
 pub returns-clause-ended : goal.returns-clause-ended
 returns-clause-ended g c = λ told ok.
-    nothing_left _ _ _ c.next_line.new.self.unread _ _ c.if-branch.false (c.in_ok-next_line.ensures.given (c.lines.invariant.told ∙ told) (c.lines.invariant.at_end told))
+    let none = nothing_left _ _ _ c.next_line.new.self.unread _ _ c.if-branch.false (c.in_ok-next_line.ensures.given (c.lines.invariant.told ∙ told) (c.lines.invariant.at_end told))
+    in read_whole (g.S.Source.script c.args.source.now) (g.S.Source.script c.lines.source) (g.S.Source.script c.next_line.new.source) c.lines.reader c.next_line.new.self
+    (c.lines.invariant.counted told) (c.next_line.ensures.took.counted (c.lines.invariant.told ∙ told))
+    (c.next_line.ensures.below (c.in_ok-next_line.ensures.seen (ap Ok c.if-branch.false))) none
+
+pub returns-in_err-next_line-clause-spent : goal.returns-in_err-next_line-clause-spent
+returns-in_err-next_line-clause-spent g c =
+    spent_by (g.S.Source.script c.args.source.now) (g.S.Source.script c.lines.source) (g.S.Source.script c.next_line.new.source) c.lines.reader c.next_line.new.self
+    c.lines.invariant.told c.lines.invariant.faults c.lines.invariant.counted c.next_line.ensures.took c.next_line.ensures.bounded
+
+pub returns-in_err-served-clause-spent : goal.returns-in_err-served-clause-spent
+returns-in_err-served-clause-spent g c =
+    spent_by (g.S.Source.script c.args.source.now) (g.S.Source.script c.lines.source) (g.S.Source.script c.next_line.new.source) c.lines.reader c.next_line.new.self
+    c.lines.invariant.told c.lines.invariant.faults c.lines.invariant.counted c.next_line.ensures.took c.next_line.ensures.bounded
+
+pub returns-in_err-served-clause-attended : goal.returns-in_err-served-clause-attended
+returns-in_err-served-clause-attended g c = record {
+  told = c.serve.ensures.attended.told ∙ c.lines.invariant.attended.told;
+  faults = omega (arith, c.serve.ensures.attended.faults, c.lines.invariant.attended.faults);
+  misses = omega (arith, c.serve.ensures.attended.misses, c.lines.invariant.attended.misses);
+}
+
+pub returns-clause-spent : goal.returns-clause-spent
+returns-clause-spent g c =
+    spent_by (g.S.Source.script c.args.source.now) (g.S.Source.script c.lines.source) (g.S.Source.script c.next_line.new.source) c.lines.reader c.next_line.new.self
+    c.lines.invariant.told c.lines.invariant.faults c.lines.invariant.counted c.next_line.ensures.took c.next_line.ensures.bounded
 
 pub returns-clause-served : goal.returns-clause-served
 returns-clause-served g c = λ w script stage at.
@@ -158,3 +207,67 @@ returns-clause-served g c = λ w script stage at.
       gone_all c.args.steps w s t (g.S.Source.script c.args.source.now).left (left_of c.lines.reader (g.S.Source.script c.lines.source)) c.lines.reader.ended c.lines.failed
           c.args.store.held c.lines.store.held (g.H.Host.state c.args.host.now) (g.H.Host.state c.lines.host) (c.lines.invariant.so_far w script stage at) none,
     )
+
+pub returns-in_err-next_line-clause-damaged : goal.returns-in_err-next_line-clause-damaged
+returns-in_err-next_line-clause-damaged g c = λ by.
+    let e = c.in_err-next_line.field-0.0
+    in let is : c.from_residual-in_err-next_line.result ≡ Err (by_reading e)
+    = err_is c.from_residual-in_err-next_line.result (by_reading e) c.from_residual-in_err-next_line.ensures.0 c.from_residual-in_err-next_line.ensures.1
+    in subst (λ (r : Result Bool RunErr). IfErr r (IsRunDamage (g.S.Source.script c.args.source.now) (g.T.Stage.staged c.lines.stage) (g.H.Host.state c.lines.host))) (sym is)
+    (reading_harmless e (g.S.Source.script c.args.source.now) (g.T.Stage.staged c.lines.stage) (g.H.Host.state c.lines.host))
+
+pub returns-in_err-next_line-clause-undamaged : goal.returns-in_err-next_line-clause-undamaged
+returns-in_err-next_line-clause-undamaged g c = λ w at.
+    let e = c.in_err-next_line.field-0.0
+    in let is : c.from_residual-in_err-next_line.result ≡ Err (by_reading e)
+    = err_is c.from_residual-in_err-next_line.result (by_reading e) c.from_residual-in_err-next_line.ensures.0 c.from_residual-in_err-next_line.ensures.1
+    in subst (λ (r : Result Bool RunErr). IfErr r IsUnharmed) (sym is) (unharmed_reading e)
+
+pub returns-in_err-next_line-clause-fetched : goal.returns-in_err-next_line-clause-fetched
+returns-in_err-next_line-clause-fetched g c = λ told are.
+    fetches_all c.args.store.held c.lines.store.held (lines_of (g.S.Source.script c.args.source.now).left)
+    (lines_of (left_of c.lines.reader (g.S.Source.script c.lines.source))) (g.H.Host.state c.args.host.now) (g.H.Host.state c.lines.host) (c.lines.invariant.fetched told are)
+
+pub returns-clause-fetched : goal.returns-clause-fetched
+returns-clause-fetched g c = λ told are.
+    fetches_all c.args.store.held c.lines.store.held (lines_of (g.S.Source.script c.args.source.now).left)
+    (lines_of (left_of c.lines.reader (g.S.Source.script c.lines.source))) (g.H.Host.state c.args.host.now) (g.H.Host.state c.lines.host) (c.lines.invariant.fetched told are)
+
+pub returns-in_err-served-clause-damaged : goal.returns-in_err-served-clause-damaged
+returns-in_err-served-clause-damaged g c = λ by.
+    let first = g.S.Source.script c.args.source.now
+    in let left = left_of c.lines.reader (g.S.Source.script c.lines.source)
+    in let later = left_of c.next_line.new.self (g.S.Source.script c.next_line.new.source)
+    in let stage = g.T.Stage.staged c.lines.stage
+    in let staged = g.T.Stage.staged c.serve.new.stage
+    in let host = g.H.Host.state c.serve.new.host
+    in let e = c.in_err-served.field-0.0
+    in let is : c.from_residual-in_err-served.result ≡ Err (by_serving e)
+    = err_is c.from_residual-in_err-served.result (by_serving e) c.from_residual-in_err-served.ensures.0 c.from_residual-in_err-served.ensures.1
+    in subst (λ (r : Result Bool RunErr). IfErr r (IsRunDamage first staged host)) (sym is)
+    (run_damage c.as_slice.result.now c.lines.store c.serve.new.store first stage staged (g.H.Host.state c.lines.host) host c.serve.ensures.attended.told
+    (c.lines.invariant.by_journal by)
+    (λ command asks_ told.
+    let given = given_true _ _ _ _ _ c.if-branch.true (c.in_ok-next_line.ensures.given (c.lines.invariant.told ∙ told) (c.lines.invariant.at_end told))
+    in asked_among c.next_line.new.self.ended c.as_slice.result.now c.next_line.new.line.items given.0 first.left left later c.as_slice.ensures.value given.2
+    (c.lines.invariant.lined told) given.1 command asks_)
+    e c.in_err-served.ensures.damaged c.in_err-served.ensures.idle)
+
+pub returns-in_err-served-clause-undamaged : goal.returns-in_err-served-clause-undamaged
+returns-in_err-served-clause-undamaged g c = λ w at.
+    let e = c.in_err-served.field-0.0
+    in let so = c.lines.invariant.at w at
+    in let is : c.from_residual-in_err-served.result ≡ Err (by_serving e)
+    = err_is c.from_residual-in_err-served.result (by_serving e) c.from_residual-in_err-served.ensures.0 c.from_residual-in_err-served.ensures.1
+    in subst (λ (r : Result Bool RunErr). IfErr r IsUnharmed) (sym is) (unharmed e (c.in_err-served.ensures.undamaged so.0 so.1))
+
+pub returns-in_err-served-clause-fetched : goal.returns-in_err-served-clause-fetched
+returns-in_err-served-clause-fetched g c = λ told are.
+    let left = left_of c.lines.reader (g.S.Source.script c.lines.source)
+    in let later = left_of c.next_line.new.self (g.S.Source.script c.next_line.new.source)
+    in let given = given_true _ _ _ _ _ c.if-branch.true (c.in_ok-next_line.ensures.given (c.lines.invariant.told ∙ told) (c.lines.invariant.at_end told))
+    in fetches_ends c.args.store.held c.lines.store.held (lines_of (g.S.Source.script c.args.source.now).left) (lines_of left) (lines_of later)
+    c.as_slice.result.now given.0 (g.H.Host.state c.args.host.now) (g.H.Host.state c.lines.host) (g.H.Host.state c.serve.new.host) (c.lines.invariant.fetched told are)
+    (next_lines c.next_line.new.self.ended given.0 left later given.1)
+    (line_kept c.as_slice.result.now c.next_line.new.line.items given.0 c.as_slice.ensures.value given.2)
+    c.serve.ensures.fetched

@@ -1,11 +1,16 @@
-use Rattle.std.proofs.Common.{◌≡◌, ◌≤◌, ◌+◌, true, length, codes}
+use Rattle.std.proofs.Common.{◌≡◌, ◌≤◌, ◌+◌, ℕ, List, ◌++◌, true, length, codes}
 use Rattle.ov_core.specs.AtWorld.{IsAtWorld}
 use Rattle.law_runs.specs.Serving.{session_of}
+use Rattle.ov_core.specs.Held.{IsByJournal}
+use Rattle.ov_model.specs.Words.{lines_of}
 use Rattle.ov_model.specs.World.{World}
 use Rattle.ov_session.specs.Commands.{Attended, Goes}
+use Rattle.ov_session.specs.Standing.{IsAtSome}
 use Rattle.ov_store.specs.Kept.{MayCall}
 use Rattle.ov_script.specs.Reader.{IsAtEnd, left_of, room_of}
+use Rattle.ov_top.specs.Running.{AreReading}
 use Rattle.ov_top.proofs.Lined.{Gone}
+use Rattle.ov_top.proofs.Reading.{Fetches}
 use Rattle.ov_top.proofs.runs.serve_all.Given as goal
 
 abbrev pub invariant-lines : goal.invariant-lines
@@ -24,6 +29,14 @@ invariant-lines g l =
       so_far : (w : World) → (script l.fn.source).tells ≡ true → (staged l.fn.stage).tells ≡ true → IsAtWorld w l.fn.store.held (state l.fn.host)
           → Gone l.fn.steps w (session_of (staged l.fn.stage).files (codes "admin")) (session_of (staged l.stage).files (codes "admin"))
           (script l.fn.source).left (left_of l.reader (script l.source)) l.reader.ended l.failed l.fn.store.held l.store.held (state l.fn.host) (state l.host);
+      lined : (script l.fn.source).tells ≡ true
+          → (gone : List (List ℕ)) × (lines_of (script l.fn.source).left ≡ gone ++ lines_of (left_of l.reader (script l.source)));
+      by_journal : ((state l.fn.host).tells ≡ true → IsByJournal l.fn.store.held (state l.fn.host)) → (state l.host).tells ≡ true
+          → IsByJournal l.store.held (state l.host);
+      at : (w : World) → IsAtWorld w l.fn.store.held (state l.fn.host) → IsAtSome l.store.held (state l.host);
+      fetched : (script l.fn.source).tells ≡ true → AreReading (lines_of (script l.fn.source).left)
+          → Fetches l.fn.store.held l.store.held (lines_of (script l.fn.source).left) (lines_of (left_of l.reader (script l.source)))
+          (state l.fn.host) (state l.host);
       at_end : (script l.fn.source).tells ≡ true → IsAtEnd l.reader (script l.source);
     }
 

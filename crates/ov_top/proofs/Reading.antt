@@ -1,0 +1,200 @@
+-- What a run reads of the pages, and the damage that it meets.
+use Rattle.std.proofs.Common.{◌≡◌, ◌≤◌, ◌+◌, inl, inr, ℕ, Bool, true, List, [], ◌∷◌, ◌++◌, length, take, refl, sym, ◌∙◌, ap, subst, append_assoc, arith}
+use Rattle.std.specs.Prelude.{None, Ok, Option, Some}
+use Rattle.std.specs.FinMap.{get}
+use Rattle.std.proofs.lemmas.List.{length-take, take_all}
+use Rattle.std.proofs.lemmas.Bool.{cases_lt}
+use Rattle.ov_host.specs.Disk.{settled}
+use Rattle.ov_host.specs.Host.{State}
+use Rattle.ov_host.specs.Source.{Script}
+use Rattle.ov_host.specs.Stage.{Files as Map, Staged}
+use Rattle.ov_host.specs.Tape.{Tape}
+use Rattle.ov_journal.specs.Bytes.{IsLive}
+use Rattle.ov_journal.specs.Held.{IsAt, kept_by}
+use Rattle.ov_journal.specs.Journal.{IsJournal}
+use Rattle.ov_fetch.specs.Extents.{Looked}
+use Rattle.ov_files.specs.Files.{file_rows}
+use Rattle.ov_value.specs.Shapes.{Shape}
+use Rattle.ov_core.specs.Held.{Held, IsByJournal}
+use Rattle.ov_model.specs.Book.{Row}
+use Rattle.ov_model.specs.Forms.{built_forms}
+use Rattle.ov_model.specs.Line.{Asks, Refused, line_of}
+use Rattle.ov_model.specs.Words.{lines_of}
+use Rattle.ov_model.specs.declared.command.Command.{Command}
+use Rattle.ov_model.specs.declared.command.Command.TheVariants as asks
+use Rattle.ov_model.specs.declared.refusal.Refusal.TheVariants.{LongLine}
+use Rattle.ov_store.specs.Committing.{IfSet, Set}
+use Rattle.ov_store.specs.Kept.{Kept}
+use Rattle.ov_session.specs.Bounds.{IsReading, may_fetch}
+use Rattle.ov_session.specs.Commands.{AreRowsOf, IsDamageOf, IsDamaged, IsNoDamage}
+use Rattle.ov_session.specs.Standing.{IsIdle}
+use Rattle.ov_session.specs.declared.errors.EndErr.{EndErr}
+use Rattle.ov_session.specs.declared.errors.EndErr.TheVariants as ending
+use Rattle.ov_script.specs.Reader.{IsNext}
+use Rattle.ov_script.specs.declared.reader.ReadErr.{ReadErr}
+use Rattle.ov_script.specs.declared.reader.ReadErr.TheVariants as reading
+use Rattle.ov_script.proofs.Readers.{next_lines}
+use Rattle.ov_top.specs.Errors.{by_reading, by_serving}
+use Rattle.ov_top.specs.Running.{AreReading, IsLineOf, IsRunDamage, IsUnharmed, reads}
+use Rattle.ov_top.proofs.Lined.{kept_line, long_line}
+
+-- ---- lines, as they were kept
+
+pub line_kept : (x kept line : List ℕ) → x ≡ kept → kept ≡ take 65537 line → line_of built_forms x ≡ line_of built_forms line
+line_kept x kept line value keeps = ap (line_of built_forms) (value ∙ keeps) ∙ kept_line line
+
+-- a line that asks for something was kept whole
+asked_whole : (x line : List ℕ) (command : Command) → x ≡ take 65537 line → line_of built_forms x ≡ Asks command → x ≡ line
+asked_whole x line command keeps asks_ =
+    elim (cases_lt 65536 (length line)) [
+      | inl long ↦
+          let size : length x ≡ length (take 65537 line) = ap length keeps
+          in let too_long : line_of built_forms x ≡ Refused LongLine = long_line x (omega (arith, long, size, length-take 65537 line))
+          in let same : Refused LongLine ≡ Asks command = sym too_long ∙ asks_ in absurd cc
+      | inr short ↦ keeps ∙ take_all 65537 line (omega (arith, short))
+    ]
+
+pub lined_more : (ended : Bool) (all line left later : List ℕ) → (gone : List (List ℕ)) × (lines_of all ≡ gone ++ lines_of left) → IsNext ended line left later
+    → (gone : List (List ℕ)) × (lines_of all ≡ gone ++ lines_of later)
+lined_more ended all line left later (gone, whole) next = (
+  gone ++ line ∷ [],
+  whole ∙ ap (λ (ls : List (List ℕ)). gone ++ ls) (next_lines ended line left later next) ∙ sym (append_assoc gone (line ∷ []) (lines_of later)),
+)
+
+line_among : (ended : Bool) (all line left later : List ℕ) → (gone : List (List ℕ)) × (lines_of all ≡ gone ++ lines_of left) → IsNext ended line left later
+    → IsLineOf all line
+line_among ended all line left later (gone, whole) next =
+    (gone, lines_of later, whole ∙ ap (λ (ls : List (List ℕ)). gone ++ ls) (next_lines ended line left later next))
+
+-- ---- what is fetched
+
+-- after lines that change no store, and before those that are left
+pub record Fetches (before now : Held) (all left : List (List ℕ)) (old new : State) : Type 0 where
+  pub same : now ≡ before
+  pub reading : AreReading left
+  pub bound : new.fetched + reads before.numbers left ≤ old.fetched + reads before.numbers all
+
+pub fetches_start : (held : Held) (lines : List (List ℕ)) (s : State) → AreReading lines → Fetches held held lines lines s s
+fetches_start held lines s are = record { same = refl; reading = are; bound = omega arith }
+
+pub fetches_all : (before now : Held) (all left : List (List ℕ)) (old new : State) → Fetches before now all left old new
+    → new.fetched ≤ old.fetched + reads before.numbers all
+fetches_all before now all left old new is = omega (arith, is.bound)
+
+module _ (before now : Held) (all left later : List (List ℕ)) (x line : List ℕ) (old mid new : State) (so : Fetches before now all left old mid)
+    (next : left ≡ line ∷ later) (kept : line_of built_forms x ≡ line_of built_forms line)
+    (fetched : new.fetched ≤ mid.fetched + may_fetch now.numbers (line_of built_forms x)) where
+  there : Fetches before now all (line ∷ later) old mid
+  there = subst (λ (ls : List (List ℕ)). Fetches before now all ls old mid) next so
+
+  same_bound : may_fetch now.numbers (line_of built_forms x) ≡ may_fetch before.numbers (line_of built_forms line)
+  same_bound = ap (λ (h : Held). may_fetch h.numbers (line_of built_forms x)) so.same ∙ ap (may_fetch before.numbers) kept
+
+  still_bound : new.fetched + reads before.numbers later ≤ old.fetched + reads before.numbers all
+  still_bound =
+      let split : reads before.numbers (line ∷ later) ≡ may_fetch before.numbers (line_of built_forms line) + reads before.numbers later = refl
+      in omega (arith, fetched, same_bound, split, there.bound)
+
+  pub fetches_more : (held : Held) → (IsReading (line_of built_forms x) → held ≡ now) → Fetches before held all later old new
+  fetches_more held still = record {
+    same = still (subst IsReading (sym kept) there.reading.0) ∙ so.same;
+    reading = there.reading.1;
+    bound = still_bound;
+  }
+
+  pub fetches_ends : new.fetched ≤ old.fetched + reads before.numbers all
+  fetches_ends = omega (arith, still_bound)
+
+-- ---- damage
+
+by_looked : (held : Held) (old new : State) → Looked old new → old.tells ≡ true → IsByJournal held old → IsByJournal held new
+by_looked held old new looked told is =
+    let tape : old.tape ≡ new.tape = sym (looked.tape told)
+    in record {
+      payloads = is.payloads;
+      at = record {
+        told = looked.told ∙ told;
+        rest = subst (λ (t : Tape). t.disk.journal ≡ settled t.disk.journal.bytes) tape is.at.rest;
+        spells = subst (λ (t : Tape). IsJournal (kept_by held.journal is.payloads) t.disk.journal.bytes) tape is.at.spells;
+        place = is.at.place;
+        slots = subst (λ (t : Tape). IsLive held.journal.side held.journal.spare_open (take 38 t.disk.journal.bytes)) tape is.at.slots;
+      };
+      replays = is.replays;
+    }
+
+module _ (stage staged : Staged) (files : staged.files ≡ stage.files) (told : staged.tells ≡ stage.tells) (held : Held) (s : State) (page : ℕ) where
+  rows_as : (schema : Shape) (file : List ℕ) (rows : List Row) → AreRowsOf schema file stage rows → AreRowsOf schema file staged rows
+  rows_as schema file rows are = λ tells. subst (λ (m : Map). file_rows schema file (get m file) ≡ Ok rows) (sym files) (are (sym told ∙ tells))
+
+  set_as : (file : List ℕ) (rows : List Row) (P : Set → Type 0) (o : Option Set) → IfSet (λ set. AreRowsOf set.schema file stage rows × P set) o
+      → IfSet (λ set. AreRowsOf set.schema file staged rows × P set) o
+  set_as file rows P None is = absurd is
+  set_as file rows P (Some set) is = (rows_as set.schema file rows is.0, is.1)
+
+  -- what is read of the stage is the same
+  damaged_as : (command : Command) → IsDamaged command stage held s page → IsDamaged command staged held s page
+  damaged_as (asks.Checkout cvd vids file table) is = is
+  damaged_as (asks.Commit cvd vids file message added) is = (is.0, is.1, set_as file is.0 _ _ is.2)
+  damaged_as (asks.Init cvd schema file) is = absurd is
+  damaged_as (asks.CommitStaged user table message) is = absurd is
+  damaged_as (asks.Run text) is = absurd is
+  damaged_as (asks.Optimize cvd p q) is = absurd is
+  damaged_as (asks.OptimizeWithin cvd budget) is = absurd is
+  damaged_as (asks.Advise cvd budget a b) is = absurd is
+  damaged_as (asks.Migrate count) is = absurd is
+  damaged_as (asks.Layout cvd) is = absurd is
+  damaged_as (asks.Log cvd) is = absurd is
+  damaged_as asks.Ls is = absurd is
+  damaged_as (asks.DropCvd cvd) is = absurd is
+  damaged_as asks.Checkpoint is = absurd is
+  damaged_as (asks.Generate cvd seed rows versions) is = absurd is
+  damaged_as (asks.CreateUser name) is = absurd is
+  damaged_as (asks.Config name) is = absurd is
+  damaged_as asks.Whoami is = absurd is
+  damaged_as (asks.Unstage user table) is = absurd is
+  damaged_as asks.Tables is = absurd is
+
+module _ (x : List ℕ) (before now : Kept) (script : Script) (stage staged : Staged) (old new : State) (told : staged.tells ≡ stage.tells)
+    (numbers : old.tells ≡ true → IsByJournal before.held old)
+    (among : (command : Command) → line_of built_forms x ≡ Asks command → script.tells ≡ true → IsLineOf script.left x) where
+  pub run_damage : (e : EndErr)
+      → IsDamageOf (λ page. (command : Command) × (line_of built_forms x ≡ Asks command) × IsDamaged command stage before.held new page) e
+      → IsIdle e before now stage staged old new → IsRunDamage script staged new (by_serving e)
+  run_damage ending.Host is idle = tt
+  run_damage ending.Stage is idle = tt
+  run_damage ending.Memory is idle = tt
+  run_damage (ending.Damaged area at) is idle = (
+    is.0,
+    record {
+      line = x;
+      among = among is.1.0 is.1.1;
+      command = is.1.0;
+      asks = is.1.1;
+      held = before.held;
+      numbers = λ tells. let tells_old : old.tells ≡ true = sym idle.0.looked.told ∙ tells in by_looked before.held old new idle.0.looked tells_old (numbers tells_old);
+      damaged = damaged_as stage staged idle.1 told before.held new at is.1.0 is.1.2;
+    },
+  )
+
+-- a line of the script, where it asks for something
+pub asked_among : (ended : Bool) (x kept line all left later : List ℕ) → x ≡ kept → kept ≡ take 65537 line
+    → (gone : List (List ℕ)) × (lines_of all ≡ gone ++ lines_of left) → IsNext ended line left later
+    → (command : Command) → line_of built_forms x ≡ Asks command → IsLineOf all x
+asked_among ended x kept line all left later value keeps lined next command is =
+    subst (IsLineOf all) (sym (asked_whole x line command (value ∙ keeps) is)) (line_among ended all line left later lined next)
+
+pub reading_harmless : (e : ReadErr) (script : Script) (stage : Staged) (s : State) → IsRunDamage script stage s (by_reading e)
+reading_harmless reading.Input script stage s = tt
+reading_harmless reading.Memory script stage s = tt
+reading_harmless reading.TooLong script stage s = tt
+
+pub unharmed_reading : (e : ReadErr) → IsUnharmed (by_reading e)
+unharmed_reading reading.Input = tt
+unharmed_reading reading.Memory = tt
+unharmed_reading reading.TooLong = tt
+
+pub unharmed : (e : EndErr) → IsNoDamage e → IsUnharmed (by_serving e)
+unharmed ending.Host is = tt
+unharmed ending.Stage is = tt
+unharmed ending.Memory is = tt
+unharmed (ending.Damaged area at) is = absurd is
