@@ -1,0 +1,9 @@
+//! Which old partition a target of a plan takes its segments from: the one that costs least to make into the target, where
+//! that costs less than to build the target anew.
+#![tactic(auto)]
+
+mod choosing;
+mod costs;
+mod keeping;
+
+pub use choosing::{Candidate, Choice, choose};
