@@ -1,7 +1,10 @@
 -- Rows with another number, fresh rows, and a fresh row behind the others.
-use Rattle.std.proofs.Common.{◌≡◌, ℕ, zero, suc, ◌+◌, ◌-◌, ◌<◌, ◌≤◌, ◌==◌, true, false, List, [], ◌∷◌, ◌++◌, length, map, get_or, slice_set, pos, refl, ap, inl, inr, arith}
+use Rattle.std.proofs.Common.{None, ◌≡◌, ℕ, zero, suc, ◌+◌, ◌-◌, ◌<◌, ◌≤◌, ◌==◌, true, false, List, [], ◌∷◌, ◌++◌, length, map, get_or, slice_set, pos, refl, ap, inl, inr, arith}
 use Rattle.std.proofs.lemmas.Bool.{cases_Bool}
 use Rattle.ov_value.specs.declared.value.Value.TheVariants.{Int}
+use Rattle.std.specs.List.{list_any}
+use Rattle.ov_value.specs.Rows.{is_null}
+use Rattle.ov_model.specs.Act.{null_row}
 use Rattle.ov_model.specs.Book.{Row}
 use Rattle.ov_model.specs.Generator.{Drawn, draw, fresh_row, fresh_rows, onto_rows, with_number, change_one, changes}
 use Rattle.ov_gen.specs.Versions.{IsRowOf, Ascend, Begin}
@@ -113,3 +116,25 @@ pub begin-raise : (count id end most : ℕ) (rows : List Row) → end ≤ most �
 begin-raise zero id end most rows within are = later-raise id end most rows within are
 begin-raise (suc count) id end most [] within are = are
 begin-raise (suc count) id end most (row ∷ rows) within (r, rest) = (r, begin-raise count (id + 1) end most rows within rest)
+
+-- their number, and that none has NULL
+later-few : (id end : ℕ) (rows : List Row) → id ≤ end → Ascend id end rows → id + length rows ≤ end
+later-few id end [] within are = omega arith
+later-few id end (row ∷ rows) within (n, from, below, r, rest) = let h = later-few (n + 1) end rows (omega arith) rest in omega (arith, h)
+
+pub begin-few : (count id end : ℕ) (rows : List Row) → id + count ≤ end → Begin count id end rows → id + length rows ≤ end
+begin-few zero id end rows within are = later-few id end rows (omega arith) are
+begin-few (suc count) id end [] within are = elim are [ ]
+begin-few (suc count) id end (row ∷ rows) within (r, rest) = let h = begin-few count (id + 1) end rows (omega arith) rest in omega (arith, h)
+
+row-whole : (id : ℕ) (row : Row) → IsRowOf id row → list_any is_null row ≡ false
+row-whole id row r = ap (list_any is_null) r.is
+
+later-whole : (id end nth : ℕ) (rows : List Row) → Ascend id end rows → null_row nth rows ≡ None
+later-whole id end nth [] are = refl
+later-whole id end nth (row ∷ rows) (n, from, below, r, rest) = rw (row-whole n row r) (later-whole (n + 1) end (nth + 1) rows rest)
+
+pub begin-whole : (count id end nth : ℕ) (rows : List Row) → Begin count id end rows → null_row nth rows ≡ None
+begin-whole zero id end nth rows are = later-whole id end nth rows are
+begin-whole (suc count) id end nth [] are = elim are [ ]
+begin-whole (suc count) id end nth (row ∷ rows) (r, rest) = rw (row-whole id row r) (begin-whole count (id + 1) end (nth + 1) rows rest)

@@ -12,5 +12,5 @@ mod rows;
 mod schema;
 
 pub use generating::Gen;
-pub use laws::rows_stay_grown;
+pub use laws::{ascending_rows_are_in_order, grown_rows_are_few_and_whole, rows_stay_grown};
 pub use schema::generate_schema;
