@@ -5,5 +5,7 @@
 mod choosing;
 mod costs;
 mod keeping;
+mod laws;
 
 pub use choosing::{Candidate, Choice, choose};
+pub use laws::costs_agree;
