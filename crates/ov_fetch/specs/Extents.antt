@@ -2,7 +2,7 @@
 --     IsList area list rids      the list of these rids stands whole in the extent
 --     IsSegment schema area segment records      a segment of these records does
 --     IsNoList, IsNoSegment      it is short, or its bytes spell none
-use Rattle.std.specs.Prelude.{◌≡◌, ◌≤◌, ◌<◌, ◌⊎◌, ℕ, ◌*◌, true, List, length, take, drop, map}
+use Rattle.std.specs.Prelude.{◌≡◌, ◌≤◌, ◌<◌, ◌⊎◌, ℕ, ◌*◌, ◌-◌, ◌^◌, min, true, List, length, take, drop, map}
 use Rattle.ov_host.specs.declared.area.Extent.{Extent}
 use Rattle.ov_host.specs.declared.area.Area.TheVariants.{Pages}
 use Rattle.ov_host.specs.Host.{State, bytes_of}
@@ -17,12 +17,13 @@ use Rattle.ov_fetch.specs.declared.errors.FetchErr.TheVariants.{Host, Memory, Da
 abbrev pub rids_of : List Record → List ℕ
 rids_of records = map (λ r. r.rid) records
 
--- what looking does to a host: nothing changes but its counts, and the count of faults doesn't fall
+-- what looking does to a host: nothing changes but its counts, and neither falls (that of fetched bytes stays at 2^64 - 1)
 pub record Looked (old new : State) : Type 0 where
   pub told : new.tells ≡ old.tells
   pub kept : new.keeps ≡ old.keeps
   pub tape : old.tells ≡ true → new.tape ≡ old.tape
   pub faults : old.faults ≤ new.faults
+  pub fetched : min old.fetched (2 ^ 64 - 1) ≤ new.fetched
 
 -- the bytes of the page area
 abbrev pub page_bytes : State → List ℕ

@@ -208,6 +208,7 @@ looked_twice s t u first second = record {
   kept = second.kept ∙ first.kept;
   tape = λ told. second.tape (first.told ∙ told) ∙ first.tape told;
   faults = omega (arith, first.faults, second.faults);
+  fetched = omega (arith, first.fetched, second.fetched);
 }
 
 pub stays_by : (e : StoreErr) (old new : Kept) (s t : State) → ((e ≡ why.Host → ⊥) → new ≡ old) → Looked s t → Stays e old new s t

@@ -64,6 +64,16 @@ once_after count before (vid ∷ vids) e n = by (vid == n) refl (once_after coun
 pub listed_once : (count : ℕ) (vids : List ℕ) → vids_off count [] vids ≡ None → (n : ℕ) → times vids n ≤ 1
 listed_once count vids e n = omega (arith, once_after count [] vids e n)
 
+-- nothing is allowed and refused
+pub never_both : {o : Option StoreErr} (off : StoreErr) → o ≡ None → o ≡ Some off → ⊥
+never_both off none is = cc
+
+-- what was listed isn't refused
+pub not_off : (n : Numbers Extent Extent) (name : List ℕ) (s : SetNumbers Extent Extent) (vids : List ℕ) (off : StoreErr) → set_in n name ≡ Some s
+    → vids_off (length s.versions) [] vids ≡ None → scan_off n name vids ≡ Some off → ⊥
+not_off n name s vids off found passed is =
+    never_both off (ap (λ o. versions_off o vids) found ∙ passed) is
+
 -- ---- what versions are refused for
 
 abbrev IsVersionErr : StoreErr → Type 0

@@ -1,6 +1,6 @@
 // Commits.
 
-ghost use Rattle.std.specs.Prelude.{◌≡◌, ◌≢◌, ◌≤◌, ◌<◌, ◌+◌, ℕ, List, true, false, None, Some, [], IfOk, IfErr, OnOk, IsErrOf, MatchResult, length, map, option_map};
+ghost use Rattle.std.specs.Prelude.{◌≡◌, ◌≢◌, ◌≤◌, ◌<◌, ◌+◌, ◌-◌, ◌^◌, min, ℕ, List, true, false, None, Some, [], IfOk, IfErr, OnOk, IsErrOf, MatchResult, length, map, option_map};
 ghost use Rattle.std.specs.List.{All};
 ghost use Rattle.ov_host.specs.Stops.{Only};
 ghost use Rattle.ov_value.specs.Spelling.{IsRow};
@@ -142,6 +142,7 @@ impl Store {
         ensures looked { Looked (H.state host.old) (H.state host.new) }
         ensures fetched { (s : Set) → set_in self.now.held.numbers name.now ≡ Some s
             → (H.state host.new).fetched ≤ (H.state host.old).fetched + bytes_for s parents.now }
+        ensures unread { (off : StoreErrValue) → commit_off self.now.held name.now parents.now rows.items ≡ Some off → H.state host.new ≡ H.state host.old }
         ensures ready { IfOk result (λ next. IsReady next.brought self.now.held) }
         ensures allowed { OnOk result (commit_off self.now.held name.now parents.now rows.items ≡ None) }
         ensures by { (s : Set) → set_in self.now.held.numbers name.now ≡ Some s → IfOk result (λ next. IsCommitBy s
@@ -221,6 +222,8 @@ impl Store {
         ensures faults { (H.state host.old).faults ≤ (H.state host.new).faults }
         ensures fetched { (s : Set) → set_in self.old.held.numbers name.now ≡ Some s
             → (H.state host.new).fetched ≤ (H.state host.old).fetched + bytes_for s parents.now }
+        ensures counted { min (H.state host.old).fetched (2 ^ 64 - 1) ≤ (H.state host.new).fetched }
+        ensures unread { (off : StoreErrValue) → commit_off self.old.held name.now parents.now rows.items ≡ Some off → H.state host.new ≡ H.state host.old }
         ensures done { (s : Set) → set_in self.old.held.numbers name.now ≡ Some s → IfOk result (IsCommitted s
             (record { vids = parents.now; message = message.now; rows = rows.items }) (H.state host.old) self.old.held self.new.held) }
         ensures allowed { OnOk result (commit_off self.old.held name.now parents.now rows.items ≡ None) }

@@ -12,6 +12,7 @@ ghost use Rattle.ov_core.specs.AtWorld.{IsAtWorld};
 ghost use Rattle.ov_read.specs.Damages.{IsDamage};
 ghost use Rattle.ov_read.specs.Found.{HasRows, IsScanned};
 ghost use Rattle.ov_read.specs.Sizes.{bytes_for};
+ghost use Rattle.ov_store.specs.declared.errors.StoreErr.{StoreErr as StoreErrValue};
 ghost use Rattle.ov_store.specs.declared.errors.StoreErr.TheVariants as refused;
 ghost use Rattle.ov_store.specs.Scanning.{IsUndamaged, IsUnscanned, scan_off, set_in};
 
@@ -37,6 +38,7 @@ impl Store {
         ensures why { IfErr result (IsUnscanned (scan_off self.now.held.numbers name.now vids.now) (set_in self.now.held.numbers name.now) vids.now (H.state host.old) (H.state host.new)) }
         ensures fetched { (s : SetNumbers ExtentValue ExtentValue) → set_in self.now.held.numbers name.now ≡ Some s
             → (H.state host.new).fetched ≤ (H.state host.old).fetched + bytes_for s vids.now }
+        ensures unread { (off : StoreErrValue) → scan_off self.now.held.numbers name.now vids.now ≡ Some off → H.state host.new ≡ H.state host.old }
         ensures still { vids.now ≡ [] → H.state host.new ≡ H.state host.old }
         ensures idle { (s : SetNumbers ExtentValue ExtentValue) → set_in self.now.held.numbers name.now ≡ Some s → vids.now ≡ []
             → IfErr result (λ off. off ≡ refused.Memory) }

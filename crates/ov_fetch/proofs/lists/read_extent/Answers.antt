@@ -17,7 +17,7 @@ loop-extent-preserved g c =
     let room : length c.get.new.buf ≡ vec_len c.loop-extent.piece = search rules in
     let bytes : c.extend_from_slice.new.self.items ≡ c.loop-extent.bytes.items ++ take n c.get.new.buf = c.in_ok-extend_from_slice.ensures.items ∙ ap (λ (l : List ℕ). c.loop-extent.bytes.items ++ l) (ap (take n) (c.deref.ensures.value ∙ take_at c.get.new.buf (drop (length c.get.new.buf) c.loop-extent.piece.items) (vec_len c.loop-extent.piece) room)) in
     let long : vec_len c.extend_from_slice.new.self ≡ read + n = search rules in
-    let at = goes_on s0 s1 s2 c.args.extent read n c.loop-extent.bytes.items c.deref_mut.result.now c.get.new.buf c.loop-extent.invariant.reading (looked_by true s1 s2 c.in_ok-got.ensures.call) (omega (arith, c.in_ok-got.ensures.fetched)) below some (λ told. subst (λ k. Fetches c.args.extent k n s1 c.deref_mut.result.now c.get.new.buf) c.len-in-loop-extent.ensures (c.in_ok-got.ensures.bytes told)) in
+    let at = goes_on s0 s1 s2 c.args.extent read n c.loop-extent.bytes.items c.deref_mut.result.now c.get.new.buf c.loop-extent.invariant.reading (looked_by true n s1 s2 c.in_ok-got.ensures.call c.in_ok-got.ensures.fetched) (omega (arith, c.in_ok-got.ensures.fetched)) below some (λ told. subst (λ k. Fetches c.args.extent k n s1 c.deref_mut.result.now c.get.new.buf) c.len-in-loop-extent.ensures (c.in_ok-got.ensures.bytes told)) in
     record {
       reading = (λ (a : ℕ) (b : List ℕ) (p : a ≡ read + n) (q : b ≡ c.loop-extent.bytes.items ++ take n c.get.new.buf). subst (λ k. IsReading s0 s2 c.args.extent k b) (sym p) (subst (λ (l : List ℕ). IsReading s0 s2 c.args.extent (read + n) l) (sym q) at)) _ _ long bytes;
       room = c.loop-extent.invariant.room;

@@ -1,4 +1,4 @@
-use Rattle.std.proofs.Common.{rules, ◌≡◌, ◌∙◌, ap, refl, subst, sym}
+use Rattle.std.proofs.Common.{rules, ◌≡◌, ◌∙◌, ap, arith, refl, subst, sym}
 use Rattle.std.specs.Prelude.{None, Some}
 use Rattle.ov_host.specs.Stops.{Only}
 use Rattle.ov_host.specs.Tape.{Tape}
@@ -18,6 +18,7 @@ use Rattle.ov_store.proofs.Journals.{looked_by}
 use Rattle.ov_store.proofs.Looking.{looked_at}
 use Rattle.ov_store.proofs.Still.{still, still_world}
 use Rattle.ov_store.proofs.Undamaged.{read_not_damaged}
+use Rattle.ov_store.proofs.Versions.{never_both}
 use Rattle.ov_store.proofs.store.Store.commit.Goals as goal
 
 pub returns-in-Err-clause-why : goal.returns-in-Err-clause-why
@@ -121,3 +122,15 @@ returns-clause-undamaged g c = λ s told named page.
 pub returns-clause-by_journal : goal.returns-clause-by_journal
 returns-clause-by_journal g c = λ before.
     c.in_ok-change.ensures.by_journal (looked_by c.args.self.now.held (g.H.Host.state c.args.host.now) (g.H.Host.state c.next.new.host) c.next.ensures.looked before)
+
+pub returns-in_err-change-clause-counted : goal.returns-in_err-change-clause-counted
+returns-in_err-change-clause-counted g c = omega (arith, c.next.ensures.looked.fetched, c.change.ensures.passes.fetched)
+
+pub returns-clause-counted : goal.returns-clause-counted
+returns-clause-counted g c = omega (arith, c.next.ensures.looked.fetched, c.change.ensures.passes.fetched)
+
+pub returns-in_err-change-clause-unread : goal.returns-in_err-change-clause-unread
+returns-in_err-change-clause-unread g c = λ off is. absurd (never_both off c.in-Ok.ensures.allowed is)
+
+pub returns-clause-unread : goal.returns-clause-unread
+returns-clause-unread g c = λ off is. absurd (never_both off c.in-Ok.ensures.allowed is)

@@ -26,7 +26,7 @@ use Rattle.ov_store.specs.Scanning.{set_in}
 use Rattle.ov_store.proofs.Commits.{commit_spared, refused_uncommitted, there_all}
 use Rattle.ov_store.proofs.Numbers.{found_in, named_numbered}
 use Rattle.ov_store.proofs.Readying.{asked_there, fits_there, fresh_there, made_by, reading_spared, says_there, spared_there, unready_by}
-use Rattle.ov_store.proofs.Versions.{served_there}
+use Rattle.ov_store.proofs.Versions.{never_both, served_there}
 use Rattle.ov_store.proofs.store.Store.next.Goals as goal
 
 pub returns-in_err-d-clause-why : goal.returns-in_err-d-clause-why
@@ -212,3 +212,12 @@ commit_of-requires-clause-held g c =
     ap length c.deref-4.ensures.value
     ∙ (zip_length (IsHeld (g.H.Host.state c.args.host.now).tells (page_bytes (g.H.Host.state c.args.host.now)) c.in_ok-d.field-0.d.now.schema c.deref.result.now) (map sets.part_in c.in_ok-d.field-0.d.now.layout.parts) c.in_ok-read.read.held.items c.in_ok-read.ensures.held
     ∙ length-map c.in_ok-d.field-0.d.now.layout.parts sets.part_in)
+
+pub returns-in_err-read-clause-unread : goal.returns-in_err-read-clause-unread
+returns-in_err-read-clause-unread g c = λ off is. absurd (never_both off c.in_ok-d.ensures.allowed is)
+
+pub returns-in_err-brought-clause-unread : goal.returns-in_err-brought-clause-unread
+returns-in_err-brought-clause-unread g c = λ off is. absurd (never_both off c.in_ok-d.ensures.allowed is)
+
+pub returns-clause-unread : goal.returns-clause-unread
+returns-clause-unread g c = λ off is. absurd (never_both off c.in_ok-d.ensures.allowed is)

@@ -17,9 +17,9 @@ use Rattle.law_reads.proofs.Undamaged.{scan_finds_none}
 use Rattle.ov_store.specs.declared.errors.StoreErr.TheVariants.{Memory}
 use Rattle.ov_store.specs.Errors.{of_fetch}
 use Rattle.ov_store.specs.Listing.{IsListed}
-use Rattle.ov_store.specs.Refusals.{IsVidOff}
+use Rattle.ov_store.specs.Refusals.{IsVidOff, vids_off}
 use Rattle.ov_store.specs.Scanning.{IsUndamaged, IsUnscanned, scan_off, set_in}
-use Rattle.ov_store.proofs.Versions.{all_there, listed_once, no_vids, served_there, vids_undamaged, vids_unscanned}
+use Rattle.ov_store.proofs.Versions.{all_there, listed_once, no_vids, not_off, served_there, vids_undamaged, vids_unscanned}
 use Rattle.ov_store.proofs.Seeing.{found_set, spared}
 use Rattle.ov_store.proofs.store.Store.scan.Goals as goal
 
@@ -117,3 +117,19 @@ returns-in_err-scan_versions-clause-idle g c = λ s named none.
     let idle = c.in_err-scan_versions.ensures.idle (c.in_ok-vids.ensures.listed_are ∙ none)
     in let fact : of_fetch c.in_err-scan_versions.field-0.0 ≡ Memory = ap of_fetch idle
     in search (rules, fact)
+
+pub returns-in_err-scan_versions-clause-unread : goal.returns-in_err-scan_versions-clause-unread
+returns-in_err-scan_versions-clause-unread g c = λ off is.
+    let found : set_in c.args.self.now.held.numbers c.args.name.now ≡ Some (sets.set_in c.in-Some.d.now)
+    = subst (λ (n : Numbers Extent Extent). set_in n c.args.name.now ≡ Some (sets.set_in c.in-Some.d.now)) (c.catalog.ensures ∙ ap (λ kept. kept.held.numbers) c.self.view_is) (sym c.in-Some.ensures.found)
+    in let count : c.len.result ≡ length (map sets.version_in c.in-Some.d.now.versions.items) = search (rules, length-map c.in-Some.d.now.versions.items sets.version_in)
+    in absurd (not_off c.args.self.now.held.numbers c.args.name.now (sets.set_in c.in-Some.d.now) c.args.vids.now off found
+    (subst (λ (n : ℕ). vids_off n [] c.args.vids.now ≡ None) count c.in_ok-vids.ensures.passed) is)
+
+pub returns-clause-unread : goal.returns-clause-unread
+returns-clause-unread g c = λ off is.
+    let found : set_in c.args.self.now.held.numbers c.args.name.now ≡ Some (sets.set_in c.in-Some.d.now)
+    = subst (λ (n : Numbers Extent Extent). set_in n c.args.name.now ≡ Some (sets.set_in c.in-Some.d.now)) (c.catalog.ensures ∙ ap (λ kept. kept.held.numbers) c.self.view_is) (sym c.in-Some.ensures.found)
+    in let count : c.len.result ≡ length (map sets.version_in c.in-Some.d.now.versions.items) = search (rules, length-map c.in-Some.d.now.versions.items sets.version_in)
+    in absurd (not_off c.args.self.now.held.numbers c.args.name.now (sets.set_in c.in-Some.d.now) c.args.vids.now off found
+    (subst (λ (n : ℕ). vids_off n [] c.args.vids.now ≡ None) count c.in_ok-vids.ensures.passed) is)
