@@ -58,7 +58,7 @@ at_said held mid new reply (Ok what) says at = (at.0, printed_at at.0 held mid n
 -- ---- nothing was changed
 
 looked_same : (s : State) → Looked s s
-looked_same s = record { told = refl; kept = refl; tape = λ told. refl; faults = omega arith }
+looked_same s = record { told = refl; kept = refl; tape = λ told. refl; faults = omega arith; fetched = omega arith }
 
 pub idle_same : (k : Kept) (s : State) → Idle k k s s
 idle_same k s = record { store = refl; looked = looked_same s }

@@ -1,5 +1,6 @@
 -- How many bytes of pages serving a line may fetch.
---     may_fetch n line      of a checkout and of a commit what the versions that it lists have; of every other line nothing
+--     may_fetch n line      of a checkout and of a commit what the versions that it lists have, and nothing where the numbers
+--                           refuse them; of every other line nothing
 --     IsReading line      the line changes no store
 --     line_off n line      why the numbers refuse a checkout's versions or a commit's parents
 use Rattle.std.specs.Prelude.{ℕ, List, Option, Some, None}
@@ -18,9 +19,14 @@ abbrev pub bytes_in : Option Set → List ℕ → ℕ
 bytes_in None vids = 0
 bytes_in (Some set) vids = bytes_for set vids
 
+-- these bytes, where nothing is refused
+abbrev pub if_allowed : Option StoreErr → ℕ → ℕ
+if_allowed None bytes = bytes
+if_allowed (Some off) bytes = 0
+
 abbrev pub command_fetch : Numbers Extent Extent → Command → ℕ
-command_fetch n (asks.Checkout cvd vids file table) = bytes_in (set_in n cvd) vids
-command_fetch n (asks.Commit cvd vids file message added) = bytes_in (set_in n cvd) vids
+command_fetch n (asks.Checkout cvd vids file table) = if_allowed (scan_off n cvd vids) (bytes_in (set_in n cvd) vids)
+command_fetch n (asks.Commit cvd vids file message added) = if_allowed (parents_off_in (set_in n cvd) vids) (bytes_in (set_in n cvd) vids)
 command_fetch n _ = 0
 
 abbrev pub may_fetch : Numbers Extent Extent → Line → ℕ

@@ -1,11 +1,11 @@
 -- What serving a command keeps to on every host and stage.
---     Goes old new      a host: no call changes whether it tells its bytes, and its count of faults doesn't fall
+--     Goes old new      a host: no call changes whether it tells its bytes, and its counts of faults and of fetched bytes don't fall
 --     Attended old new      a stage
 --     IsDamaged command stage held s page      what the command reads is damaged, and no number refuses it
 --     MeetsDamage command stage held s page      of a checkout: damage that it meets before it is answered
 --     IfNoFile P reply      this holds where the reply is that there is no such file
 --     Acts d s t w result ..      where the store is at a World, a command does what it means, or is stopped in it
-use Rattle.std.specs.Prelude.{◌≡◌, ◌≤◌, ℕ, Bool, true, false, List, [], length, Option, Some, None, Result, Ok, Err}
+use Rattle.std.specs.Prelude.{◌≡◌, ◌≤◌, ◌-◌, ◌^◌, min, ℕ, Bool, true, false, List, [], length, Option, Some, None, Result, Ok, Err}
 use Rattle.std.specs.List.{All}
 use Rattle.ov_host.specs.declared.area.Area.TheVariants.{Pages}
 use Rattle.ov_host.specs.Host.{Rose, State}
@@ -40,10 +40,12 @@ use Rattle.ov_store.specs.Scanning.{IsDamagedIn, scan_off, set_in}
 use Rattle.ov_files.specs.Files.{file_rows}
 use Rattle.std.specs.FinMap.{get}
 
+-- the count of fetched bytes stays at 2^64 - 1 once it is there
 pub record Goes (old new : State) : Type 0 where
   pub told : new.tells ≡ old.tells
   pub kept : new.keeps ≡ old.keeps
   pub faults : old.faults ≤ new.faults
+  pub fetched : min old.fetched (2 ^ 64 - 1) ≤ new.fetched
 
 pub record Attended (old new : Staged) : Type 0 where
   pub told : new.tells ≡ old.tells

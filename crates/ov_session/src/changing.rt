@@ -116,7 +116,7 @@ fn next_version<H: Host>(
     ensures fetched { (set : Set) → set_in store.old.held.numbers cvd ≡ Some set
         → (H.state host.new).fetched ≤ (H.state host.old).fetched + bytes_for set vids.now }
     ensures unread { (off : StoreErrValue) → parents_off_in (set_in store.old.held.numbers cvd) vids.now ≡ Some off
-        → OnOk result ((H.state host.new).fetched ≡ (H.state host.old).fetched) }
+        → H.state host.new ≡ H.state host.old }
     ensures cause { IsErrOf result EndErr.Host → Rose (H.state host.old).faults (H.state host.new).faults }
     ensures host_alone { IsErrOf result EndErr.Stage → ⊥ }
     ensures damaged { IfErr result (IsDamageOf (λ page. (commit_off store.old.held cvd vids.now rows.items ≡ None)
@@ -205,7 +205,7 @@ pub fn commit<H: Host, T: Stage>(
     ensures attended { Attended (T.staged stage.old) (T.staged stage.new) }
     ensures fetched { (H.state host.new).fetched ≤ (H.state host.old).fetched + bytes_in (set_in store.old.held.numbers cvd) vids.now }
     ensures unread { (off : StoreErrValue) → parents_off_in (set_in store.old.held.numbers cvd) vids.now ≡ Some off
-        → OnOk result ((H.state host.new).fetched ≡ (H.state host.old).fetched) }
+        → H.state host.new ≡ H.state host.old }
     ensures cause { IsErrOf result EndErr.Host → Rose (H.state host.old).faults (H.state host.new).faults }
     ensures stage { IsErrOf result EndErr.Stage → Rose (T.staged stage.old).faults (T.staged stage.new).faults }
     ensures damaged { IfErr result (IsDamageOf (IsDamaged (asks.Commit cvd vids.now file.now message.now None) (T.staged stage.old) store.old.held

@@ -35,6 +35,7 @@ fn merged<H: Host>(
     requires usable { store.now.usable ≡ true }
     ensures looked { Looked (H.state host.old) (H.state host.new) }
     ensures fetched { (H.state host.new).fetched ≤ (H.state host.old).fetched + bytes_in (set_in store.now.held.numbers cvd.now) vids.now }
+    ensures unread { (off : StoreErrValue) → scan_off store.now.held.numbers cvd.now vids.now ≡ Some off → H.state host.new ≡ H.state host.old }
     ensures why { IfErr result (IsUnscanned (scan_off store.now.held.numbers cvd.now vids.now) (set_in store.now.held.numbers cvd.now) vids.now (H.state host.old) (H.state host.new)) }
     ensures allowed { OnOk result (scan_off store.now.held.numbers cvd.now vids.now ≡ None) }
     ensures whole { (page : ℕ) → (H.state host.old).tells ≡ true
@@ -93,8 +94,7 @@ pub fn checkout<H: Host, T: Stage>(
     requires usable { store.now.usable ≡ true }
     ensures looked { Looked (H.state host.old) (H.state host.new) }
     ensures fetched { (H.state host.new).fetched ≤ (H.state host.old).fetched + bytes_in (set_in store.now.held.numbers cvd) vids.now }
-    ensures unread { (off : StoreErrValue) → scan_off store.now.held.numbers cvd vids.now ≡ Some off
-        → OnOk result ((H.state host.new).fetched ≡ (H.state host.old).fetched) }
+    ensures unread { (off : StoreErrValue) → scan_off store.now.held.numbers cvd vids.now ≡ Some off → H.state host.new ≡ H.state host.old }
     ensures attended { Attended (T.staged stage.old) (T.staged stage.new) }
     ensures cause { IsErrOf result EndErr.Host → Rose (H.state host.old).faults (H.state host.new).faults }
     ensures stage { IsErrOf result EndErr.Stage → Rose (T.staged stage.old).faults (T.staged stage.new).faults }

@@ -58,7 +58,7 @@ fn answer<H: Host, T: Stage>(
     ensures still { IsReadingCommand command → store.new.held ≡ store.old.held }
     ensures fetched { (H.state host.new).fetched ≤ (H.state host.old).fetched + command_fetch store.old.held.numbers command }
     ensures unread { (off : StoreErr) → command_off store.old.held.numbers command ≡ Some off
-        → OnOk result ((H.state host.new).fetched ≡ (H.state host.old).fetched) }
+        → (H.state host.new).fetched ≡ (H.state host.old).fetched }
     ensures cause { IsErrOf result EndErr.Host → Rose (H.state host.old).faults (H.state host.new).faults }
     ensures stage { IsErrOf result EndErr.Stage → Rose (T.staged stage.old).faults (T.staged stage.new).faults }
     ensures damaged { IfErr result (IsDamageOf (IsDamaged command (T.staged stage.old) store.old.held (H.state host.new))) }
@@ -162,7 +162,7 @@ pub fn serve<H: Host, T: Stage>(
     ensures fetched { (H.state host.new).fetched
         ≤ (H.state host.old).fetched + may_fetch store.old.held.numbers (line_of built_forms line.now) }
     ensures unread { (off : StoreErr) → line_off store.old.held.numbers (line_of built_forms line.now) ≡ Some off
-        → OnOk result ((H.state host.new).fetched ≡ (H.state host.old).fetched) }
+        → (H.state host.new).fetched ≡ (H.state host.old).fetched }
     ensures cause { IsErrOf result EndErr.Host → Rose (H.state host.old).faults (H.state host.new).faults }
     ensures stage { IsErrOf result EndErr.Stage → Rose (T.staged stage.old).faults (T.staged stage.new).faults }
     ensures damaged { IfErr result (IsDamageOf (λ page. (command : CommandValue) × (line_of built_forms line.now ≡ Asks command)

@@ -450,7 +450,7 @@ attended_still stage = record { told = refl; faults = omega arith; misses = omeg
 
 pub keeps_still : (ends : Ends) → Keeps ends ends
 keeps_still ends = record {
-  host = record { told = refl; kept = refl; faults = omega arith };
+  host = record { told = refl; kept = refl; faults = omega arith; fetched = omega arith };
   script = spent_still ends.script;
   stage = attended_still ends.stage;
 }

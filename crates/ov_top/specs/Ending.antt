@@ -80,8 +80,8 @@ IsUndamaged (Damaged area at) = ⊥
 IsUndamaged (Format found) = ⊥
 IsUndamaged _ = Unit {0}
 
--- What every run keeps to: whether an end tells, and whether the host keeps to the model, stays as it was; no count of faults or
--- of misses falls; and at most 2^32 bytes of the script are taken.
+-- What every run keeps to: whether an end tells, and whether the host keeps to the model, stays as it was; no count of faults, of
+-- misses or of fetched bytes falls; and at most 2^32 bytes of the script are taken.
 pub record Keeps (old new : Ends) : Type 0 where
   pub host : Goes old.host new.host
   pub script : Spent old.script new.script

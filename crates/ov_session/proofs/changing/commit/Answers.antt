@@ -87,3 +87,6 @@ returns-in_err-rows-clause-by_journal g c = λ by fine. by
 
 pub returns-in-Said-clause-by_journal : goal.returns-in-Said-clause-by_journal
 returns-in-Said-clause-by_journal g c = λ by fine. by
+
+pub returns-in-Rows-clause-unread : goal.returns-in-Rows-clause-unread
+returns-in-Rows-clause-unread g c = λ off is. c.next_version.ensures.unread off is

@@ -2,7 +2,7 @@ use Rattle.std.proofs.Common.{sym, ◌∙◌, ap}
 use Rattle.ov_store.specs.Scanning.{set_in}
 use Rattle.ov_session.proofs.Begins.{version_done, version_off}
 use Rattle.ov_session.proofs.Dealing.{commit_spared, result_damaged, result_spared}
-use Rattle.ov_session.proofs.Bounds.{commit_unread, parents_first}
+use Rattle.ov_session.proofs.Bounds.{parents_first}
 use Rattle.ov_session.proofs.Replying.{result_seen}
 use Rattle.ov_session.proofs.Standing.{at_next, at_refused, result_idle}
 use Rattle.ov_store.specs.Committing.{committed, parents_off_in}
@@ -68,16 +68,13 @@ returns-in-Err-clause-fetched g c = λ set is.
 
 pub returns-in-Ok-clause-unread : goal.returns-in-Ok-clause-unread
 returns-in-Ok-clause-unread g c = λ off is.
-    absurd (parents_first c.args.store.now.held c.as_str.result.now c.args.vids.now c.args.rows.items off
-    (ap (λ n. parents_off_in (set_in c.args.store.now.held.numbers n) c.args.vids.now) c.as_str.ensures.text ∙ is) c.in-Ok.ensures.allowed)
+    c.commit.ensures.unread off (parents_first c.args.store.now.held c.as_str.result.now c.args.vids.now c.args.rows.items off
+    (ap (λ n. parents_off_in (set_in c.args.store.now.held.numbers n) c.args.vids.now) c.as_str.ensures.text ∙ is))
 
 pub returns-in-Err-clause-unread : goal.returns-in-Err-clause-unread
 returns-in-Err-clause-unread g c = λ off is.
-    commit_unread c.args.store.now.held c.as_str.result.now c.args.cvd
-    (record { vids = c.args.vids.now; message = c.args.message.now; rows = c.args.rows.items })
-    (g.H.Host.state c.args.host.now) (g.H.Host.state c.commit.new.host) off
-    (ap (λ n. parents_off_in (set_in c.args.store.now.held.numbers n) c.args.vids.now) c.as_str.ensures.text ∙ is) c.in-Err.off c.refused.result
-    c.in-Err.ensures.why c.refused.ensures.reply
+    c.commit.ensures.unread off (parents_first c.args.store.now.held c.as_str.result.now c.args.vids.now c.args.rows.items off
+    (ap (λ n. parents_off_in (set_in c.args.store.now.held.numbers n) c.args.vids.now) c.as_str.ensures.text ∙ is))
 
 pub returns-in-Err-clause-idle : goal.returns-in-Err-clause-idle
 returns-in-Err-clause-idle g c =

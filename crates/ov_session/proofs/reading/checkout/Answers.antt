@@ -1,11 +1,10 @@
-use Rattle.std.proofs.Common.{rules, ◌≡◌, ℕ, List, subst}
+use Rattle.std.proofs.Common.{rules, ◌≡◌, ◌∙◌, ℕ, List, ap, subst}
 use Rattle.std.specs.Prelude.{None, Some}
 use Rattle.law_runs.specs.Serving.{session_of}
 use Rattle.ov_model.specs.World.{Dataset, set_named}
 use Rattle.ov_session.specs.Commands.{IsMergeOf}
 use Rattle.std.proofs.Common.{◌+◌, refl}
 use Rattle.std.specs.Prelude.{◌≤◌}
-use Rattle.ov_session.proofs.Bounds.{none_off, scan_unread}
 use Rattle.ov_session.proofs.Dealing.{result_no_host, result_spared, scan_damaged, scan_spared, spared_damaged}
 use Rattle.ov_session.proofs.Replying.{result_seen}
 use Rattle.ov_session.proofs.Standing.{idle_given, result_unmoved}
@@ -59,12 +58,11 @@ returns-in-Err-clause-fetched g c =
 
 pub returns-in-Ok-clause-unread : goal.returns-in-Ok-clause-unread
 returns-in-Ok-clause-unread g c = λ off is.
-    absurd (none_off off (subst (λ (name : List ℕ). scan_off c.args.store.now.held.numbers name c.args.vids.now ≡ None) c.as_str.ensures.text c.in-Ok.ensures.allowed) is)
+    c.merged.ensures.unread off (ap (λ (name : List ℕ). scan_off c.args.store.now.held.numbers name c.args.vids.now) c.as_str.ensures.text ∙ is)
 
 pub returns-in-Err-clause-unread : goal.returns-in-Err-clause-unread
 returns-in-Err-clause-unread g c = λ off is.
-    scan_unread c.args.cvd c.args.vids.now (scan_off c.args.store.now.held.numbers c.as_str.result.now c.args.vids.now) (set_in c.args.store.now.held.numbers c.as_str.result.now) (g.H.Host.state c.args.host.now) (g.H.Host.state c.merged.new.host)
-    c.in-Err.off c.refused.result c.in-Err.ensures.why c.refused.ensures.reply
+    c.merged.ensures.unread off (ap (λ (name : List ℕ). scan_off c.args.store.now.held.numbers name c.args.vids.now) c.as_str.ensures.text ∙ is)
 
 pub returns-in-Err-clause-seen : goal.returns-in-Err-clause-seen
 returns-in-Err-clause-seen g c = result_seen c.args.cvd c.in-Err.off c.refused.result c.refused.ensures.reply

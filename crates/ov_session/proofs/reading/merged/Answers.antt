@@ -48,3 +48,12 @@ returns-clause-whole g c = λ page told.
     = subst (λ (n : Numbers Extent Extent). set_in n c.args.cvd.now ≡ Some (sets.set_in c.in-Some.d.now)) c.catalog.ensures (sym c.in-Some.ensures.found)
     in whole_in (set_in c.args.store.now.held.numbers c.args.cvd.now) (sets.set_in c.in-Some.d.now) c.args.vids.now (g.H.Host.state c.args.host.now) page found told
     (c.in_ok-scan.ensures.undamaged (sets.set_in c.in-Some.d.now) told found)
+
+pub returns-in_err-scan-clause-unread : goal.returns-in_err-scan-clause-unread
+returns-in_err-scan-clause-unread g c = λ off is. c.scan.ensures.unread off is
+
+pub returns-in_err-checkout_of-clause-unread : goal.returns-in_err-checkout_of-clause-unread
+returns-in_err-checkout_of-clause-unread g c = λ off is. c.scan.ensures.unread off is
+
+pub returns-clause-unread : goal.returns-clause-unread
+returns-clause-unread g c = λ off is. c.scan.ensures.unread off is

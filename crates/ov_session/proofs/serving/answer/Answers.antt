@@ -2,16 +2,17 @@ use Rattle.std.proofs.Common.{◌≡◌, sym, ap, refl, subst, rules}
 use Rattle.law_runs.proofs.Doing.{breaks_looked, does_told}
 use Rattle.law_runs.specs.Serving.{Breaks, Does, session_of}
 use Rattle.ov_cmd.specs.Asked.{IsAsked}
+use Rattle.ov_host.specs.Host.{State}
 use Rattle.ov_model.specs.Act.{deed, tells}
 use Rattle.ov_model.specs.declared.command.Command.{Command}
 use Rattle.ov_session.proofs.Dealing.{checkout_asked, commit_asked}
 use Rattle.ov_session.specs.Commands.{Acts}
 use Rattle.std.proofs.Common.{◌+◌, ℕ, List, Some}
 use Rattle.std.specs.Prelude.{◌≤◌}
-use Rattle.ov_session.proofs.Bounds.{fetched_none, fetched_still}
+use Rattle.ov_session.proofs.Bounds.{fetched_allowed, fetched_none, fetched_still}
 use Rattle.ov_session.proofs.Replying.{seen_missed}
 use Rattle.ov_session.proofs.Standing.{at_looked, at_still, idle_spared, on_any}
-use Rattle.ov_session.specs.Bounds.{IsReadingCommand, bytes_in, command_fetch, command_off}
+use Rattle.ov_session.specs.Bounds.{IsReadingCommand, bytes_in, command_fetch, command_off, if_allowed}
 use Rattle.ov_store.specs.Committing.{parents_off_in}
 use Rattle.ov_store.specs.Scanning.{scan_off, set_in}
 use Rattle.ov_session.proofs.Numbering.{journal_looked}
@@ -83,35 +84,43 @@ pub returns-in-Init-clause-fetched : goal.returns-in-Init-clause-fetched
 returns-in-Init-clause-fetched g c = fetched_still (g.H.Host.state c.args.host.now) (g.H.Host.state c.init.new.host) _ c.init.ensures.fetched
 
 pub returns-in-Init-clause-unread : goal.returns-in-Init-clause-unread
-returns-in-Init-clause-unread g c = λ off is. on_any _ c.init.result c.init.ensures.fetched
+returns-in-Init-clause-unread g c = λ off is. c.init.ensures.fetched
 
 pub returns-in-DropCvd-clause-fetched : goal.returns-in-DropCvd-clause-fetched
 returns-in-DropCvd-clause-fetched g c = fetched_still (g.H.Host.state c.args.host.now) (g.H.Host.state c.drop_cvd.new.host) _ c.drop_cvd.ensures.fetched
 
 pub returns-in-DropCvd-clause-unread : goal.returns-in-DropCvd-clause-unread
-returns-in-DropCvd-clause-unread g c = λ off is. on_any _ c.drop_cvd.result c.drop_cvd.ensures.fetched
+returns-in-DropCvd-clause-unread g c = λ off is. c.drop_cvd.ensures.fetched
 
 pub returns-in-Commit-clause-fetched : goal.returns-in-Commit-clause-fetched
 returns-in-Commit-clause-fetched g c =
     subst (λ (command : Command). (g.H.Host.state c.commit.new.host).fetched ≤ (g.H.Host.state c.args.host.now).fetched + command_fetch c.args.store.now.held.numbers command) (sym c.in-Commit.is)
-    (subst (λ (v : List ℕ). (g.H.Host.state c.commit.new.host).fetched ≤ (g.H.Host.state c.args.host.now).fetched + bytes_in (set_in c.args.store.now.held.numbers c.in-Commit.cvd) v) c.as_slice.ensures c.commit.ensures.fetched)
+    (subst (λ (v : List ℕ). (g.H.Host.state c.commit.new.host).fetched ≤ (g.H.Host.state c.args.host.now).fetched
+    + if_allowed (parents_off_in (set_in c.args.store.now.held.numbers c.in-Commit.cvd) v) (bytes_in (set_in c.args.store.now.held.numbers c.in-Commit.cvd) v)) c.as_slice.ensures
+    (fetched_allowed (parents_off_in (set_in c.args.store.now.held.numbers c.in-Commit.cvd) c.as_slice.result.now) (bytes_in (set_in c.args.store.now.held.numbers c.in-Commit.cvd) c.as_slice.result.now)
+    (g.H.Host.state c.args.host.now).fetched (g.H.Host.state c.commit.new.host).fetched c.commit.ensures.fetched
+    (λ off is. ap (λ (s : State). s.fetched) (c.commit.ensures.unread off is))))
 
 pub returns-in-Commit-clause-unread : goal.returns-in-Commit-clause-unread
 returns-in-Commit-clause-unread g c = λ off is.
-    c.commit.ensures.unread off
+    ap (λ (s : State). s.fetched) (c.commit.ensures.unread off
     (subst (λ (v : List ℕ). parents_off_in (set_in c.args.store.now.held.numbers c.in-Commit.cvd) v ≡ Some off) (sym c.as_slice.ensures)
-    (subst (λ (command : Command). command_off c.args.store.now.held.numbers command ≡ Some off) c.in-Commit.is is))
+    (subst (λ (command : Command). command_off c.args.store.now.held.numbers command ≡ Some off) c.in-Commit.is is)))
 
 pub returns-in-Checkout-clause-fetched : goal.returns-in-Checkout-clause-fetched
 returns-in-Checkout-clause-fetched g c =
     subst (λ (command : Command). (g.H.Host.state c.checkout.new.host).fetched ≤ (g.H.Host.state c.args.host.now).fetched + command_fetch c.args.store.now.held.numbers command) (sym c.in-Checkout.is)
-    (subst (λ (v : List ℕ). (g.H.Host.state c.checkout.new.host).fetched ≤ (g.H.Host.state c.args.host.now).fetched + bytes_in (set_in c.args.store.now.held.numbers c.in-Checkout.cvd) v) c.as_slice-in-Checkout.ensures c.checkout.ensures.fetched)
+    (subst (λ (v : List ℕ). (g.H.Host.state c.checkout.new.host).fetched ≤ (g.H.Host.state c.args.host.now).fetched
+    + if_allowed (scan_off c.args.store.now.held.numbers c.in-Checkout.cvd v) (bytes_in (set_in c.args.store.now.held.numbers c.in-Checkout.cvd) v)) c.as_slice-in-Checkout.ensures
+    (fetched_allowed (scan_off c.args.store.now.held.numbers c.in-Checkout.cvd c.as_slice-in-Checkout.result.now) (bytes_in (set_in c.args.store.now.held.numbers c.in-Checkout.cvd) c.as_slice-in-Checkout.result.now)
+    (g.H.Host.state c.args.host.now).fetched (g.H.Host.state c.checkout.new.host).fetched c.checkout.ensures.fetched
+    (λ off is. ap (λ (s : State). s.fetched) (c.checkout.ensures.unread off is))))
 
 pub returns-in-Checkout-clause-unread : goal.returns-in-Checkout-clause-unread
 returns-in-Checkout-clause-unread g c = λ off is.
-    c.checkout.ensures.unread off
+    ap (λ (s : State). s.fetched) (c.checkout.ensures.unread off
     (subst (λ (v : List ℕ). scan_off c.args.store.now.held.numbers c.in-Checkout.cvd v ≡ Some off) (sym c.as_slice-in-Checkout.ensures)
-    (subst (λ (command : Command). command_off c.args.store.now.held.numbers command ≡ Some off) c.in-Checkout.is is))
+    (subst (λ (command : Command). command_off c.args.store.now.held.numbers command ≡ Some off) c.in-Checkout.is is)))
 
 pub returns-in-Checkout-clause-at : goal.returns-in-Checkout-clause-at
 returns-in-Checkout-clause-at g c = λ w at.

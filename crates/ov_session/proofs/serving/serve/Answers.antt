@@ -1,4 +1,4 @@
-use Rattle.std.proofs.Common.{◌≡◌, ◌∙◌, false, sym, ap, refl, subst, rules}
+use Rattle.std.proofs.Common.{◌≡◌, ◌∙◌, false, sym, ap, arith, refl, subst, rules}
 use Rattle.std.specs.Prelude.{Err, Result, is_ok}
 use Rattle.ov_cmd.specs.Asked.{AsksBuilt}
 use Rattle.ov_cmd.specs.Said.{said}
@@ -103,6 +103,14 @@ returns-in_ok-refusal-in-Err-clause-serves g c = λ w told at.
 
 -- ---- what was fetched
 
+pub returns-in_ok-reply-in-Ok-Some-clause-goes : goal.returns-in_ok-reply-in-Ok-Some-clause-goes
+returns-in_ok-reply-in-Ok-Some-clause-goes g c = record {
+  told = c.say.ensures.goes.told ∙ c.answer.ensures.goes.told;
+  kept = c.say.ensures.goes.kept ∙ c.answer.ensures.goes.kept;
+  faults = omega (arith, c.answer.ensures.goes.faults, c.say.ensures.goes.faults);
+  fetched = omega (arith, c.answer.ensures.goes.fetched, c.say.ensures.goes.fetched);
+}
+
 pub returns-in_err-reply-in-Ok-Some-clause-fetched : goal.returns-in_err-reply-in-Ok-Some-clause-fetched
 returns-in_err-reply-in-Ok-Some-clause-fetched g c =
     subst (λ (l : Line). (g.H.Host.state c.answer.new.host).fetched ≤ (g.H.Host.state c.args.host.now).fetched + may_fetch c.args.store.now.held.numbers l) (sym (c.in-Ok-Some.ensures.ok ∙ ap said c.in-Ok-Some.field-0-is)) c.answer.ensures.fetched
@@ -121,12 +129,16 @@ returns-in_ok-reply-in-Ok-Some-clause-fetched g c =
 pub returns-in_ok-refusal-in-Err-clause-fetched : goal.returns-in_ok-refusal-in-Err-clause-fetched
 returns-in_ok-refusal-in-Err-clause-fetched g c = fetched_still (g.H.Host.state c.args.host.now) (g.H.Host.state c.say-in-Err.new.host) _ c.say-in-Err.ensures.fetched
 
+pub returns-in_err-reply-in-Ok-Some-clause-unread : goal.returns-in_err-reply-in-Ok-Some-clause-unread
+returns-in_err-reply-in-Ok-Some-clause-unread g c = λ off is.
+    c.answer.ensures.unread off (subst (λ (l : Line). line_off c.args.store.now.held.numbers l ≡ Some off) (c.in-Ok-Some.ensures.ok ∙ ap said c.in-Ok-Some.field-0-is) is)
+
 pub returns-in_ok-reply-in-Ok-Some-clause-unread : goal.returns-in_ok-reply-in-Ok-Some-clause-unread
 returns-in_ok-reply-in-Ok-Some-clause-unread g c = λ off is.
-    on_any _ c.say.result (c.say.ensures.fetched ∙ c.in_ok-reply-in-Ok-Some.ensures.unread off (subst (λ (l : Line). line_off c.args.store.now.held.numbers l ≡ Some off) (c.in-Ok-Some.ensures.ok ∙ ap said c.in-Ok-Some.field-0-is) is))
+    c.say.ensures.fetched ∙ c.answer.ensures.unread off (subst (λ (l : Line). line_off c.args.store.now.held.numbers l ≡ Some off) (c.in-Ok-Some.ensures.ok ∙ ap said c.in-Ok-Some.field-0-is) is)
 
 pub returns-in_ok-refusal-in-Err-clause-unread : goal.returns-in_ok-refusal-in-Err-clause-unread
-returns-in_ok-refusal-in-Err-clause-unread g c = λ off is. on_any _ c.say-in-Err.result c.say-in-Err.ensures.fetched
+returns-in_ok-refusal-in-Err-clause-unread g c = λ off is. c.say-in-Err.ensures.fetched
 
 -- ---- where it leaves the store
 

@@ -37,6 +37,7 @@ returns-in-Ok-clause-keeps g c = record {
     told = c.serve_all.ensures.goes.told ∙ c.open.ensures.passes.told;
     kept = c.serve_all.ensures.goes.kept ∙ c.open.ensures.passes.kept;
     faults = omega (arith, c.serve_all.ensures.goes.faults, c.open.ensures.passes.faults);
+    fetched = omega (arith, c.serve_all.ensures.goes.fetched, c.open.ensures.passes.fetched);
   };
   script = c.serve_all.ensures.spent;
   stage = c.serve_all.ensures.attended;
@@ -44,7 +45,12 @@ returns-in-Ok-clause-keeps g c = record {
 
 pub returns-in-Err-clause-keeps : goal.returns-in-Err-clause-keeps
 returns-in-Err-clause-keeps g c = record {
-  host = record { told = c.open.ensures.passes.told; kept = c.open.ensures.passes.kept; faults = c.open.ensures.passes.faults };
+  host = record {
+    told = c.open.ensures.passes.told;
+    kept = c.open.ensures.passes.kept;
+    faults = c.open.ensures.passes.faults;
+    fetched = omega (arith, c.open.ensures.passes.fetched);
+  };
   script = spent_still (g.S.Source.script c.args.source.now);
   stage = attended_still (g.T.Stage.staged c.args.stage.now);
 }

@@ -37,7 +37,7 @@ returns-in_err-reader-clause-served g c = λ w script stage at.
 
 pub lines-init : goal.lines-init
 lines-init g c = record {
-  goes = record { told = refl; kept = refl; faults = omega arith };
+  goes = record { told = refl; kept = refl; faults = omega arith; fetched = omega arith };
   attended = record { told = refl; faults = omega arith; misses = omega arith };
   told = refl;
   faults = omega arith;
@@ -106,6 +106,16 @@ returns-in_err-served-clause-served g c = λ w script stage at.
     (gone_ends c.args.steps w s t u first.left left later given.0 c.lines.reader.ended c.next_line.new.self.ended c.lines.failed false c.args.store.held c.lines.store.held
     c.serve.new.store.held (g.H.Host.state c.args.host.now) (g.H.Host.state c.lines.host) (g.H.Host.state c.serve.new.host) gone given.1 serves))
 
+pub returns-in_err-served-clause-goes : goal.returns-in_err-served-clause-goes
+returns-in_err-served-clause-goes g c =
+    let inv = c.lines.invariant
+    in record {
+      told = c.serve.ensures.goes.told ∙ inv.goes.told;
+      kept = c.serve.ensures.goes.kept ∙ inv.goes.kept;
+      faults = omega (arith, c.serve.ensures.goes.faults, inv.goes.faults);
+      fetched = omega (arith, c.serve.ensures.goes.fetched, inv.goes.fetched);
+    }
+
 pub lines-preserved : goal.lines-preserved
 lines-preserved g c =
     let inv = c.lines.invariant
@@ -115,6 +125,7 @@ lines-preserved g c =
         told = c.serve.ensures.goes.told ∙ inv.goes.told;
         kept = c.serve.ensures.goes.kept ∙ inv.goes.kept;
         faults = omega (arith, c.serve.ensures.goes.faults, inv.goes.faults);
+        fetched = omega (arith, c.serve.ensures.goes.fetched, inv.goes.fetched);
       };
       attended = record {
         told = c.serve.ensures.attended.told ∙ inv.attended.told;
