@@ -97,7 +97,12 @@ event_few (says.Commit cvd vid message parents rows fresh place added list segme
     few_change cvd (with_version (version_of parents message rows fresh list) (place_in place) added (extents_of segment)) (commit_off vid message parents rows fresh (place_in place) added list segment) n.sets
     (λ d ok. commit_few vid message parents rows fresh (place_in place) added list segment d ok) e all
 event_few (says.Drop cvd) n e all = few_filter (λ d. not (numbered cvd d)) n.sets all
-event_few _ n e all = all
+event_few (says.Plan cvd p q targets) n e all = absurd cc
+event_few (says.Copy cvd count segment) n e all = absurd cc
+event_few (says.Flip cvd) n e all = absurd cc
+event_few (says.Base next) n e all = absurd cc
+event_few (says.Whole said) n e all = absurd cc
+event_few (says.Wide cvd vid message columns parents rows fresh place added list segment) n e all = absurd cc
 
 all_few : (events : List raw.Event) (n : Numbers Extent Extent) → AllApply events n → AllFew n.sets → AllFew (replayed (map event_in events) n).sets
 all_few [] n apply all = all

@@ -61,4 +61,10 @@ applies_sound (says.Init name s rows list segment) n e = init_extents n name s r
 applies_sound (says.Commit cvd vid message parents rows fresh place added list segment) n e =
     let live = some_live (commit_off vid message parents rows fresh (place_in place) added list segment) (set_numbered cvd n) e
     in commit_extents vid message parents rows fresh (place_in place) added list segment live.0 live.1
-applies_sound _ n e = tt
+applies_sound (says.Plan cvd p q targets) n e = absurd cc
+applies_sound (says.Copy cvd count segment) n e = absurd cc
+applies_sound (says.Flip cvd) n e = absurd cc
+applies_sound (says.Drop cvd) n e = tt
+applies_sound (says.Base next) n e = absurd cc
+applies_sound (says.Whole said) n e = absurd cc
+applies_sound (says.Wide cvd vid message columns parents rows fresh place added list segment) n e = absurd cc

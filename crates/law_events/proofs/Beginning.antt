@@ -1,6 +1,6 @@
 -- The events of an Init and of a Drop apply where the move fits.
 use Rattle.std.proofs.Common.{◌≡◌, ◌==◌, ◌&&◌, ◌||◌, ℕ, Bool, true, false, not, nat_lt, List, [], ◌∷◌, length, map, refl, sym, ◌∙◌, ap, subst, arith}
-use Rattle.std.specs.Prelude.{Option, Some, None, find, nat_le, IsTrue, if◌then◌else◌}
+use Rattle.std.specs.Prelude.{Option, Some, None, find, nat_le, IsTrue, if◌then◌else◌, codes}
 use Rattle.std.specs.List.{list_any}
 use Rattle.std.specs.Option.{option_or}
 use Rattle.std.proofs.lemmas.Bool.{and_from, not_from_false, lt-ltb, le-leb}
@@ -10,7 +10,7 @@ use Rattle.ov_event.specs.declared.event.Event.TheVariants as says
 use Rattle.ov_event.specs.declared.event.RawSchema.{RawSchema}
 use Rattle.ov_host.specs.declared.area.Extent.{Extent}
 use Rattle.ov_model.specs.Book.{Row}
-use Rattle.ov_model.specs.Moves.{Init, Drop, numbered}
+use Rattle.ov_model.specs.Moves.{Init, Drop, numbered, version_of}
 use Rattle.ov_model.specs.World.{Dataset, World, first_set, named}
 use Rattle.ov_value.specs.Naming.{is_name}
 use Rattle.ov_value.specs.Shapes.{Shape}
@@ -18,12 +18,13 @@ use Rattle.ov_catalog.specs.declared.field.Field.{Field}
 use Rattle.ov_catalog.specs.declared.field.Field.TheVariants as off
 use Rattle.ov_catalog.specs.Applying.{off_unless, is_named, is_schema, is_list, is_segment, init_off, of_live, first_off}
 use Rattle.ov_catalog.specs.Events as events
-use Rattle.ov_catalog.specs.Events.{Event}
+use Rattle.ov_catalog.specs.Events.{Event, Drop as Dropped}
 use Rattle.ov_catalog.specs.Numbers.{SetNumbers}
 use Rattle.ov_catalog.specs.Raw.{shape_in, numbers_in}
 use Rattle.ov_catalog.specs.Reached.{Fits, InitFits, IfThere}
-use Rattle.ov_catalog.specs.Shown.{Rids, Records, shown, shown_set}
-use Rattle.ov_catalog.specs.Stands.{Readings, StandsFor, seen_event, asked_event}
+use Rattle.ov_catalog.specs.Shown.{Rids, Records, shown, shown_set, init_event}
+use Rattle.ov_catalog.specs.Stands.{Readings, StandsFor, seen_event, asked_as, asked_event}
+use Rattle.ov_catalog.proofs.Moving.{some_same}
 use Rattle.law_events.specs.Fitting.{IsSoundEvent}
 use Rattle.law_events.proofs.Holes.{first_off_each}
 use Rattle.law_events.proofs.Schemas.{is_shape, sound_is_shape}
@@ -93,7 +94,7 @@ rows_in (events.Init name schema rows list segments) = rows
 rows_in _ = 0
 
 init_shown : (r : Readings) (w : World) (e : raw.Event) (name : List ℕ) (schema : Shape) (rows : List Row) → InitFits w name schema rows → IsSoundEvent e
-    → seen_event r e ≡ asked_event (Init name schema rows) w → first_off e (shown w) ≡ None
+    → seen_event r e ≡ asked_as (init_event name (version_of [] (codes "init") rows) schema) → first_off e (shown w) ≡ None
 init_shown r w (says.Init given s count list segment) name schema rows fits sound spells =
     let same_name : given ≡ name = ap name_in spells
     in let same_schema : shape_in s ≡ schema = ap (schema_in schema) spells
@@ -110,9 +111,9 @@ init_shown r w (says.Whole whole) name schema rows fits sound spells = cc
 init_shown r w (says.Wide cvd vid message columns parents count fresh place added list segment) name schema rows fits sound spells = cc
 
 pub init_applies : (events : List raw.Event) (r : Readings) (w : World) (e : raw.Event) (name : List ℕ) (schema : Shape) (rows : List Row)
-    → StandsFor events r w → Fits (Init name schema rows) w → IsSoundEvent e → seen_event r e ≡ asked_event (Init name schema rows) w
+    → StandsFor events r w → Fits (Init name schema rows) w → IsSoundEvent e → Some (seen_event r e) ≡ asked_event (Init name schema rows) w
     → first_off e (numbers_in events) ≡ None
-init_applies events r w e name schema rows stands fits sound spells = applies_there events r w e stands (init_shown r w e name schema rows fits sound spells)
+init_applies events r w e name schema rows stands fits sound spells = applies_there events r w e stands (init_shown r w e name schema rows fits sound (some_same (seen_event r e) (asked_as (init_event name (version_of [] (codes "init") rows) schema)) spells))
 
 -- ---- Drop
 
@@ -125,7 +126,7 @@ found_live : (cvd : ℕ) (sets : List Dataset) (found : Option Dataset) → firs
 found_live cvd sets None e fits = absurd fits
 found_live cvd sets (Some d) e fits = live_shown (λ d. None) cvd sets d e refl
 
-drop_shown : (r : Readings) (w : World) (e : raw.Event) (cvd : ℕ) → Fits (Drop cvd) w → seen_event r e ≡ asked_event (Drop cvd) w → first_off e (shown w) ≡ None
+drop_shown : (r : Readings) (w : World) (e : raw.Event) (cvd : ℕ) → Fits (Drop cvd) w → seen_event r e ≡ asked_as (Dropped cvd) → first_off e (shown w) ≡ None
 drop_shown r w (says.Init given s count list segment) cvd fits spells = cc
 drop_shown r w (says.Commit number vid message parents count fresh place added list segment) cvd fits spells = cc
 drop_shown r w (says.Plan number p q targets) cvd fits spells = cc
@@ -139,6 +140,6 @@ drop_shown r w (says.Whole whole) cvd fits spells = cc
 drop_shown r w (says.Wide number vid message columns parents count fresh place added list segment) cvd fits spells = cc
 
 pub drop_applies : (events : List raw.Event) (r : Readings) (w : World) (e : raw.Event) (cvd : ℕ)
-    → StandsFor events r w → Fits (Drop cvd) w → seen_event r e ≡ asked_event (Drop cvd) w
+    → StandsFor events r w → Fits (Drop cvd) w → Some (seen_event r e) ≡ asked_event (Drop cvd) w
     → first_off e (numbers_in events) ≡ None
-drop_applies events r w e cvd stands fits spells = applies_there events r w e stands (drop_shown r w e cvd fits spells)
+drop_applies events r w e cvd stands fits spells = applies_there events r w e stands (drop_shown r w e cvd fits (some_same (seen_event r e) (asked_as (Dropped cvd)) spells))

@@ -2,6 +2,7 @@
 use Rattle.std.proofs.Common.{◌≡◌, ◌<◌, ◌≤◌, ◌+◌, ◌^◌, ◌==◌, ◌&&◌, ℕ, suc, Bool, true, false, not, List, [], ◌∷◌, ◌++◌, length, map, refl, sym, ◌∙◌, ap, subst, inl, inr, arith}
 use Rattle.std.specs.Prelude.{◌≢◌, Option, Some, None, nat_le, IsTrue, if◌then◌else◌}
 use Rattle.std.specs.List.{list_all}
+use Rattle.std.specs.Option.{option_map}
 use Rattle.std.proofs.lemmas.Bool.{and_from, not_from_false, false_from_ne_true, eq-eqb, eqb-true, le-leb}
 use Rattle.std.proofs.lemmas.List.{length-map, length-append}
 use Rattle.ov_event.specs.declared.event.Event as raw
@@ -29,9 +30,10 @@ use Rattle.ov_catalog.specs.Events as events
 use Rattle.ov_catalog.specs.Events.{Event}
 use Rattle.ov_catalog.specs.Raw.{event_in, numbers_in}
 use Rattle.ov_catalog.specs.Reached.{AreParents, CommitFits, Fits, IfThere}
-use Rattle.ov_catalog.specs.Shown.{shown, shown_versions, shown_part, shown_set, held_by, added_to, commit_in}
-use Rattle.ov_catalog.specs.Stands.{Readings, StandsFor, IsMove, seen_event, asked_event}
+use Rattle.ov_catalog.specs.Shown.{shown, shown_versions, shown_part, shown_set, held_by, added_to, commit_event, commit_in}
+use Rattle.ov_catalog.specs.Stands.{Readings, StandsFor, IsMove, seen_event, asked_as, asked_event}
 use Rattle.ov_catalog.specs.Extents.{covers, brought, live}
+use Rattle.ov_catalog.proofs.Moving.{some_same}
 use Rattle.ov_catalog.proofs.Good.{IsGood, IsKnown, found_known, good}
 use Rattle.ov_catalog.proofs.Showing.{PiecesAreIn}
 use Rattle.law_events.specs.Fitting.{IsSoundEvent}
@@ -101,7 +103,7 @@ held_once done id (part ∷ parts) are = by (part.id == id) (held_once done id p
 
 -- ---- a version that fits
 
-module _ (d : Dataset) (v : Version) (fits : CommitFits d v) (known : IsKnown d) (has : HasPieces d) where
+module _ (w : World) (d : Dataset) (v : Version) (fits : CommitFits w d v) (known : IsKnown d) (has : HasPieces d) where
   abbrev done : List (List Rec)
   done = recs d.cvd.versions []
 
@@ -247,8 +249,8 @@ found_pieces number found (d ∷ sets) are e = by (d.cvd.number == number) e (λ
     by true here later = subst HasPieces (ap (λ o. elim o as (λ _. Dataset) [ None ↦ d | Some x ↦ x ]) here) are.0
     by false here later = later here
 
-commit_spelled : (r : Readings) (w : World) (e : raw.Event) (cvd : ℕ) (v : Version) (d : Dataset) → first_set (numbered cvd) w.sets ≡ Some d → CommitFits d v → IsKnown d → HasPieces d
-    → IsSoundEvent e → seen_event r e ≡ events.each_event Some Some (commit_in cvd v (Some d)) → first_off e (shown w) ≡ None
+commit_spelled : (r : Readings) (w : World) (e : raw.Event) (cvd : ℕ) (v : Version) (d : Dataset) → first_set (numbered cvd) w.sets ≡ Some d → CommitFits w d v → IsKnown d → HasPieces d
+    → IsSoundEvent e → seen_event r e ≡ asked_as (commit_event cvd d v) → first_off e (shown w) ≡ None
 commit_spelled r w (says.Init name schema count list segment) cvd v d found fits known has sound spells = cc
 commit_spelled r w (says.Commit number vid message parents rows fresh place added list segment) cvd v d found fits known has sound spells =
     (λ i. of_live (commit_off (ap vid_in spells i) (ap message_in spells i) (ap parents_in spells i) (ap rows_in spells i) (ap fresh_of spells i) (ap at_place spells i) (ap added_in spells i) list segment)
@@ -256,7 +258,7 @@ commit_spelled r w (says.Commit number vid message parents rows fresh place adde
     ∙ live_shown (commit_off (length d.cvd.versions + 1) v.message (weights v.parents (records_of v (recs d.cvd.versions [])) (recs d.cvd.versions [])) (length v.rows)
     (length (fresh_in (records_of v (recs d.cvd.versions [])) (length (recs d.cvd.versions []) + 1))) (placed_at d v) (length (added_to (placed_at d v) d.parts (records_of v (recs d.cvd.versions [])))) list segment)
     cvd w.sets d found
-    (version_fits d v fits known has list segment (subst (λ n. IsTrue (is_list n list)) (ap rows_in spells) sound.0) (subst (λ n. IsTrue (is_segment n segment)) (ap added_in spells) sound.1))
+    (version_fits w d v fits known has list segment (subst (λ n. IsTrue (is_list n list)) (ap rows_in spells) sound.0) (subst (λ n. IsTrue (is_segment n segment)) (ap added_in spells) sound.1))
 commit_spelled r w (says.Plan number p q targets) cvd v d found fits known has sound spells = cc
 commit_spelled r w (says.Copy number count segment) cvd v d found fits known has sound spells = cc
 commit_spelled r w (says.Flip number) cvd v d found fits known has sound spells = cc
@@ -265,14 +267,15 @@ commit_spelled r w (says.Base next) cvd v d found fits known has sound spells = 
 commit_spelled r w (says.Whole whole) cvd v d found fits known has sound spells = cc
 commit_spelled r w (says.Wide number vid message columns parents rows fresh place added list segment) cvd v d found fits known has sound spells = cc
 
-commit_found : (r : Readings) (w : World) (e : raw.Event) (cvd : ℕ) (v : Version) (found : Option Dataset) → first_set (numbered cvd) w.sets ≡ found → IfThere (λ d. CommitFits d v) found
-    → IsGood w → ArePieces w.sets → IsSoundEvent e → seen_event r e ≡ events.each_event Some Some (commit_in cvd v found) → first_off e (shown w) ≡ None
+commit_found : (r : Readings) (w : World) (e : raw.Event) (cvd : ℕ) (v : Version) (found : Option Dataset) → first_set (numbered cvd) w.sets ≡ found → IfThere (λ d. CommitFits w d v) found
+    → IsGood w → ArePieces w.sets → IsSoundEvent e → Some (seen_event r e) ≡ option_map asked_as (commit_in cvd v found) → first_off e (shown w) ≡ None
 commit_found r w e cvd v None found fits is has sound spells = absurd fits
 commit_found r w e cvd v (Some d) found fits is has sound spells =
-    commit_spelled r w e cvd v d found fits (found_known cvd d w.sets is.known found) (found_pieces cvd d w.sets has found) sound spells
+    commit_spelled r w e cvd v d found fits (found_known cvd d w.sets is.known found) (found_pieces cvd d w.sets has found) sound
+    (some_same (seen_event r e) (asked_as (commit_event cvd d v)) spells)
 
 pub commit_applies : (events : List raw.Event) (r : Readings) (w : World) (e : raw.Event) (cvd : ℕ) (parents message : List ℕ) (rows : List Row)
-    → StandsFor events r w → Fits (Commit cvd parents message [] rows) w → IsSoundEvent e → seen_event r e ≡ asked_event (Commit cvd parents message [] rows) w
+    → StandsFor events r w → Fits (Commit cvd parents message [] rows) w → IsSoundEvent e → Some (seen_event r e) ≡ asked_event (Commit cvd parents message [] rows) w
     → first_off e (numbers_in events) ≡ None
 commit_applies events r w e cvd parents message rows stands fits sound spells =
     applies_there events r w e stands
@@ -280,7 +283,7 @@ commit_applies events r w e cvd parents message rows stands fits sound spells =
 
 -- ---- any move
 
-pub move_applies : (events : List raw.Event) (r : Readings) (w : World) (e : raw.Event) (m : Move) → StandsFor events r w → Fits m w → IsSoundEvent e → seen_event r e ≡ asked_event m w
+pub move_applies : (events : List raw.Event) (r : Readings) (w : World) (e : raw.Event) (m : Move) → StandsFor events r w → Fits m w → IsSoundEvent e → Some (seen_event r e) ≡ asked_event m w
     → first_off e (numbers_in events) ≡ None
 move_applies events r w e (Init name schema rows) stands fits sound spells = init_applies events r w e name schema rows stands fits sound spells
 move_applies events r w e (Commit cvd parents message [] rows) stands fits sound spells = commit_applies events r w e cvd parents message rows stands fits sound spells
@@ -291,7 +294,7 @@ move_applies events r w e (Flip cvd) stands fits sound spells = absurd fits
 move_applies events r w e (Drop cvd) stands fits sound spells = drop_applies events r w e cvd stands fits spells
 move_applies events r w e Checkpoint stands fits sound spells = absurd fits
 
-pub is_move : (events : List raw.Event) (r : Readings) (w : World) (e : raw.Event) (m : Move) → StandsFor events r w → Fits m w → IsSoundEvent e → seen_event r e ≡ asked_event m w
+pub is_move : (events : List raw.Event) (r : Readings) (w : World) (e : raw.Event) (m : Move) → StandsFor events r w → Fits m w → IsSoundEvent e → Some (seen_event r e) ≡ asked_event m w
     → ((page : ℕ) → covers (brought (event_in e)) page + covers (live (numbers_in events)) page ≤ 1) → ((page : ℕ) → 1 ≤ covers (brought (event_in e)) page → page < r.pages)
     → IsMove e m w (numbers_in events) r
 is_move events r w e m stands fits sound spells apart inside = record {

@@ -6,7 +6,7 @@ use Rattle.ov_model.specs.Book.{Row}
 use Rattle.ov_model.specs.Lists.{Rises}
 use Rattle.ov_model.specs.Moves.{Move, Init, Commit, BeginPlan, Copy, Flip, Drop, Checkpoint, moved, numbered, version_of}
 use Rattle.ov_model.specs.Placed.{HasParents, AllHaveParents}
-use Rattle.ov_model.specs.World.{Dataset, World, first_set, empty_world}
+use Rattle.ov_model.specs.World.{Dataset, World, first_set, empty_world_of}
 use Rattle.law_partitions.specs.Pieces.{AllRiseWith}
 use Rattle.law_partitions.specs.Sound.{IsSound, MayMove}
 use Rattle.law_partitions.proofs.SoundMoves.{empty_sound, moved_sound}
@@ -22,7 +22,7 @@ rows_of cvd rows found [] only rise = tt
 rows_of cvd rows found (d ∷ sets) only rise = ((λ same. subst (λ x. Rises (key_cmp x.cvd.schema) rows) (sym (only.0 same)) rise), rows_of cvd rows found sets only.1 rise)
 
 commit_may : (cvd : ℕ) (parents message : List ℕ) (rows : List Row) (w : World) (found : Option Dataset) → Distinct w.sets → first_set (numbered cvd) w.sets ≡ found
-    → IfThere (λ d. CommitFits d (version_of parents message rows)) found → MayMove (Commit cvd parents message [] rows) w
+    → IfThere (λ d. CommitFits w d (version_of parents message rows)) found → MayMove (Commit cvd parents message [] rows) w
 commit_may cvd parents message rows w None distinct e fits = absurd fits
 commit_may cvd parents message rows w (Some d) distinct e fits =
     let only : IsOnly cvd d w.sets = found_only cvd d w.sets distinct e
@@ -51,5 +51,18 @@ sound_leads [] v w leads is sound = subst IsSound leads sound
 sound_leads (m ∷ ms) v w leads is sound =
     sound_leads ms (moved m v) w leads.1 (good_moved m v leads.0 is) (moved_sound m v (fits_may m v leads.0 is) sound)
 
+-- the empty World of either format
+begun_sound : (format : ℕ) → IsSound (empty_world_of format)
+begun_sound format = record {
+  numbered = record { once = empty_sound.numbered.once; below = empty_sound.numbered.below };
+  begun = tt;
+  run = tt;
+  placed = tt;
+  held = tt;
+  pieces = tt;
+  ordered = tt;
+}
+
 pub reached_sound : (w : World) → Reached w → IsSound w
-reached_sound w reached = sound_leads reached.0 empty_world w reached.1 (good empty_world ([], refl)) empty_sound
+reached_sound w reached = sound_leads reached.2 (empty_world_of reached.0) w reached.3 (good (empty_world_of reached.0) (reached.0, reached.1, [], refl))
+    (begun_sound reached.0)

@@ -22,13 +22,13 @@ pub fn readings_do_not_matter()
 /// event's own extents that they are those of so many rows and records.
 pub fn the_event_of_a_move_applies()
     ensures { (events : List raw.Event) (r : Readings) (w : World) (e : raw.Event) (m : Move) → StandsFor events r w → Fits m w → IsSoundEvent e
-        → seen_event r e ≡ asked_event m w → first_off e (numbers_in events) ≡ None }
+        → Some (seen_event r e) ≡ asked_event m w → first_off e (numbers_in events) ≡ None }
 {}
 
 /// So an event that spells a move that fits is that of the move, where its new extents lie off the live ones and off each other.
 pub fn an_event_that_spells_a_move_is_its_event()
     ensures { (events : List raw.Event) (r : Readings) (w : World) (e : raw.Event) (m : Move) → StandsFor events r w → Fits m w → IsSoundEvent e
-        → seen_event r e ≡ asked_event m w
+        → Some (seen_event r e) ≡ asked_event m w
         → ((page : ℕ) → covers (brought (event_in e)) page + covers (live (numbers_in events)) page ≤ 1)
         → ((page : ℕ) → 1 ≤ covers (brought (event_in e)) page → page < r.pages)
         → IsMove e m w (numbers_in events) r }
@@ -42,5 +42,5 @@ pub fn an_event_that_applies_is_sound()
 /// What is asked can be met: by the event of a dataset without rows, where an extent of no bytes is read as an empty list.
 pub fn an_empty_dataset_is_sound()
     ensures sound { IsSoundEvent empty_event }
-    ensures spells { (r : Readings) → r.list nowhere ≡ Some [] → seen_event r empty_event ≡ asked_event empty_move empty_world }
+    ensures spells { (r : Readings) → r.list nowhere ≡ Some [] → Some (seen_event r empty_event) ≡ asked_event empty_move empty_world }
 {}

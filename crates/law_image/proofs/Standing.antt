@@ -24,6 +24,8 @@ use Rattle.ov_catalog.proofs.Standing as catalog
 use Rattle.law_image.specs.Lists.{list_in}
 use Rattle.law_image.specs.Segments.{segment_in}
 use Rattle.law_image.specs.Pages.{pages_in, extent_bytes, readings_of, IsUsed, SameLive}
+use Rattle.ov_catalog.proofs.Following.{stands_by_all}
+use Rattle.law_image.specs.Checkpoints.{StandsByAll}
 use Rattle.law_image.specs.Images.{Spell, StandsBy, StandsAs, SaysSame}
 
 -- ---- one journal, and its events
@@ -200,7 +202,7 @@ other_pages kept events w old new stands same kept_live =
 
 -- ---- one payload more
 
-counted : (m : Move) (w : World) → Fits m w → ((moved m w).epoch ≡ w.epoch) × ((moved m w).format ≡ w.format) × ((moved m w).records ≡ w.records + 1)
+pub counted : (m : Move) (w : World) → Fits m w → ((moved m w).epoch ≡ w.epoch) × ((moved m w).format ≡ w.format) × ((moved m w).records ≡ w.records + 1)
 counted (Init name schema rows) w fits = (refl, refl, refl)
 counted (Commit cvd parents message [] rows) w fits = (refl, refl, refl)
 counted (Commit cvd parents message (c ∷ cs) rows) w fits = absurd fits
@@ -247,4 +249,16 @@ new_stands c journal = record {
   epoch = refl;
   format = refl;
   records = refl;
+}
+
+-- ---- all events and moves
+
+pub built_by_all : (kept : Kept) (events : List Event) (w : World) (c : Image) → StandsBy kept events w c → StandsByAll kept events w c
+built_by_all kept events w c by = record {
+  journal = by.journal;
+  spell = by.spell;
+  stands = stands_by_all kept.format events (readings_of c.pages) w by.stands;
+  epoch = by.epoch;
+  format = by.format;
+  records = by.records;
 }

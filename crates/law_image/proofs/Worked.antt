@@ -124,6 +124,7 @@ move_fits = record {
   few = omega arith;
   sound = schema_is;
   sorted = rows_are;
+  plain = λ one. absurd (omega (arith, one));
 }
 
 -- ---- the pages
@@ -157,7 +158,7 @@ inside (suc (suc page)) some = absurd (omega (arith, some, none_past (suc (suc p
 stands_for : StandsFor (the_event ∷ []) (readings_of the_pages) the_world
 unfolding is_name is_vid is_column_name row_spelling column_refusal name_refusal key_refusal run
 stands_for = record {
-  reached = (the_move ∷ [], (move_fits, refl));
+  reached = (2, inr refl, the_move ∷ [], (move_fits, refl));
   applies = (refl, tt);
   shows = refl;
   apart = record { once = once; inside = λ page some. subst (λ (n : ℕ). page < n) (sym pages_are) (inside page some) };

@@ -22,6 +22,7 @@ ghost use Rattle.ov_model.specs.World.{World, empty_world};
 ghost use Rattle.ov_catalog.specs.Extents.{covers, live};
 ghost use Rattle.ov_catalog.specs.Raw.{numbers_in};
 ghost use Rattle.ov_catalog.specs.Stands.{IsMove};
+ghost use Rattle.law_image.specs.Checkpoints.{StandsByAll};
 ghost use Rattle.law_image.specs.Images.{SaysSame, Spell, StandsAs, StandsBy};
 ghost use Rattle.law_image.specs.Pages.{SameLive, pages_in, readings_of};
 ghost use Rattle.law_image.specs.Worked.{the_image, the_world};
@@ -35,6 +36,11 @@ pub fn at_most_one_world()
 pub fn stands_by_its_journal()
     ensures { (kept : Kept) (events : List Event) (w : World) (c : Image) → StandsAs w c → IsJournal kept c.journal
         → Spell events kept.payloads → StandsBy kept events w c }
+{}
+
+/// What stands for a World by the moves and events that are built stands for it by all of them.
+pub fn what_is_built_stands_by_all()
+    ensures { (kept : Kept) (events : List Event) (w : World) (c : Image) → StandsBy kept events w c → StandsByAll kept events w c }
 {}
 
 /// An image with the same payloads, epoch and format number, and the same bytes in the live extents, stands for the same World.

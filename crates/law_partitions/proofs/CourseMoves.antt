@@ -1,15 +1,28 @@
 -- Each move of a course is due at its World.
-use Rattle.std.proofs.Common.{◌≡◌, ◌≤◌, ◌<◌, ℕ, zero, suc, ◌+◌, ◌-◌, ◌%◌, Bool, true, false, ◌==◌, List, [], ◌∷◌, ◌++◌, length, refl, sym, ◌∙◌, ap, subst, inl, inr, arith, mod-lt}
+use Rattle.std.proofs.Common.{◌≡◌, ◌≤◌, ◌<◌, ℕ, zero, suc, ◌+◌, ◌-◌, ◌%◌, Bool, true, false, ◌==◌, List, [], ◌∷◌, ◌++◌, length, map, filter, refl, sym, ◌∙◌, ap, subst, inl, inr, arith, mod-lt}
 use Rattle.std.specs.Prelude.{◌≢◌, ◌^◌, ◌/◌, not, ◌||◌, ◌&&◌, nat_le, nat_lt, codes, is_some, slice_index_or, if◌then◌else◌, Option, Some, None, Result, Ok, Err}
-use Rattle.std.specs.Option.{option_or}
+use Rattle.std.specs.Option.{option_or, option_and_then}
 use Rattle.std.proofs.lemmas.List.{length-append, length-map}
 use Rattle.std.proofs.lemmas.Bool.{eqb-true, ltb-false, leb-true, eq-eqb}
-use Rattle.ov_value.specs.Rows.{key_cmp}
+use Rattle.ov_value.specs.Naming.{is_name}
+use Rattle.ov_value.specs.Rows.{key_cmp, value_at}
 use Rattle.ov_value.specs.Shapes.{Shape}
 use Rattle.ov_value.specs.declared.column.Column.{Column}
 use Rattle.ov_value.specs.declared.schema_err.SchemaErr.{SchemaErr}
-use Rattle.ov_model.specs.Act.{Session, Deed, deed, does, unless, if_so, vids_refusal, repeated_key, format_one, with_rows, with_file, from_file, rows_refusal, init_refusal, init_deed, checkout_deed, gives, merge_of, columns_of, fresh_of, records_refusal, commit_rows, schema_with, commit_under, commit_refusal, commit_deed, log_deed, drop_deed, is_threshold, optimize_refusal, optimized, optimize_deed, layout_deed, generate_by}
-use Rattle.ov_model.specs.Book.{Row}
+use Rattle.ov_value.specs.declared.value.Value.{Value}
+use Rattle.ov_model.specs.Act.{Session, Deed, does, refuses, tells, unless, if_so, vids_refusal, repeated_key, format_one, with_rows, with_file, from_file, rows_refusal, init_refusal, init_deed, checkout_deed, gives, merge_of, columns_of, fresh_of, records_refusal, commit_rows, schema_with, commit_under, commit_refusal, commit_deed, log_deed, drop_deed, is_threshold, optimize_refusal, optimized, optimize_deed, layout_deed, generate_by}
+use Rattle.ov_model.specs.Deed.{changes, create_refusal, create_user_deed, config_refusal, config_deed, table_named, file_of_table, stage_refusal, staged_refusal, with_staged, staged, stage_of, stage_deed, commit_from, staged_by, commit_staged_deed, unstage_refusal, unstage_deed, is_own, table_shown, tables_deed, permitted, deed}
+use Rattle.ov_model.specs.Asking.{answered, name_read, query_by, query_refusal, run_deed}
+use Rattle.ov_model.specs.Book.{Row, Cvd}
+use Rattle.ov_model.specs.Budget.{IsLine, advise_by, advise_deed, choice, table, within_by, within_deed, within_refusal}
+use Rattle.ov_model.specs.Joins.{join_answer, join_by, join_deed, join_kinds, join_over, joined_rows, side_of, told}
+use Rattle.ov_model.specs.Kinds.{kinds}
+use Rattle.ov_model.specs.QueryTexts.{Asked, AsksJoin, AsksQuery, BadByte, NoQuery, asked_of}
+use Rattle.ov_model.specs.declared.query.JoinQuery.{JoinQuery}
+use Rattle.ov_model.specs.declared.query.Query.{Query}
+use Rattle.ov_model.specs.declared.reply.BudgetLine.{BudgetLine}
+use Rattle.ov_value.specs.declared.column.Kind.{Kind}
+use Rattle.ov_model.proofs.Choosing.{chosen_is}
 use Rattle.ov_model.specs.Csv.{rows_of}
 use Rattle.ov_model.specs.Course.{Item, Makes, Says, Room, Enough, NoRun, Full, Space, first, rest, Served, after, replied, steps_then, attempt, attempts, try_step, step_by, steps, and_steps, line_served, served, course, world_after, world_at}
 use Rattle.ov_model.specs.Forms.{Form}
@@ -21,20 +34,28 @@ use Rattle.ov_model.specs.Merge.{in_key_order}
 use Rattle.ov_model.specs.Moves.{Move, Init, Commit, BeginPlan, Copy, Flip, Drop, Checkpoint, accepted_or, moved, change, numbered, committed, wide, wide_version, version_of, new_set}
 use Rattle.ov_model.specs.Placed.{AreThere, HasParents, AllHaveParents}
 use Rattle.ov_model.specs.Plans.{missing, parts_at}
+use Rattle.ov_model.specs.Registry.{users_name, users_schema, user_row, is_user, stage_name, stage_schema, is_foreign, last_rows, version_rows, with_row, without_row, table_row, table_in, as_text, is_number, unreserved, made_as, set_staged, vids_staged, both, last_alone, change_refusal, change_of}
 use Rattle.ov_model.specs.Steps.{step_of, step_or, first_step, next_step, and_after, next_steps}
-use Rattle.ov_model.specs.World.{Plan, Dataset, World, set_named, is_one}
+use Rattle.ov_model.specs.Users.{is_reserved, permit, permit_names}
+use Rattle.ov_model.specs.Values.{vids_of}
+use Rattle.ov_model.specs.World.{Plan, Dataset, World, AllBegun, cvd_in, set_named, is_one}
 use Rattle.ov_model.specs.declared.command.Command.{Command}
 use Rattle.ov_model.specs.declared.command.Command.TheVariants as asks
 use Rattle.ov_model.specs.declared.refusal.Refusal.{Refusal}
 use Rattle.ov_model.specs.declared.refusal.Refusal.TheVariants as no
+use Rattle.ov_model.specs.declared.reply.Reply.{Reply}
 use Rattle.ov_model.specs.declared.reply.Reply.TheVariants as says
 use Rattle.ov_model.proofs.Courses.{world_append}
+use Rattle.ov_model.proofs.Merging.{merged_rises}
+use Rattle.ov_model.proofs.Replying.{begun_moved}
+use Rattle.ov_model.proofs.Ruling.{foreign-is}
 use Rattle.ov_model.proofs.Placing.{moved_placed}
 use Rattle.ov_model.proofs.Holds.{moved_held}
-use Rattle.law_partitions.specs.Courses.{AllDue, AllIdle, HasPartitions, IsDue}
+use Rattle.law_partitions.specs.Courses.{AllDue, AllIdle, HasPartitions, IsBegun, IsDue}
 use Rattle.law_partitions.proofs.CourseRows.{Up, file_rises, up_child, up_fresh, up_more, up_rises}
 use Rattle.law_partitions.proofs.CountRuns.{moved_numbered}
 use Rattle.law_partitions.proofs.CourseNumbers.{named_in, one_dataset, some_number, committed_number}
+use Rattle.law_partitions.proofs.SoundLines.{vids_some}
 use Rattle.law_partitions.specs.Countdown.{AreNumbered, number_times}
 use Rattle.law_partitions.specs.Pieces.{AllLackSome, AllRiseWith, LacksSome}
 use Rattle.law_partitions.specs.Sound.{AllNameVersions, LineNames, NamesVersions}
@@ -187,15 +208,19 @@ under_due w s d parents message added file (Ok schema) e due =
     (says.Commit d.cvd.name (length d.cvd.versions + 1) (length rows) (fresh_of (wide added d) parents message rows)))
     (λ none. (due rows (subst (λ x. Rises (key_cmp x) rows) (wide_schema_is added d schema e) rise), tt)))
 
-commit_due : (w : World) (s : Session) (name parents message : List ℕ) (added : List Column) (file : List ℕ) (found : Option Dataset) → set_named w name ≡ found → AreNumbered w → parents ≢ []
-    → AreDue w (commit_deed w s name parents message added file found).moves
-commit_due w s name parents message added file None e numbers some = tt
-commit_due w s name parents message added file (Some d) e numbers some =
+commit_due_in : (w : World) (s : Session) (name parents message : List ℕ) (added : List Column) (file : List ℕ) (d : Dataset) → IsIn w.sets d → AreNumbered w → parents ≢ []
+    → AreDue w (commit_deed w s name parents message added file (Some d)).moves
+commit_due_in w s name parents message added file d there numbers some =
     let count : ℕ = length d.cvd.versions
     in unless_due w s (commit_refusal d parents) (commit_under w s d parents message added file (schema_with d.cvd.schema added))
     (λ none. under_due w s d parents message added file (schema_with d.cvd.schema added) refl
-    (λ rows rise. commit_made w d parents message added rows numbers (named_in w name d e) some
+    (λ rows rise. commit_made w d parents message added rows numbers there some
     (vids_there count [] parents (first_none (vids_refusal count [] parents) (if_so (nat_le 65535 count) (no.TooManyVersions d.cvd.name)) none)) rise))
+
+commit_due : (w : World) (s : Session) (name parents message : List ℕ) (added : List Column) (file : List ℕ) (found : Option Dataset) → set_named w name ≡ found → AreNumbered w → parents ≢ []
+    → AreDue w (commit_deed w s name parents message added file found).moves
+commit_due w s name parents message added file None e numbers some = tt
+commit_due w s name parents message added file (Some d) e numbers some = commit_due_in w s name parents message added file d (named_in w name d e) numbers some
 
 log_due : (w : World) (s : Session) (name : List ℕ) (found : Option Dataset) → AreDue w (log_deed s name found).moves
 log_due w s name None = tt
@@ -236,6 +261,78 @@ optimize_due w s name p q (Some d) e numbers =
       },
       tt,
     ))
+
+-- a line's number is one of theirs
+in_lines : (n : ℕ) (lines : List BudgetLine) (p : ℕ) (line : BudgetLine) → IsLine n lines p line → (n ≤ p) × (p < n + length lines)
+in_lines n [] p line is = absurd is
+in_lines n (x ∷ lines) p line (inl is) = (omega (arith, is.0), omega (arith, is.0))
+in_lines n (x ∷ lines) p line (inr more) =
+    let rest = in_lines (n + 1) lines p line more
+    in (omega (arith, rest.0), omega (arith, rest.1))
+
+chosen_bounds : (d : Dataset) (budget : ℕ) (best : ℕ × BudgetLine) → choice budget (table d) ≡ Some best → (1 ≤ best.0) × (best.0 ≤ 100)
+chosen_bounds d budget best e =
+    let is = in_lines 1 (table d) best.0 best.1 (chosen_is budget (table d) best.0 best.1 e).there
+    in let hundred : length (table d) ≡ 100 = refl
+    in (is.0, omega (arith, is.1, hundred))
+
+within_by_due : (w : World) (s : Session) (d : Dataset) (budget : ℕ) (found : Option (ℕ × BudgetLine)) → choice budget (table d) ≡ found → AllIdle d.cvd.number w.sets
+    → AreDue w (within_by s d budget found).moves
+within_by_due w s d budget None e idle = tt
+within_by_due w s d budget (Some best) e idle =
+    (record { may = record { parents = tt; rows = tt; copy = tt; flip = tt }; begins = (chosen_bounds d budget best e, idle) }, tt)
+
+within_due : (w : World) (s : Session) (name : List ℕ) (budget : ℕ) (found : Option Dataset) → set_named w name ≡ found → AreNumbered w → AreDue w (within_deed s name budget found).moves
+within_due w s name budget None e numbers = tt
+within_due w s name budget (Some d) e numbers =
+    unless_due w s (within_refusal d) (within_by s d budget (choice budget (table d)))
+    (λ none.
+    let first : Option Refusal = if_so (is_some d.plan) (no.Migrating d.cvd.name)
+    in let second : Option Refusal = if_so (nat_lt 4294000000 d.next_part) (no.NoNumbers d.cvd.name)
+    in let idle : d.plan ≡ None = no_plan d.plan (not_so (is_some d.plan) (no.Migrating d.cvd.name) (first_none first second none))
+    in within_by_due w s d budget (choice budget (table d)) refl
+    (all_idle d.cvd.number w.sets (only (λ x. x.plan ≡ None) w d numbers (named_in w name d e) idle)))
+
+advise_due : (w : World) (s : Session) (name : List ℕ) (budget a b : ℕ) (found : Option Dataset) → AreDue w (advise_deed s name budget a b found).moves
+advise_due w s name budget a b None = tt
+advise_due w s name budget a b (Some d) =
+    unless_due w s (if_so (not (is_threshold b a)) no.BadThreshold) (advise_by s d budget a b (choice budget (table d))) (λ none. by (choice budget (table d)))
+  where
+    by : (found : Option (ℕ × BudgetLine)) → AreDue w (advise_by s d budget a b found).moves
+    by None = tt
+    by (Some best) = tt
+
+-- ---- a run changes nothing
+
+answered_due : (w : World) (s : Session) (query : Query) (cvd : Cvd) (of : Result (List Kind) Refusal) → AreDue w (answered s query cvd of).moves
+answered_due w s query cvd (Err refusal) = tt
+answered_due w s query cvd (Ok kinds) = tt
+
+query_due : (w : World) (s : Session) (query : Query) (found : Option Cvd) → AreDue w (query_by s query found).moves
+query_due w s query None = tt
+query_due w s query (Some cvd) = unless_due w s (query_refusal (length cvd.versions) query) (answered s query cvd (kinds query cvd.schema)) (λ none. answered_due w s query cvd (kinds query cvd.schema))
+
+join_due : (w : World) (s : Session) (join : JoinQuery) (left right : Result Cvd Refusal) → AreDue w (join_over s join left right).moves
+join_due w s join (Err refusal) right = tt
+join_due w s join (Ok left) (Err refusal) = tt
+join_due w s join (Ok left) (Ok right) = by (join_kinds join left.schema right.schema)
+  where
+    many : (over : Bool) (of : List Kind) → AreDue w (if over then refuses s no.TooManyJoined else told s of (join_answer join left.schema right.schema (joined_rows join left right))).moves
+    many true of = tt
+    many false of = tt
+
+    by : (of : Result (List Kind) Refusal) → AreDue w (join_by s join left right of).moves
+    by (Err refusal) = tt
+    by (Ok of) = many (nat_lt 1000000 (length (joined_rows join left right))) of
+
+run_due : (w : World) (s : Session) (asked : Asked) → AreDue w (run_deed w s asked).moves
+run_due w s (BadByte at) = tt
+run_due w s NoQuery = tt
+run_due w s (AsksQuery query) =
+    let found : Option Cvd = cvd_in (set_named w (name_read query.source))
+    in unless_due w s (permit_names s.user (name_read query.source ∷ [])) (query_by s query found) (λ none. query_due w s query found)
+run_due w s (AsksJoin join) =
+    unless_due w s (permit_names s.user (join.left.cvd ∷ join.right.cvd ∷ [])) (join_deed w s join) (λ none. join_due w s join (side_of w join.left) (side_of w join.right))
 
 -- ---- steps
 
@@ -411,33 +508,161 @@ generated_due w name seed count versions numbers =
           (λ same. (refl, refl), tt)),
     )
 
+-- ---- the registry
+
+begun_in : (sets : List Dataset) (d : Dataset) → AllBegun sets → IsIn sets d → 0 < length d.cvd.versions
+begun_in [] d are is = absurd is
+begun_in (x ∷ sets) d are (inl same) = subst (λ y. 0 < length y.cvd.versions) (sym same) are.0
+begun_in (x ∷ sets) d are (inr later) = begun_in sets d are.1 later
+
+some_one : (vid : ℕ) → (vid ∷ []) ≢ []
+some_one vid e = cc
+
+change_due : (w : World) (name : List ℕ) (schema : Shape) (rows : List Row) (found : Option Dataset) → set_named w name ≡ found → IsBegun w → is_foreign schema found ≡ false
+    → IsDue (change_of name schema (version_rows schema rows) found) w
+change_due w name schema rows None e begun known = init_made name schema (version_rows schema rows) w (merged_rises schema (rows ∷ []))
+change_due w name schema rows (Some d) e begun known =
+    let there : IsIn w.sets d = named_in w name d e
+    in commit_made w d (last_alone d) (codes "stage") [] (version_rows schema rows) begun.numbered there (some_one (length d.cvd.versions))
+    ((begun_in w.sets d begun.begun there, omega arith), tt)
+    (subst (λ x. Rises (key_cmp x) (version_rows schema rows)) (sym ((foreign-is schema d).0 known)) (merged_rises schema (rows ∷ [])))
+
+changes_due : (w : World) (s t : Session) (name : List ℕ) (schema : Shape) (rows : List Row) (reply : Reply) (found : Option Dataset) → set_named w name ≡ found → IsBegun w → is_foreign schema found ≡ false
+    → AreDue w (changes w s t name schema rows reply found).moves
+changes_due w s t name schema rows reply found e begun known =
+    unless_due w s (change_refusal w name (version_rows schema rows) found) (does t (change_of name schema (version_rows schema rows) found) reply)
+    (λ none. (change_due w name schema rows found e begun known, tt))
+
+create_due : (w : World) (s : Session) (name : List ℕ) → IsBegun w → AreDue w (create_user_deed w s name (set_named w users_name)).moves
+create_due w s name begun =
+    let users : Option Dataset = set_named w users_name
+    in let foreign : Option Refusal = if_so (is_foreign users_schema users) no.ForeignRegistry
+    in let known : Option Refusal = if_so (is_user (last_rows users) name) (no.UserExists name)
+    in unless_due w s (create_refusal name users) (changes w s s users_name users_schema (with_row (last_rows users) (user_row name)) (says.User name) users)
+    (λ none. changes_due w s s users_name users_schema (with_row (last_rows users) (user_row name)) (says.User name) users refl begun
+    (not_so (is_foreign users_schema users) no.ForeignRegistry
+    (first_none foreign known (second_none (if_so (not (is_name name)) (no.BadName name)) (option_or foreign known) none))))
+
+config_due : (w : World) (s : Session) (name : List ℕ) (users : Option Dataset) → AreDue w (config_deed s name users).moves
+config_due w s name users = unless_due w s (config_refusal name users) (tells (record s { user = name }) (says.User name)) (λ none. tt)
+
+stage_of_due : (w : World) (s : Session) (cvd table vids : List ℕ) (found : Option Dataset) → IsBegun w → is_foreign stage_schema (set_named w stage_name) ≡ false
+    → AreDue w (stage_of w s cvd table vids (set_named w stage_name) found).moves
+stage_of_due w s cvd table vids None begun known = tt
+stage_of_due w s cvd table vids (Some d) begun known =
+    let stage : Option Dataset = set_named w stage_name
+    in let row : Row = table_row s.user table d.cvd.name d.cvd.number vids
+    in let reply : Reply = says.ToFile d.cvd.name (length (merge_of d.cvd vids)) (file_of_table s.user table)
+    in unless_due w s (staged_refusal s table vids d stage) (staged w s table vids d stage)
+    (λ none. changes_due w s (with_staged s table vids d) stage_name stage_schema (with_row (last_rows stage) row) reply stage refl begun known)
+
+stage_due : (w : World) (s : Session) (cvd table vids : List ℕ) → IsBegun w → AreDue w (stage_deed w s cvd table vids (set_named w stage_name) (set_named w cvd)).moves
+stage_due w s cvd table vids begun =
+    let stage : Option Dataset = set_named w stage_name
+    in let foreign : Option Refusal = if_so (is_foreign stage_schema stage) no.ForeignRegistry
+    in let listed : Option Refusal = if_so (nat_lt 1000 (length vids)) no.TooManyListed
+    in unless_due w s (stage_refusal table vids stage) (stage_of w s cvd table vids stage (set_named w cvd))
+    (λ none. stage_of_due w s cvd table vids (set_named w cvd) begun
+    (not_so (is_foreign stage_schema stage) no.ForeignRegistry
+    (first_none foreign listed (second_none (if_so (not (is_name table)) (no.BadName table)) (option_or foreign listed) none))))
+
+unstage_due : (w : World) (s : Session) (user table : List ℕ) → IsBegun w → AreDue w (unstage_deed w s user table (set_named w stage_name)).moves
+unstage_due w s user table begun =
+    let stage : Option Dataset = set_named w stage_name
+    in let foreign : Option Refusal = if_so (is_foreign stage_schema stage) no.ForeignRegistry
+    in let absent : Option Refusal = if_so (not (is_some (table_in (last_rows stage) user table))) (no.NoTable (table_named user table))
+    in unless_due w s (unstage_refusal user table stage) (changes w s s stage_name stage_schema (without_row (last_rows stage) user table) (says.Unstaged user table) stage)
+    (λ none. changes_due w s s stage_name stage_schema (without_row (last_rows stage) user table) (says.Unstaged user table) stage refl begun
+    (not_so (is_foreign stage_schema stage) no.ForeignRegistry (first_none foreign absent none)))
+
+-- the dataset of a staged table is there, and a version is listed
+abbrev IsFrom : World → Option (Dataset × List ℕ) → Type 0
+IsFrom w None = Unit {0}
+IsFrom w (Some from) = IsIn w.sets from.0 × (from.1 ≢ [])
+
+set_if : (t : Bool) (w : World) (name : List ℕ) (d : Dataset) → (if t then None else set_named w name) ≡ Some d → IsIn w.sets d
+set_if true w name d e = absurd cc
+set_if false w name d e = named_in w name d e
+
+made_if : (t : Bool) (d e : Dataset) → (if t then Some d else None) ≡ Some e → d ≡ e
+made_if true d e is = some_same d e is
+  where
+    some_same : (a b : Dataset) → Some a ≡ Some b → a ≡ b
+    some_same a b e = cc
+made_if false d e is = absurd cc
+
+made_in : (w : World) (made : Value) (found : Option Dataset) (d : Dataset) → ((x : Dataset) → found ≡ Some x → IsIn w.sets x) → option_and_then (made_as made) found ≡ Some d → IsIn w.sets d
+made_in w made None d there e = absurd cc
+made_in w made (Some x) d there e = subst (IsIn w.sets) (made_if (is_number made x.cvd.number) x d e) (there x refl)
+
+name_in : (w : World) (name : Option (List ℕ)) (d : Dataset) → option_and_then (unreserved w) name ≡ Some d → IsIn w.sets d
+name_in w None d e = absurd cc
+name_in w (Some name) d e = set_if (is_reserved name) w name d e
+
+listed_some : (text : Option (List ℕ)) (vids : List ℕ) → option_and_then vids_of text ≡ Some vids → vids ≢ []
+listed_some None vids e = absurd cc
+listed_some (Some text) vids e = vids_some text vids e
+
+both_from : (w : World) (found : Option Dataset) (vids : Option (List ℕ)) → ((d : Dataset) → found ≡ Some d → IsIn w.sets d) → ((l : List ℕ) → vids ≡ Some l → l ≢ []) → IsFrom w (both found vids)
+both_from w None vids there some = tt
+both_from w (Some d) None there some = tt
+both_from w (Some d) (Some l) there some = (there d refl, some l refl)
+
+from_is : (w : World) (row : Option Row) → IsFrom w (staged_by w row)
+from_is w None = tt
+from_is w (Some row) =
+    both_from w (set_staged w row) (vids_staged row)
+    (λ d e. made_in w (value_at row 3) (option_and_then (unreserved w) (as_text (value_at row 2))) d (λ x is. name_in w (as_text (value_at row 2)) x is) e)
+    (λ l e. listed_some (as_text (value_at row 4)) l e)
+
+from_due : (w : World) (s : Session) (user table message : List ℕ) (from : Option (Dataset × List ℕ)) → AreNumbered w → IsFrom w from → AreDue w (commit_from w s user table message from).moves
+from_due w s user table message None numbers is = tt
+from_due w s user table message (Some from) numbers is =
+    commit_due_in w s from.0.cvd.name from.1 message [] (file_of_table user table) from.0 is.0 numbers is.1
+
+commit_staged_due : (w : World) (s : Session) (user table message : List ℕ) (stage : Option Dataset) → AreNumbered w → AreDue w (commit_staged_deed w s user table message stage).moves
+commit_staged_due w s user table message stage numbers =
+    unless_due w s (if_so (is_foreign stage_schema stage) no.ForeignRegistry) (commit_from w s user table message (staged_by w (table_in (last_rows stage) user table)))
+    (λ none. from_due w s user table message (staged_by w (table_in (last_rows stage) user table)) numbers (from_is w (table_in (last_rows stage) user table)))
+
+tables_due : (w : World) (s : Session) (stage : Option Dataset) → AreDue w (tables_deed s stage).moves
+tables_due w s stage =
+    unless_due w s (if_so (is_foreign stage_schema stage) no.ForeignRegistry)
+    (tells s (says.Tables (map table_shown (filter (is_own s.user) (last_rows stage))))) (λ none. tt)
+
 -- ---- a command
 
-pub deed_due : (w : World) (s : Session) (command : Command) → AreNumbered w → NamesVersions command → AreDue w (deed w s command).moves
-deed_due w s (asks.Init cvd schema file) numbers has = init_due w s cvd schema file
-deed_due w s (asks.Checkout cvd vids file None) numbers has = checkout_due w s vids file cvd (set_named w cvd)
-deed_due w s (asks.Checkout cvd vids file (Some table)) numbers has = tt
-deed_due w s (asks.Commit cvd vids file message added) numbers has = commit_due w s cvd vids message (columns_of added) file (set_named w cvd) refl numbers has
-deed_due w s (asks.CommitStaged user table message) numbers has = tt
-deed_due w s (asks.Run text) numbers has = tt
-deed_due w s (asks.Optimize cvd p q) numbers has = optimize_due w s cvd p q (set_named w cvd) refl numbers
-deed_due w s (asks.OptimizeWithin cvd budget) numbers has = tt
-deed_due w s (asks.Advise cvd budget a b) numbers has = tt
-deed_due w s (asks.Migrate count) numbers has = next_steps_due count w numbers
-deed_due w s (asks.Layout cvd) numbers has = layout_due w s cvd (set_named w cvd)
-deed_due w s (asks.Log cvd) numbers has = log_due w s cvd (set_named w cvd)
-deed_due w s asks.Ls numbers has = tt
-deed_due w s (asks.DropCvd cvd) numbers has = dropped_due w s cvd (set_named w cvd)
-deed_due w s asks.Checkpoint numbers has = (checkpoint_due w, tt)
-deed_due w s (asks.Generate cvd seed rows versions) numbers has =
-    unless_due w s (init_refusal w cvd) (generate_by w s cvd (generated w.next cvd seed rows versions)) (λ none. generated_due w cvd seed rows versions numbers)
-deed_due w s (asks.CreateUser name) numbers has = tt
-deed_due w s (asks.Config name) numbers has = tt
-deed_due w s asks.Whoami numbers has = tt
-deed_due w s (asks.Unstage user table) numbers has = tt
-deed_due w s asks.Tables numbers has = tt
+permitted_due : (w : World) (s : Session) (command : Command) → IsBegun w → NamesVersions command → AreDue w (permitted w s command).moves
+permitted_due w s (asks.Init cvd schema file) begun has = init_due w s cvd schema file
+permitted_due w s (asks.Checkout cvd vids file None) begun has = checkout_due w s vids file cvd (set_named w cvd)
+permitted_due w s (asks.Checkout cvd vids file (Some table)) begun has = stage_due w s cvd table vids begun
+permitted_due w s (asks.Commit cvd vids file message added) begun has = commit_due w s cvd vids message (columns_of added) file (set_named w cvd) refl begun.numbered has
+permitted_due w s (asks.CommitStaged user table message) begun has = commit_staged_due w s user table message (set_named w stage_name) begun.numbered
+permitted_due w s (asks.Run text) begun has = run_due w s (asked_of text)
+permitted_due w s (asks.Optimize cvd p q) begun has = optimize_due w s cvd p q (set_named w cvd) refl begun.numbered
+permitted_due w s (asks.OptimizeWithin cvd budget) begun has = within_due w s cvd budget (set_named w cvd) refl begun.numbered
+permitted_due w s (asks.Advise cvd budget a b) begun has = advise_due w s cvd budget a b (set_named w cvd)
+permitted_due w s (asks.Migrate count) begun has = next_steps_due count w begun.numbered
+permitted_due w s (asks.Layout cvd) begun has = layout_due w s cvd (set_named w cvd)
+permitted_due w s (asks.Log cvd) begun has = log_due w s cvd (set_named w cvd)
+permitted_due w s asks.Ls begun has = tt
+permitted_due w s (asks.DropCvd cvd) begun has = dropped_due w s cvd (set_named w cvd)
+permitted_due w s asks.Checkpoint begun has = (checkpoint_due w, tt)
+permitted_due w s (asks.Generate cvd seed rows versions) begun has =
+    unless_due w s (init_refusal w cvd) (generate_by w s cvd (generated w.next cvd seed rows versions)) (λ none. generated_due w cvd seed rows versions begun.numbered)
+permitted_due w s (asks.CreateUser name) begun has = create_due w s name begun
+permitted_due w s (asks.Config name) begun has = config_due w s name (set_named w users_name)
+permitted_due w s asks.Whoami begun has = tt
+permitted_due w s (asks.Unstage user table) begun has = unstage_due w s user table begun
+permitted_due w s asks.Tables begun has = tables_due w s (set_named w stage_name)
+
+pub deed_due : (w : World) (s : Session) (command : Command) → IsBegun w → NamesVersions command → AreDue w (deed w s command).moves
+deed_due w s command begun has = unless_due w s (permit s.user command) (permitted w s command) (λ none. permitted_due w s command begun has)
 
 -- ---- what is served
+
+move_begun : (m : Move) (w : World) → IsBegun w → IsBegun (moved m w)
+move_begun m w begun = record { numbered = moved_numbered m w begun.numbered; begun = begun_moved w m begun.begun }
 
 -- its moves are due, and it leaves what follows of them
 abbrev IsServed : World → Served → Type 0
@@ -448,10 +673,10 @@ due_append w [] b due more = more
 due_append w (Makes m ∷ a) b due more = (due.0, due_append (moved m w) a b due.1 more)
 due_append w (Says reply ∷ a) b due more = due_append w a b due more
 
-numbered_after : (w : World) (items : List Item) → AreNumbered w → AreNumbered (world_after w items)
-numbered_after w [] numbers = numbers
-numbered_after w (Makes m ∷ items) numbers = numbered_after (moved m w) items (moved_numbered m w numbers)
-numbered_after w (Says reply ∷ items) numbers = numbered_after w items numbers
+begun_after : (w : World) (items : List Item) → IsBegun w → IsBegun (world_after w items)
+begun_after w [] begun = begun
+begun_after w (Makes m ∷ items) begun = begun_after (moved m w) items (move_begun m w begun)
+begun_after w (Says reply ∷ items) begun = begun_after w items begun
 
 attempt_due : (room : Room) (taken : Option (ℕ × ℕ)) (w : World) (s : Session) (space : Space) (more : Served) → IsServed w more → IsServed w (attempt room taken w s space more)
 attempt_due Enough taken w s space more due = due
@@ -470,46 +695,46 @@ try_due Enough w s space more due = due
 try_due (NoRun pages) w s space more due = (tt, refl)
 try_due Full w s space more due = (tt, refl)
 
-step_by_due : (more : World → Space → Served) (w : World) (s : Session) (space : Space) (next : Option Move) → ((m : Move) → next ≡ Some m → IsDue m w) → AreNumbered w
-    → ((v : World) (left : Space) → AreNumbered v → IsServed v (more v left)) → IsServed w (step_by more w s space next)
-step_by_due more w s space None due numbers later = (tt, refl)
-step_by_due more w s space (Some m) due numbers later =
-    let behind = later (moved m w) (rest space) (moved_numbered m w numbers)
+step_by_due : (more : World → Space → Served) (w : World) (s : Session) (space : Space) (next : Option Move) → ((m : Move) → next ≡ Some m → IsDue m w) → IsBegun w
+    → ((v : World) (left : Space) → IsBegun v → IsServed v (more v left)) → IsServed w (step_by more w s space next)
+step_by_due more w s space None due begun later = (tt, refl)
+step_by_due more w s space (Some m) due begun later =
+    let behind = later (moved m w) (rest space) (move_begun m w begun)
     in try_due (first space) w s (rest space) (after (Makes m ∷ []) (more (moved m w) (rest space))) ((due m refl, behind.0), behind.1)
 
-steps_due : (n : ℕ) (s : Session) (w : World) (space : Space) → AreNumbered w → IsServed w (steps n s w space)
-steps_due zero s w space numbers = (tt, refl)
-steps_due (suc n) s w space numbers = step_by_due (steps n s) w s space (next_step w) (λ m e. next_due w m numbers e) numbers (λ v left. steps_due n s v left)
+steps_due : (n : ℕ) (s : Session) (w : World) (space : Space) → IsBegun w → IsServed w (steps n s w space)
+steps_due zero s w space begun = (tt, refl)
+steps_due (suc n) s w space begun = step_by_due (steps n s) w s space (next_step w) (λ m e. next_due w m begun.numbered e) begun (λ v left. steps_due n s v left)
 
 -- one after another
-both_due : (w : World) (a b : Served) → AreNumbered w → IsServed w a → (AreNumbered a.world → IsServed a.world b) → IsServed w (after a.items b)
-both_due w a b numbers one more =
-    let later = more (subst AreNumbered (sym one.1) (numbered_after w a.items numbers))
+both_due : (w : World) (a b : Served) → IsBegun w → IsServed w a → (IsBegun a.world → IsServed a.world b) → IsServed w (after a.items b)
+both_due w a b begun one more =
+    let later = more (subst IsBegun (sym one.1) (begun_after w a.items begun))
     in (
       due_append w a.items b.items one.0 (subst (λ v. AllDue v b.items) one.1 later.0),
       later.1 ∙ ap (λ v. world_after v b.items) one.1 ∙ sym (world_append w a.items b.items),
     )
 
-then_due : (n : ℕ) (w : World) (a : Served) → AreNumbered w → IsServed w a → IsServed w (and_steps n a)
-then_due n w a numbers due = both_due w a (steps n a.session a.world a.left) numbers due (steps_due n a.session a.world a.left)
+then_due : (n : ℕ) (w : World) (a : Served) → IsBegun w → IsServed w a → IsServed w (and_steps n a)
+then_due n w a begun due = both_due w a (steps n a.session a.world a.left) begun due (steps_due n a.session a.world a.left)
 
-line_due : (n : ℕ) (w : World) (s : Session) (space : Space) (line : Line) → LineNames line → AreNumbered w → IsServed w (line_served n w s space line)
-line_due n w s space Comment names numbers = (tt, refl)
-line_due n w s space (Asks command) names numbers =
-    then_due n w (attempts (deed w s command) s 0 (deed w s command).moves w space) numbers
-    (attempts_due (deed w s command) s 0 (deed w s command).moves w space (deed_due w s command numbers names))
-line_due n w s space (Refused refusal) names numbers = then_due n w (replied (says.Refused refusal) w s space) numbers (tt, refl)
+line_due : (n : ℕ) (w : World) (s : Session) (space : Space) (line : Line) → LineNames line → IsBegun w → IsServed w (line_served n w s space line)
+line_due n w s space Comment names begun = (tt, refl)
+line_due n w s space (Asks command) names begun =
+    then_due n w (attempts (deed w s command) s 0 (deed w s command).moves w space) begun
+    (attempts_due (deed w s command) s 0 (deed w s command).moves w space (deed_due w s command begun names))
+line_due n w s space (Refused refusal) names begun = then_due n w (replied (says.Refused refusal) w s space) begun (tt, refl)
 
-course_served : (forms : List Form) (n : ℕ) (w : World) (s : Session) (lines : List (List ℕ)) (space : Space) → AllNameVersions forms lines → AreNumbered w → IsServed w (course forms n w s lines space)
-course_served forms n w s [] space has numbers = (tt, refl)
-course_served forms n w s (line ∷ lines) space has numbers =
+course_served : (forms : List Form) (n : ℕ) (w : World) (s : Session) (lines : List (List ℕ)) (space : Space) → AllNameVersions forms lines → IsBegun w → IsServed w (course forms n w s lines space)
+course_served forms n w s [] space has begun = (tt, refl)
+course_served forms n w s (line ∷ lines) space has begun =
     let one = served forms n w s line space
-    in both_due w one (course forms n one.world one.session lines one.left) numbers
-    (line_due n w s space (line_of forms line) has.0 numbers)
+    in both_due w one (course forms n one.world one.session lines one.left) begun
+    (line_due n w s space (line_of forms line) has.0 begun)
     (course_served forms n one.world one.session lines one.left has.1)
 
-pub course_due : (forms : List Form) (n : ℕ) (w : World) (s : Session) (lines : List (List ℕ)) (space : Space) → AllNameVersions forms lines → AreNumbered w → AllDue w (course forms n w s lines space).items
-course_due forms n w s lines space has numbers = (course_served forms n w s lines space has numbers).0
+pub course_due : (forms : List Form) (n : ℕ) (w : World) (s : Session) (lines : List (List ℕ)) (space : Space) → AllNameVersions forms lines → IsBegun w → AllDue w (course forms n w s lines space).items
+course_due forms n w s lines space has begun = (course_served forms n w s lines space has begun).0
 
 -- ---- what every move keeps holds in every World
 
@@ -521,7 +746,7 @@ due_at P kept w (Says reply ∷ items) (suc k) due holds = due_at P kept w items
 
 pub partitions_kept : (m : Move) (w : World) → IsDue m w → HasPartitions w → HasPartitions (moved m w)
 partitions_kept m w due has = record {
-  numbered = moved_numbered m w has.numbered;
+  begun = move_begun m w has.begun;
   placed = moved_placed m w due.may.parents has.placed;
   held = moved_held m w due.may.flip has.placed has.held;
 }
@@ -529,4 +754,4 @@ partitions_kept m w due has = record {
 pub partitions_at : (forms : List Form) (n : ℕ) (w : World) (s : Session) (lines : List (List ℕ)) (space : Space) → AllNameVersions forms lines → HasPartitions w → (k : ℕ)
     → HasPartitions (world_at w (course forms n w s lines space).items k)
 partitions_at forms n w s lines space names has k =
-    due_at HasPartitions partitions_kept w (course forms n w s lines space).items k (course_due forms n w s lines space names has.numbered) has
+    due_at HasPartitions partitions_kept w (course forms n w s lines space).items k (course_due forms n w s lines space names has.begun) has

@@ -1,5 +1,5 @@
 -- Rows of new versions rise by their keys: those of a file without a repeated key, and those of the generator.
-use Rattle.std.proofs.Common.{◌≡◌, ◌≤◌, ◌<◌, ℕ, zero, suc, ◌+◌, ◌/◌, Bool, true, false, ◌==◌, pos, negsuc, List, [], ◌∷◌, ◌++◌, map, get_or, replicate, refl, sym, ◌∙◌, ap, subst, arith, append-nil}
+use Rattle.std.proofs.Common.{◌≡◌, ◌≤◌, ◌<◌, ℕ, zero, suc, ◌+◌, ◌/◌, Bool, true, false, ◌==◌, pos, negsuc, List, [], ◌∷◌, ◌++◌, map, refl, sym, ◌∙◌, ap, subst, arith, append-nil}
 use Rattle.std.specs.Prelude.{◌||◌, nat_lt, if◌then◌else◌, Option, Some, None}
 use Rattle.std.specs.Ordering.{int_cmp, is_eq, ordering_then}
 use Rattle.std.specs.declared.cmp.Ordering.TheVariants.{Less, Equal, Greater}
@@ -134,24 +134,3 @@ up_below row i low high (x ∷ rows) is le up =
 pub up_rises : (low high : ℕ) (rows : List Row) → Up low high rows → Rises (key_cmp generated_schema) rows
 up_rises low high [] up = tt
 up_rises low high (row ∷ rows) up = (up_below row up.0 up.0 high rows up.1 (omega arith) up.3, up_rises up.0 high rows up.3)
-
--- ---- with columns more
-
-value_wide : (row : Row) (n place : ℕ) → value_at (row ++ replicate n Null) place ≡ value_at row place
-value_wide [] n place = nulls n place
-  where
-    nulls : (n place : ℕ) → get_or (replicate n Null) place Null ≡ Null
-    nulls zero place = refl
-    nulls (suc n) zero = refl
-    nulls (suc n) (suc place) = nulls n place
-value_wide (x ∷ row) n zero = refl
-value_wide (x ∷ row) n (suc place) = value_wide row n place
-
-key_wide : (row : Row) (n : ℕ) (places : List ℕ) → map (value_at (row ++ replicate n Null)) places ≡ map (value_at row) places
-key_wide row n [] = refl
-key_wide row n (place ∷ places) = λ i. value_wide row n place i ∷ key_wide row n places i
-
-pub cmp_wide : (schema wider : Shape) (n : ℕ) (a b : Row) → wider.key ≡ schema.key → key_cmp wider (a ++ replicate n Null) (b ++ replicate n Null) ≡ key_cmp schema a b
-cmp_wide schema wider n a b same =
-    ap (λ key. slice_cmp value_cmp (map (value_at (a ++ replicate n Null)) key) (map (value_at (b ++ replicate n Null)) key)) same
-    ∙ (λ i. slice_cmp value_cmp (key_wide a n schema.key i) (key_wide b n schema.key i))

@@ -1,14 +1,15 @@
 -- In a run from a sound World partitions have the records of their versions, so that a finished plan meets its bounds.
 use Rattle.std.proofs.Common.{◌≡◌, ℕ, List, [], ◌∷◌, sym, subst, inl, inr}
 use Rattle.std.specs.Prelude.{None}
-use Rattle.ov_model.specs.Act.{Session, deed}
+use Rattle.ov_model.specs.Act.{Session}
+use Rattle.ov_model.specs.Deed.{deed}
 use Rattle.ov_model.specs.Course.{Space, course, world_at}
 use Rattle.ov_model.specs.Forms.{Form}
 use Rattle.ov_model.specs.Lists.{IsIn}
 use Rattle.ov_model.specs.Moves.{Move, moved}
 use Rattle.ov_model.specs.World.{Dataset, World}
 use Rattle.ov_model.specs.declared.command.Command.{Command}
-use Rattle.law_partitions.specs.Courses.{HasPartitions}
+use Rattle.law_partitions.specs.Courses.{HasPartitions, IsBegun}
 use Rattle.law_partitions.specs.OldOrNew.{AllTight, AreOldOrNew}
 use Rattle.law_partitions.specs.Pieces.{ArePieces, HasPieces}
 use Rattle.law_partitions.specs.PlanBounds.{AreExact, IsBounded}
@@ -24,16 +25,19 @@ all_may : (ms : List Move) (w : World) → AreDue w ms → AllMay ms w
 all_may [] w due = tt
 all_may (m ∷ ms) w due = (due.0.may, all_may ms (moved m w) due.1)
 
+begun_of : (w : World) → IsSound w → IsBegun w
+begun_of w sound = record { numbered = sound.numbered; begun = sound.begun }
+
 pub deed_may : (w : World) (s : Session) (command : Command) → NamesVersions command → IsSound w → AllMay (deed w s command).moves w
-deed_may w s command names sound = all_may (deed w s command).moves w (deed_due w s command sound.numbered names)
+deed_may w s command names sound = all_may (deed w s command).moves w (deed_due w s command (begun_of w sound) names)
 
 pub each_sound : (forms : List Form) (n : ℕ) (w : World) (s : Session) (lines : List (List ℕ)) (space : Space) (k : ℕ) → AllNameVersions forms lines → IsSound w
     → IsSound (world_at w (course forms n w s lines space).items k)
 each_sound forms n w s lines space k names sound =
-    due_at IsSound (λ m v due is. moved_sound m v due.may is) w (course forms n w s lines space).items k (course_due forms n w s lines space names sound.numbered) sound
+    due_at IsSound (λ m v due is. moved_sound m v due.may is) w (course forms n w s lines space).items k (course_due forms n w s lines space names (begun_of w sound)) sound
 
 partitions_of : (w : World) → IsSound w → HasPartitions w
-partitions_of w sound = record { numbered = sound.numbered; placed = sound.placed; held = sound.held }
+partitions_of w sound = record { begun = begun_of w sound; placed = sound.placed; held = sound.held }
 
 pieces_in : (sets : List Dataset) (d : Dataset) → ArePieces sets → IsIn sets d → HasPieces d
 pieces_in [] d are is = absurd is

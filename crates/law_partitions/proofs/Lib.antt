@@ -13,6 +13,7 @@ pub mod PieceFlip
 pub mod PieceKept
 pub mod PieceLists
 pub mod PieceMore
+pub mod PieceOrder
 pub mod PiecePlan
 pub mod PieceTimes
 pub mod PieceWide

@@ -9,7 +9,7 @@ use Rattle.ov_model.specs.Lists.{IsIn}
 use Rattle.ov_model.specs.Moves.{placed_at, parts_with, with_joined, with_version, own_part}
 use Rattle.ov_model.specs.Placed.{id_times, IsPlaced, HasParents}
 use Rattle.ov_model.specs.Plans.{current, copied_for, copied_more, leaving, left_parts, target_part, flipped_by, flipped}
-use Rattle.ov_model.specs.Records.{Rec, recs, records_of}
+use Rattle.ov_model.specs.Records.{Rec, ordered_records}
 use Rattle.ov_model.specs.World.{Part, Plan, Dataset, is_unmoved}
 use Rattle.ov_model.proofs.Counting.{one_if, one_same}
 use Rattle.law_partitions.specs.OldOrNew.{Runs, IsOld, IsNew, IsOldOrNew}
@@ -48,9 +48,9 @@ module _ (d : Dataset) (placed : IsPlaced d) (is : IsOldOrNew d) (part : Part) (
   -- ---- a commit
 
   version_by : (v : Version) → HasParents v.parents d → (place : Place) → placed_at d v ≡ place → (after : Part)
-      → IsIn (parts_with place d.next_part (length d.cvd.versions + 1) (records_of v (recs d.cvd.versions [])) d.parts) after → after.id ≡ part.id → after ≡ part
+      → IsIn (parts_with place d.next_part (length d.cvd.versions + 1) (ordered_records d.cvd.versions v) d.parts) after → after.id ≡ part.id → after ≡ part
   version_by v has Own e after there_after same =
-      elim (in_append d.parts (own_part d.next_part (length d.cvd.versions + 1) (records_of v (recs d.cvd.versions [])) ∷ []) after there_after) [
+      elim (in_append d.parts (own_part d.next_part (length d.cvd.versions + 1) (ordered_records d.cvd.versions v) ∷ []) after there_after) [
         | inl before ↦ one_part d.parts part after (placed.ids_once part.id) there before same
         | inr last ↦
             elim last [
@@ -60,7 +60,7 @@ module _ (d : Dataset) (placed : IsPlaced d) (is : IsOldOrNew d) (part : Part) (
       ]
   version_by v has (Join id) e after there_after same =
       let next : ℕ = length d.cvd.versions + 1
-      in let rs : List Rec = records_of v (recs d.cvd.versions [])
+      in let rs : List Rec = ordered_records d.cvd.versions v
       in let from = in_map (λ x. if x.id == id then with_joined next rs x else x) d.parts after there_after
       in let kept : from.0 ≡ part =
       one_part d.parts part from.0 (placed.ids_once part.id) there from.1

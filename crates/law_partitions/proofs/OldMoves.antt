@@ -14,7 +14,7 @@ use Rattle.ov_model.specs.Lists.{IsIn}
 use Rattle.ov_model.specs.Moves.{Move, Init, Commit, BeginPlan, Copy, Flip, Drop, Checkpoint, moved, change, numbered, committed, with_version, version_of, wide, wide_part, wide_plan, wide_version, placed_at, parts_with, with_joined, own_part, new_set}
 use Rattle.ov_model.specs.Placed.{times, part_times, id_times, PlanIs, IsPlaced, ArePlaced, AreThere, HasParents, AllHaveParents}
 use Rattle.ov_model.specs.Plans.{parts_at, targets_of, planned, current, copied_for, copied_more, leaving, left_parts, target_part, next_target, flipped_by, flipped}
-use Rattle.ov_model.specs.Records.{Rec, recs, records_of}
+use Rattle.ov_model.specs.Records.{Rec, recs, records_of, ordered_records}
 use Rattle.ov_model.specs.World.{Part, Target, Plan, Dataset, World, held, is_one, is_unmoved, targets_from}
 use Rattle.ov_model.proofs.Counting.{one_if, one_same, filter_times, gone_times, listed, not_listed, range_versions, times-append}
 use Rattle.ov_model.proofs.Growing.{length_recs}
@@ -64,7 +64,7 @@ module _ (d : Dataset) (v : Version) (placed : IsPlaced d) (is : IsOldOrNew d) (
   next = length d.cvd.versions + 1
 
   abbrev ours : List Rec
-  ours = records_of v (recs d.cvd.versions [])
+  ours = ordered_records d.cvd.versions v
 
   next_moved : is_unmoved d.plan next ≡ false
   next_moved = moved_past (length d.cvd.versions) d.plan next placed.targets (omega arith)

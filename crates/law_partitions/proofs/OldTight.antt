@@ -12,7 +12,7 @@ use Rattle.ov_model.specs.Lists.{IsIn}
 use Rattle.ov_model.specs.Moves.{Move, moved, placed_at, parts_with, with_joined, with_version, own_part}
 use Rattle.ov_model.specs.Placed.{times, IsPlaced, HasParents}
 use Rattle.ov_model.specs.Plans.{flipped}
-use Rattle.ov_model.specs.Records.{Rec, recs, records_of}
+use Rattle.ov_model.specs.Records.{Rec, ordered_records}
 use Rattle.ov_model.specs.World.{Part, Dataset, World, is_unmoved}
 use Rattle.ov_model.proofs.Counting.{one_same}
 use Rattle.law_partitions.specs.Courses.{IsDue, HasPartitions}
@@ -46,11 +46,11 @@ module _ (d : Dataset) (v : Version) (placed : IsPlaced d) (is : IsOldOrNew d) (
   joined_moved id e part there same vid some = (joins_new d v id placed is has e part there same).moved vid some
 
   stays_in : (part : Part) (vid : ℕ) → IsIn d.parts part → 1 ≤ times part.versions vid → is_unmoved d.plan vid ≡ true → (place : Place) → placed_at d v ≡ place
-      → IsIn (parts_with place d.next_part (length d.cvd.versions + 1) (records_of v (recs d.cvd.versions [])) d.parts) part
-  stays_in part vid there some unmoved Own e = in_left d.parts (own_part d.next_part (length d.cvd.versions + 1) (records_of v (recs d.cvd.versions [])) ∷ []) part there
+      → IsIn (parts_with place d.next_part (length d.cvd.versions + 1) (ordered_records d.cvd.versions v) d.parts) part
+  stays_in part vid there some unmoved Own e = in_left d.parts (own_part d.next_part (length d.cvd.versions + 1) (ordered_records d.cvd.versions v) ∷ []) part there
   stays_in part vid there some unmoved (Join id) e =
       let next : ℕ = length d.cvd.versions + 1
-      in let rs : List Rec = records_of v (recs d.cvd.versions [])
+      in let rs : List Rec = ordered_records d.cvd.versions v
       in subst (IsIn (map (λ x. if x.id == id then with_joined next rs x else x) d.parts))
       (same_if (part.id == id) part next rs (λ t. clash (sym unmoved ∙ joined_moved id e part there (eqb-true part.id id t) vid some)))
       (in_map_of (λ x. if x.id == id then with_joined next rs x else x) d.parts part there)
@@ -85,7 +85,7 @@ both_kept m w due has = (partitions_kept m w due has.0, moved_old m w due has.0 
 pub old_at : (forms : List Form) (n : ℕ) (w : World) (s : Session) (lines : List (List ℕ)) (space : Space) → AllNameVersions forms lines → HasPartitions w → AreOldOrNew w.sets → (k : ℕ)
     → AreOldOrNew (world_at w (course forms n w s lines space).items k).sets
 old_at forms n w s lines space names has are k =
-    (due_at Both both_kept w (course forms n w s lines space).items k (course_due forms n w s lines space names has.numbered) (has, are)).1
+    (due_at Both both_kept w (course forms n w s lines space).items k (course_due forms n w s lines space names has.begun) (has, are)).1
 
 pub old_in : (sets : List Dataset) (d : Dataset) → AreOldOrNew sets → IsIn sets d → IsOldOrNew d
 old_in [] d are is = absurd is

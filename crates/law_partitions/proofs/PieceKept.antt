@@ -23,7 +23,7 @@ use Rattle.ov_model.proofs.Widening.{same_rows}
 use Rattle.law_partitions.specs.Pieces.{rec_times, NoTwice, AllFull, AreOf, IsPieces, PartsArePieces, IsKept, AllKept, target_times, IsUnderWay, PlanIsUnderWay, row_times, HasPieces, ArePieces, AllRiseWith, RowsRise, LacksSome, AllLackSome, MayCopy}
 use Rattle.law_partitions.proofs.CountRuns.{from_at}
 use Rattle.law_partitions.proofs.PieceFlip.{kept_stay, serves_still, pieces_there}
-use Rattle.law_partitions.proofs.PieceLists.{in_filtered, in_taken, append_assoc, joined-append, full-append, are_of, of-append}
+use Rattle.law_partitions.proofs.PieceLists.{all_in, in_filtered, in_taken, append_assoc, joined-append, full-append, are_of, of-append}
 use Rattle.law_partitions.proofs.PieceMore.{pieces-append, own_pieces, version_pieces, current_kept}
 use Rattle.law_partitions.proofs.PiecePlan.{records_of_some, same_kept, nothing_copied, planned_pieces}
 use Rattle.law_partitions.proofs.PieceTimes.{times-append, times-filter, once-lacking, take_times, records_once, all_once}
@@ -54,8 +54,9 @@ rise_once schema (x ∷ rows) rises row =
 new_pieces : (number : ℕ) (name : List ℕ) (schema : Shape) (rows : List Row) → Rises (key_cmp schema) rows → HasPieces (new_set number name schema rows)
 new_pieces number name schema rows rises =
     let v : Version = version_of [] (codes "init") rows
+    in let ours : List Rec = records_of v []
     in record {
-      parts = (own_pieces [] (records_of v []) (records_once v [] (rise_once schema rows rises)) 1, tt);
+      parts = (own_pieces [] ours ours (records_once v [] (rise_once schema rows rises)) (all_in ours) (λ r is. is) 1, tt);
       plan = tt;
       rows = (rise_once schema rows rises, tt);
       no_zero = refl;
@@ -196,6 +197,7 @@ module _ (d : Dataset) (plan : Plan) (is_plan : d.plan ≡ Some plan) (is : HasP
         once = subst (λ ps. NoTwice (joined ps)) pieces are.0.once;
         full = subst AllFull pieces are.0.full;
         only = subst (λ ps. AreOf done t.versions (joined ps)) pieces are.0.only;
+        count = are.0.count ∙ ap (λ ps. length (joined ps)) pieces;
       }
 
   rest_kept : plan.at < length plan.targets → (vid : ℕ) → times ours vid + target_times (targets_from (plan.at + 1) plan.targets) vid ≤ 1

@@ -6,19 +6,20 @@ use Rattle.ov_place.specs.declared.place_facts.Place.{Place}
 use Rattle.ov_place.specs.declared.place_facts.Place.TheVariants.{Own, Join}
 use Rattle.ov_model.specs.Book.{Version}
 use Rattle.ov_model.specs.Holding.{VersionsAreIn}
-use Rattle.ov_model.specs.Lists.{joined}
+use Rattle.ov_model.specs.Lists.{IsIn, AreIn, joined}
 use Rattle.ov_model.specs.Moves.{piece_of, with_joined, own_part, parts_with, next_with, placed_at, with_version}
 use Rattle.ov_model.specs.Placed.{id_times}
 use Rattle.ov_model.specs.Plans.{pieces_of, meets, kept_pieces, current, no_target}
-use Rattle.ov_model.specs.Records.{Rec, lacking, recs, records_of}
+use Rattle.ov_model.specs.Records.{Rec, is_among, ordered_records, lacking, recs, records_of, order_of}
 use Rattle.ov_model.specs.World.{Part, Target, Plan, Dataset, held, is_one, targets_from}
 use Rattle.ov_model.proofs.Counting.{one_if, one_other, ids-append, times-append, listed}
 use Rattle.ov_model.proofs.Growing.{recs_more, length_recs}
+use Rattle.ov_model.proofs.Holds.{among_in, all_ordered}
 use Rattle.law_partitions.specs.Pieces.{NoTwice, AllFull, AreOf, IsPieces, PartsArePieces, versions_of, AreBelow, IsKept, AllKept, IsUnderWay, PlanIsUnderWay, row_times, HaveNoRowTwice, HasPieces}
 use Rattle.law_partitions.proofs.CountRuns.{behind}
 use Rattle.law_partitions.proofs.PieceFlip.{picked, is_listed, met, meeting}
-use Rattle.law_partitions.proofs.PieceLists.{in_filtered, all_in, with_lacking, piece_all, piece_full, joined-append, full-append, are_of, of-append, of_left, of_right, are_longer, versions_more, versions-append, last_in, last_of}
-use Rattle.law_partitions.proofs.PieceTimes.{once-lacking, records_once}
+use Rattle.law_partitions.proofs.PieceLists.{in_filtered, with_lacking, piece_all, piece_full, joined-append, full-append, are_of, of-append, of_left, of_right, are_longer, versions_more, versions-append, last_in, last_of}
+use Rattle.law_partitions.proofs.PieceTimes.{times-filter, once-lacking, all_once}
 
 -- ---- partitions
 
@@ -26,7 +27,8 @@ pub pieces-append : (done : List (List Rec)) (a b : List Part) → PartsArePiece
 pieces-append done [] b are more = more
 pieces-append done (part ∷ a) b are more = (are.0, pieces-append done a b are.1 more)
 
-module _ (done : List (List Rec)) (l : List Rec) (once : NoTwice l) where
+-- `l` are the records of the last version, and `rs` the same ones as they come to its partition
+module _ (done : List (List Rec)) (l rs : List Rec) (once : NoTwice rs) (there : AreIn l rs) (ours : (r : Rec) → IsIn rs r → IsIn l r) where
   abbrev longer : List (List Rec)
   longer = done ++ l ∷ []
 
@@ -42,47 +44,48 @@ module _ (done : List (List Rec)) (l : List Rec) (once : NoTwice l) where
   parts_stay [] are = tt
   parts_stay (part ∷ parts) are = (part_stays part are.0, parts_stay parts are.1)
 
-  pub own_pieces : (id : ℕ) → IsPieces longer (own_part id (length done + 1) l)
+  pub own_pieces : (id : ℕ) → IsPieces longer (own_part id (length done + 1) rs)
   own_pieces id = record {
-    once = subst NoTwice (sym (piece_all l)) once;
-    full = piece_full l;
-    all = subst (VersionsAreIn longer ((length done + 1) ∷ [])) (sym (piece_all l)) (last_in done l l (all_in l));
-    only = subst (AreOf longer ((length done + 1) ∷ [])) (sym (piece_all l)) (are_of longer ((length done + 1) ∷ []) l (last_of done l));
+    once = subst NoTwice (sym (piece_all rs)) once;
+    full = piece_full rs;
+    all = subst (VersionsAreIn longer ((length done + 1) ∷ [])) (sym (piece_all rs)) (last_in done l rs there);
+    only = subst (AreOf longer ((length done + 1) ∷ [])) (sym (piece_all rs))
+        (are_of longer ((length done + 1) ∷ []) rs (λ r is. last_of done l r (ours r is)));
   }
 
-  joined_pieces : (part : Part) → IsPieces done part → IsPieces longer (with_joined (length done + 1) l part)
+  joined_pieces : (part : Part) → IsPieces done part → IsPieces longer (with_joined (length done + 1) rs part)
   joined_pieces part is =
-      let more : List Rec = lacking l (held part)
+      let more : List Rec = lacking rs (held part)
       in let vid : ℕ = length done + 1
-      in let all : held part ++ more ≡ held (with_joined vid l part) =
+      in let all : held part ++ more ≡ held (with_joined vid rs part) =
       ap (λ x. held part ++ x) (sym (piece_all more)) ∙ sym (joined-append part.pieces (piece_of more))
       in record {
-        once = subst NoTwice all (once-lacking l (held part) once is.once);
+        once = subst NoTwice all (once-lacking rs (held part) once is.once);
         full = full-append part.pieces (piece_of more) is.full (piece_full more);
         all = subst (VersionsAreIn longer (part.holds ++ vid ∷ [])) all
             (versions-append longer part.holds (vid ∷ []) (held part ++ more)
             (versions_more done l part.holds (held part) more is.all)
-            (last_in done l (held part ++ more) (with_lacking l (held part) l (all_in l))));
+            (last_in done l (held part ++ more) (with_lacking l (held part) rs there)));
         only = subst (AreOf longer (part.holds ++ vid ∷ [])) all
             (of-append longer (part.holds ++ vid ∷ []) (held part) more
             (wider (held part) (are_longer done l part.holds (held part) is.only))
-            (are_of longer (part.holds ++ vid ∷ []) more (λ r there. of_right longer part.holds (vid ∷ []) r (last_of done l r (in_filtered _ l r there).0))));
+            (are_of longer (part.holds ++ vid ∷ []) more (λ r lacks. of_right longer part.holds (vid ∷ []) r (last_of done l r (ours r (in_filtered _ rs r lacks).0)))));
       }
     where
-      wider : (rs : List Rec) → AreOf longer part.holds rs → AreOf longer (part.holds ++ (length done + 1) ∷ []) rs
+      wider : (xs : List Rec) → AreOf longer part.holds xs → AreOf longer (part.holds ++ (length done + 1) ∷ []) xs
       wider [] are = tt
-      wider (r ∷ rs) are = (of_left longer part.holds ((length done + 1) ∷ []) r are.0, wider rs are.1)
+      wider (r ∷ xs) are = (of_left longer part.holds ((length done + 1) ∷ []) r are.0, wider xs are.1)
 
-  either_pieces : (t : Bool) (part : Part) → IsPieces done part → IsPieces longer (if t then with_joined (length done + 1) l part else part)
+  either_pieces : (t : Bool) (part : Part) → IsPieces done part → IsPieces longer (if t then with_joined (length done + 1) rs part else part)
   either_pieces true part is = joined_pieces part is
   either_pieces false part is = part_stays part is
 
-  all_joined : (id : ℕ) (parts : List Part) → PartsArePieces done parts → PartsArePieces longer (map (λ part. if part.id == id then with_joined (length done + 1) l part else part) parts)
+  all_joined : (id : ℕ) (parts : List Part) → PartsArePieces done parts → PartsArePieces longer (map (λ part. if part.id == id then with_joined (length done + 1) rs part else part) parts)
   all_joined id [] are = tt
   all_joined id (part ∷ parts) are = (either_pieces (part.id == id) part are.0, all_joined id parts are.1)
 
-  pub placed_pieces : (place : Place) (next : ℕ) (parts : List Part) → PartsArePieces done parts → PartsArePieces longer (parts_with place next (length done + 1) l parts)
-  placed_pieces Own next parts are = pieces-append longer parts (own_part next (length done + 1) l ∷ []) (parts_stay parts are) (own_pieces next, tt)
+  pub placed_pieces : (place : Place) (next : ℕ) (parts : List Part) → PartsArePieces done parts → PartsArePieces longer (parts_with place next (length done + 1) rs parts)
+  placed_pieces Own next parts are = pieces-append longer parts (own_part next (length done + 1) rs ∷ []) (parts_stay parts are) (own_pieces next, tt)
   placed_pieces (Join id) next parts are = all_joined id parts are
 
 -- ---- partitions by their numbers: pieces and versions come behind those that were there
@@ -157,7 +160,7 @@ below_more n m [] le low = tt
 below_more n m (k ∷ places) le low = (omega (arith, le, low.0), below_more n m places le low.1)
 
 no_target_kept : (d : Dataset) → IsKept d no_target
-no_target_kept d = record { there = tt; serves = inl refl; once = λ r. omega arith; full = tt; only = tt }
+no_target_kept d = record { there = tt; serves = inl refl; once = λ r. omega arith; full = tt; only = tt; count = refl }
 
 current_at : (d : Dataset) (k : ℕ) (ts : List Target) → AllKept d (targets_from k ts) → IsKept d (slice_index_or ts k no_target)
 current_at d k [] kept = no_target_kept d
@@ -191,6 +194,7 @@ module _ (d after : Dataset) (grow : Grow d.parts after.parts) (more : (vids : L
         once = subst (λ pieces. NoTwice (joined pieces)) same is.once;
         full = subst AllFull same is.full;
         only = subst (λ pieces. AreOf (recs after.cvd.versions []) t.versions (joined pieces)) same (more t.versions (joined (kept_pieces d t)) is.only);
+        count = is.count ∙ ap (λ pieces. length (joined pieces)) same;
       }
 
   all_grown : (ts : List Target) → AllKept d ts → AllKept after ts
@@ -230,20 +234,32 @@ placed_next : (place : Place) (next : ℕ) → 1 ≤ next → 1 ≤ next_with pl
 placed_next Own next low = omega (arith, low)
 placed_next (Join id) next low = low
 
+-- the records of a version that comes, in the order of their rids: none twice, and no other
+ordered_once : (vs : List Version) (v : Version) → HaveNoRowTwice (vs ++ v ∷ []) → NoTwice (ordered_records vs v)
+ordered_once vs v have r =
+    omega (arith, times-filter (is_among (records_of v (recs vs []))) (order_of (vs ++ v ∷ [])) r, all_once (vs ++ v ∷ []) have r)
+
+ordered_ours : (vs : List Version) (v : Version) (r : Rec) → IsIn (ordered_records vs v) r → IsIn (records_of v (recs vs [])) r
+ordered_ours vs v r is =
+    among_in (records_of v (recs vs [])) r (in_filtered (is_among (records_of v (recs vs []))) (order_of (vs ++ v ∷ [])) r is).1
+
 pub version_pieces : (v : Version) (d : Dataset) → ((row : _) → row_times v.rows row ≤ 1) → HasPieces d → HasPieces (with_version v d)
 version_pieces v d once is =
-    let done : List (List Rec) = recs d.cvd.versions []
+    let vs : List Version = d.cvd.versions
+    in let done : List (List Rec) = recs vs []
     in let l : List Rec = records_of v done
-    in let number : length done ≡ length d.cvd.versions = length_recs d.cvd.versions [] ∙ omega arith
-    in let all : recs (d.cvd.versions ++ v ∷ []) [] ≡ done ++ l ∷ [] = recs_more d.cvd.versions v []
+    in let rs : List Rec = ordered_records vs v
+    in let number : length done ≡ length vs = length_recs vs [] ∙ omega arith
+    in let all : recs (vs ++ v ∷ []) [] ≡ done ++ l ∷ [] = recs_more vs v []
     in let place : Place = placed_at d v
+    in let rows : HaveNoRowTwice (vs ++ v ∷ []) = rows_more vs v is.rows once
     in record {
       parts = subst (λ rss. PartsArePieces rss (with_version v d).parts) (sym all)
-          (subst (λ n. PartsArePieces (done ++ l ∷ []) (parts_with place d.next_part (n + 1) l d.parts)) number
-          (placed_pieces done l (records_once v done once) place d.next_part d.parts is.parts));
-      plan = plan_grown d (with_version v d) (placed_grow place d.next_part (length d.cvd.versions + 1) l d.parts)
-          (λ vids rs are. subst (λ rss. AreOf rss vids rs) (sym all) (are_longer done l vids rs are)) d.plan is.plan;
-      rows = rows_more d.cvd.versions v is.rows once;
-      no_zero = placed_ids place d.next_part (length d.cvd.versions + 1) l d.parts is.next is.no_zero;
+          (subst (λ n. PartsArePieces (done ++ l ∷ []) (parts_with place d.next_part (n + 1) rs d.parts)) number
+          (placed_pieces done l rs (ordered_once vs v rows) (all_ordered vs v) (ordered_ours vs v) place d.next_part d.parts is.parts));
+      plan = plan_grown d (with_version v d) (placed_grow place d.next_part (length vs + 1) rs d.parts)
+          (λ vids of are. subst (λ rss. AreOf rss vids of) (sym all) (are_longer done l vids of are)) d.plan is.plan;
+      rows = rows;
+      no_zero = placed_ids place d.next_part (length vs + 1) rs d.parts is.next is.no_zero;
       next = placed_next place d.next_part is.next;
     }

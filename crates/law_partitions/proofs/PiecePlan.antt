@@ -198,6 +198,7 @@ module _ (d : Dataset) (is : HasPieces d) (placed : IsPlaced d) where
         once = subst (λ ps. NoTwice (joined ps)) all (λ r. omega (arith, times_within wanted pieces r, found_once done d.parts source is.parts r));
         full = subst AllFull all (full_within wanted pieces (found_full done d.parts source is.parts));
         only = subst (λ ps. AreOf done versions (joined ps)) all (all_within wanted done versions (records_of_some d versions) pieces);
+        count = refl;
       }
     where
       plain : (k : ℕ) → 0 + k ≡ k
@@ -227,6 +228,7 @@ same_kept d after cvd parts (t ∷ ts) are = (one, same_kept d after cvd parts t
       full = subst AllFull pieces are.0.full;
       only = subst (λ c. AreOf (recs c.versions []) t.versions (joined (kept_pieces after t))) (sym cvd)
           (subst (λ ps. AreOf (recs d.cvd.versions []) t.versions (joined ps)) pieces are.0.only);
+      count = are.0.count ∙ ap (λ ps. length (joined ps)) pieces;
     }
 
 -- a target for which nothing was copied yet

@@ -172,6 +172,7 @@ module _ (n : ℕ) where
           full = subst AllFull pieces (full_wide (kept_pieces d t) is.full);
           only = subst (λ rss. AreOf rss t.versions (joined (kept_pieces after t))) (sym recs_are)
               (subst (AreOf (all_wide done) t.versions) all (are_wide done t.versions (joined (kept_pieces d t)) is.only));
+          count = is.count ∙ sym (length-map (joined (kept_pieces d t)) longer) ∙ ap length all;
         }
 
     all_kept : (ts : List Target) → AllKept d ts → AllKept after ts

@@ -20,13 +20,13 @@ use Rattle.ov_model.specs.Lists.{IsBelow, IsIn, Rises}
 use Rattle.ov_model.specs.Moves.{Move, Init, Commit, BeginPlan, Copy, Flip, Drop, Checkpoint, accepted_or, wide_schema, moved, change, numbered, committed, with_version, version_of, wide, wide_part, wide_version, placed_at, parts_with, next_with, with_joined, own_part, new_set}
 use Rattle.ov_model.specs.Placed.{PlanIs, IsPlaced, ArePlaced, AreThere, HasParents, AllHaveParents}
 use Rattle.ov_model.specs.Plans.{parts_at, targets_of, planned, current, copied_for, copied_more, leaving, left_parts, target_part, next_target, flipped_by, flipped}
-use Rattle.ov_model.specs.Records.{AllRise, Rec, recs, records_of}
+use Rattle.ov_model.specs.Records.{AllRise, Rec, ordered_records}
 use Rattle.ov_model.specs.World.{Part, Plan, Dataset, World}
 use Rattle.law_partitions.specs.Courses.{IsDue, HasPartitions}
 use Rattle.law_partitions.specs.OldOrNew.{Runs, IsOldOrNew, AreOldOrNew}
 use Rattle.law_partitions.specs.PlanEnds.{listed_by, HasAllVersions, HasAllIn, PlanHasAll, IsSplitting, Splits, AreByNumber, AreParents, HaveParents, IsPlanned, ArePlanned, IsSplit}
 use Rattle.law_partitions.proofs.CourseMoves.{course_due, due_at, wide_long}
-use Rattle.law_partitions.proofs.CourseRows.{cmp_wide}
+use Rattle.ov_model.proofs.Widening.{cmp_wide}
 use Rattle.law_partitions.proofs.OldMoves.{flip_old, planned_waits, wide_placed}
 use Rattle.law_partitions.proofs.OldParts.{targets_past}
 use Rattle.law_partitions.proofs.OldTight.{idle_tight, old_at, old_in, Both, both_kept}
@@ -148,7 +148,7 @@ commit_planned parents message added rows d placed old has rise is =
     in let behind : 0 + count ≡ count = omega arith
     in record {
       splits = past_splits (with_version v e) count e.plan (wide_placed added d placed).targets (omega (arith, length-append e.cvd.versions (v ∷ [])));
-      by_number = number_placed (placed_at e v) e.next_part (count + 1) (records_of v (recs e.cvd.versions [])) e.parts (wide_numbers added d is.by_number);
+      by_number = number_placed (placed_at e v) e.next_part (count + 1) (ordered_records e.cvd.versions v) e.parts (wide_numbers added d is.by_number);
       parents = parents_append 0 e.cvd.versions v (wide_have added d is.parents) (subst (λ n. AreParents n parents) (sym behind) are);
       rows = rise_append e.cvd.schema e.cvd.versions v (wide_rows added d is.rows) rise;
     }
@@ -280,7 +280,7 @@ all_kept m w due has = (both_kept m w due has.0, moved_planned m w due has.0.0 h
 pub planned_at : (forms : List Form) (n : ℕ) (w : World) (s : Session) (lines : List (List ℕ)) (space : Space) → AllNameVersions forms lines → HasPartitions w → AreOldOrNew w.sets → ArePlanned w.sets → (k : ℕ)
     → ArePlanned (world_at w (course forms n w s lines space).items k).sets
 planned_at forms n w s lines space names has old are k =
-    (due_at AllKept all_kept w (course forms n w s lines space).items k (course_due forms n w s lines space names has.numbered) ((has, old), are)).1
+    (due_at AllKept all_kept w (course forms n w s lines space).items k (course_due forms n w s lines space names has.begun) ((has, old), are)).1
 
 -- ---- a plan that no commit came to, and its last flip
 

@@ -55,11 +55,14 @@ all_listed : (texts : List (List ℕ)) (vids : List ℕ) → 1 ≤ length texts 
 all_listed [] vids some e = absurd (omega (arith, some))
 all_listed (text ∷ texts) vids some e = and_some (number_of text) (all_some number_of texts) vids e
 
+pub vids_some : (text vids : List ℕ) → vids_of text ≡ Some vids → vids ≢ []
+vids_some text vids e = all_listed (slice_split (λ c. c == 44) text) vids (omega (arith, length-slice_split (λ c. c == 44) text)) e
+
 given_vids : (text : List ℕ) (vids : Option (List ℕ)) (given : Given) → vids_of text ≡ vids → or_refused no.BadNumber Vids vids ≡ Ok given → vids_in (Some given) ≢ []
 given_vids text None given e f = absurd (err_ok no.BadNumber given f)
 given_vids text (Some vids) given e f =
     subst (λ g. vids_in (Some g) ≢ []) (same_ok (Vids vids) given f)
-    (all_listed (slice_split (λ c. c == 44) text) vids (omega (arith, length-slice_split (λ c. c == 44) text)) e)
+    (vids_some text vids e)
 
 -- ---- options
 

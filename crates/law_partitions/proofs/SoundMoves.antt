@@ -18,6 +18,7 @@ use Rattle.law_partitions.specs.Sound.{IsSound, MayMove}
 use Rattle.law_partitions.proofs.CountRuns.{moved_runs, moved_numbered, none_left, no_plan}
 use Rattle.law_partitions.proofs.CountSteps.{move_of, one_step_less, some_missing, some_same}
 use Rattle.law_partitions.proofs.PieceKept.{moved_pieces}
+use Rattle.law_partitions.proofs.PieceOrder.{moved_ordered}
 
 pub empty_sound : IsSound empty_world
 empty_sound = record {
@@ -27,6 +28,7 @@ empty_sound = record {
   placed = tt;
   held = tt;
   pieces = tt;
+  ordered = tt;
 }
 
 pub moved_sound : (m : Move) (w : World) → MayMove m w → IsSound w → IsSound (moved m w)
@@ -37,6 +39,7 @@ moved_sound m w may is = record {
   placed = moved_placed m w may.parents is.placed;
   held = moved_held m w may.flip is.placed is.held;
   pieces = moved_pieces m w may.rows may.copy may.flip is.placed is.held is.pieces;
+  ordered = moved_ordered m w is.pieces is.ordered;
 }
 
 -- ---- the step that is next

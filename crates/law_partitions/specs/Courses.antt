@@ -1,12 +1,13 @@
 -- What every move of a course meets at the World in which it is made.
 --     IsDue m w      what a move meets
 --     AllDue w items      each move of these does
+--     IsBegun w, HasPartitions w      what holds in every World of a course
 use Rattle.std.specs.Prelude.{◌≡◌, ◌≤◌, ℕ, List, [], ◌∷◌, None}
 use Rattle.ov_model.specs.Course.{Item, Makes, Says}
 use Rattle.ov_model.specs.Holding.{AreHeld}
 use Rattle.ov_model.specs.Moves.{Move, BeginPlan, moved}
 use Rattle.ov_model.specs.Placed.{ArePlaced}
-use Rattle.ov_model.specs.World.{Dataset, World}
+use Rattle.ov_model.specs.World.{Dataset, World, AllBegun}
 use Rattle.law_partitions.specs.Countdown.{AreNumbered}
 use Rattle.law_partitions.specs.Sound.{MayMove}
 
@@ -30,8 +31,13 @@ AllDue w [] = Unit {0}
 AllDue w (Makes m ∷ items) = IsDue m w × AllDue (moved m w) items
 AllDue w (Says reply ∷ items) = AllDue w items
 
+-- numbers of datasets are given once, and each dataset has a version
+pub record IsBegun (w : World) : Type 0 where
+  pub numbered : AreNumbered w
+  pub begun : AllBegun w.sets
+
 -- what holds of partitions in every World of a course
 pub record HasPartitions (w : World) : Type 0 where
-  pub numbered : AreNumbered w
+  pub begun : IsBegun w
   pub placed : ArePlaced w.sets
   pub held : AreHeld w.sets

@@ -59,13 +59,14 @@ AreBelow most [] = Unit {0}
 AreBelow most (n ∷ ns) = (n < most) × AreBelow most ns
 
 -- What a target keeps: its source has pieces at these places, and serves one of its versions; the kept pieces share no
--- record, none is empty, and their records are of its versions.
+-- record, none is empty, and their records are of its versions, as many as it says.
 pub record IsKept (d : Dataset) (t : Target) : Type 0 where
   pub there : AreBelow (length (pieces_of d.parts t.source)) t.kept
   pub serves : (t.kept ≡ []) ⊎ (meets t.versions (versions_of d.parts t.source) ≡ true)
   pub once : NoTwice (joined (kept_pieces d t))
   pub full : AllFull (kept_pieces d t)
   pub only : AreOf (recs d.cvd.versions []) t.versions (joined (kept_pieces d t))
+  pub count : t.kept_records ≡ length (joined (kept_pieces d t))
 
 abbrev pub AllKept : Dataset → List Target → Type 0
 AllKept d [] = Unit {0}

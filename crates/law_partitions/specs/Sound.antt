@@ -7,6 +7,7 @@ use Rattle.ov_model.specs.Forms.{Form}
 use Rattle.ov_model.specs.Holding.{AreHeld, MayFlip}
 use Rattle.ov_model.specs.Line.{Line, Asks, line_of}
 use Rattle.ov_model.specs.Moves.{Move, moved}
+use Rattle.ov_model.specs.Ordered.{HaveOrder}
 use Rattle.ov_model.specs.Placed.{ArePlaced, NamesParents}
 use Rattle.ov_model.specs.World.{World, AllBegun}
 use Rattle.ov_model.specs.declared.command.Command.{Command}
@@ -15,7 +16,7 @@ use Rattle.law_partitions.specs.Countdown.{AllRun, AreNumbered}
 use Rattle.law_partitions.specs.Pieces.{ArePieces, MayCopy, RowsRise}
 
 -- numbers of datasets are given once, each dataset has a version, a running plan has a target left, each version is in one
--- partition and has its records there, and pieces are disjoint and together the records
+-- partition and has its records there, and pieces are disjoint, together the records, and in the order of rids
 pub record IsSound (w : World) : Type 0 where
   pub numbered : AreNumbered w
   pub begun : AllBegun w.sets
@@ -23,6 +24,7 @@ pub record IsSound (w : World) : Type 0 where
   pub placed : ArePlaced w.sets
   pub held : AreHeld w.sets
   pub pieces : ArePieces w.sets
+  pub ordered : HaveOrder w.sets
 
 -- a commit names parents that are there, a new version's rows rise by their keys, a copy finds a record missing, and a flip
 -- finds none missing

@@ -4,14 +4,13 @@ ghost use Rattle.ov_model.specs.Act.{Session};
 ghost use Rattle.ov_model.specs.Course.{Space, course, world_at};
 ghost use Rattle.ov_model.specs.Forms.{Form};
 ghost use Rattle.ov_model.specs.World.{World, empty_world};
-ghost use Rattle.law_partitions.specs.Courses.{AllDue, HasPartitions};
-ghost use Rattle.law_partitions.specs.Countdown.{AreNumbered};
+ghost use Rattle.law_partitions.specs.Courses.{AllDue, HasPartitions, IsBegun};
 ghost use Rattle.law_partitions.specs.Sound.{AllNameVersions};
 
 /// At the World in which it is made, each move of a run meets what keeps partitions right: a commit's parents are there, a new
 /// version's rows rise by their keys, a copy finds a record missing and a flip none, and a plan begins where none runs.
 pub fn moves_of_a_course_are_due()
-    ensures { (forms : List Form) (steps : ℕ) (w : World) (s : Session) (lines : List (List ℕ)) (space : Space) → AllNameVersions forms lines → AreNumbered w
+    ensures { (forms : List Form) (steps : ℕ) (w : World) (s : Session) (lines : List (List ℕ)) (space : Space) → AllNameVersions forms lines → IsBegun w
         → AllDue w (course forms steps w s lines space).items }
 {}
 

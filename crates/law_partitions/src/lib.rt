@@ -14,7 +14,10 @@ pub use countdown::{
     a_running_plan_has_steps_left, each_step_is_one_step_less, numbers_of_datasets_are_given_once,
 };
 pub use courses::{moves_of_a_course_are_due, worlds_of_a_course_keep_their_partitions};
-pub use pieces::pieces_are_disjoint_and_together_the_records;
+pub use pieces::{
+    a_waiting_target_says_how_many_records_it_keeps, pieces_are_disjoint_and_together_the_records,
+    pieces_stand_in_the_order_of_rids,
+};
 pub use plans::{
     a_finished_plan_is_the_split, a_finished_plan_meets_the_bounds,
     a_plan_has_all_versions_until_a_commit, a_waiting_partition_goes,

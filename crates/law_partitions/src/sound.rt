@@ -1,6 +1,7 @@
 // Laws of all that holds in a World, together.
 ghost use Rattle.std.specs.Prelude.{◌≡◌, ◌-◌, ℕ, List, length, min, Some, None};
-ghost use Rattle.ov_model.specs.Act.{Session, deed};
+ghost use Rattle.ov_model.specs.Act.{Session};
+ghost use Rattle.ov_model.specs.Deed.{deed};
 ghost use Rattle.ov_model.specs.Course.{Space, course, world_at};
 ghost use Rattle.ov_model.specs.Forms.{Form, all_forms, built_forms};
 ghost use Rattle.ov_model.specs.Moves.{Move, moved};

@@ -23,7 +23,8 @@ use Rattle.ov_model.specs.World.{Part, Dataset, World, held}
 use Rattle.ov_model.proofs.Counting.{one_if, not_listed}
 use Rattle.ov_catalog.specs.Numbers.{PartNumbers, each_part}
 use Rattle.ov_catalog.specs.Shown.{list_of, held_by, shown_part}
-use Rattle.ov_catalog.proofs.Good.{IsKnown, AreKnown, IsRowed, AreRowed, IsGood, good}
+use Rattle.ov_catalog.specs.Told.{IsRowed, AreRowed}
+use Rattle.ov_catalog.proofs.Good.{IsKnown, AreKnown, IsGood, good}
 use Rattle.ov_catalog.proofs.Members.{heads, tails, of_map, of_sorted}
 use Rattle.ov_catalog.proofs.Showing.{PiecesAreIn}
 use Rattle.ov_read.specs.Agreement.{Numbers, IsThere, PartAgrees, AreTogether, serves, is_served}

@@ -10,7 +10,7 @@ use Rattle.ov_value.specs.Spelling.{IsRow}
 use Rattle.ov_model.specs.Book.{Row, Version}
 use Rattle.ov_model.specs.Lists.{IsIn, Rises}
 use Rattle.ov_model.specs.Records.{Rec, recs, records_of, record_of, of_version, rows_at}
-use Rattle.ov_catalog.proofs.Good.{HaveRows}
+use Rattle.ov_catalog.specs.Told.{HaveRows}
 use Rattle.ov_catalog.proofs.Members.{all_at, in_map}
 use Rattle.law_partitions.specs.Pieces.{IsOfOne, AreOf}
 

@@ -9,41 +9,85 @@ use Rattle.ov_event.specs.declared.event.Event as raw
 use Rattle.ov_event.specs.declared.event.Event.TheVariants as says
 use Rattle.ov_event.specs.Spelling.{spelling}
 use Rattle.ov_layout.specs.Changes.{extents_of}
+use Rattle.ov_model.specs.Moves as moves
 use Rattle.ov_model.specs.Moves.{Move, Drop as DropMove}
 use Rattle.ov_model.specs.World.{World}
+use Rattle.ov_catalog.specs.Applying.{is_built_event}
 use Rattle.ov_catalog.specs.Events.{applied}
 use Rattle.ov_catalog.specs.Extents.{brought, covers, has_page, live}
 use Rattle.ov_catalog.specs.Numbers.{Numbers}
 use Rattle.ov_catalog.specs.Raw.{event_in}
+use Rattle.ov_catalog.specs.Reached.{Fits}
 use Rattle.ov_catalog.proofs.Covering.{live_applied}
 use Rattle.ov_core.specs.declared.brought.Brought.{Brought}
-use Rattle.ov_core.specs.Brought.{Brings, IsUnplaced, with_extents}
+use Rattle.ov_core.specs.Brought.{Brings, BringsRuns, IsUnplaced, with_extents}
 use Rattle.ov_core.specs.Held.{Held}
 use Rattle.ov_core.specs.Rooms.{HasNone, IsDropped, IsFree, IsFull, IsMade, IsRun, PassesJournal, pages_for}
 use Rattle.ov_core.proofs.Ranges.{brought_placed, has_high, has_low}
-use Rattle.law_room.specs.Room.{Entry, IsWithin, LacksRecord, LacksRun, Made, Take, Writes}
+use Rattle.law_room.specs.Room.{Entry, HasRuns, IsWithin, LacksRecord, LacksRun, Made, Take, Takes, Writes, checkpoints, is_checkpoint}
 
 -- ---- what a move writes
 
+pub runs_of : (e : raw.Event) (list segment : List ℕ) → BringsRuns e → HasRuns e list segment
+runs_of (says.Init name schema rows l s) list segment brings = tt
+runs_of (says.Commit cvd vid message parents rows fresh place added l s) list segment brings = tt
+runs_of (says.Plan cvd p q targets) list segment brings = absurd brings
+runs_of (says.Copy cvd count s) list segment brings = absurd brings
+runs_of (says.Flip cvd) list segment brings = absurd brings
+runs_of (says.Drop cvd) list segment brings = absurd brings
+runs_of (says.Base next) list segment brings = absurd brings
+runs_of (says.Whole said) list segment brings = absurd brings
+runs_of (says.Wide cvd vid message columns parents rows fresh place added l s) list segment brings = absurd brings
+
+built_placed : (l s : Extent) (e : raw.Event) → BringsRuns e → is_built_event (with_extents l s e) ≡ true
+built_placed l s (says.Init name schema rows a b) brings = refl
+built_placed l s (says.Commit cvd vid message parents rows fresh place added a b) brings = refl
+built_placed l s (says.Plan cvd p q targets) brings = absurd brings
+built_placed l s (says.Copy cvd count b) brings = absurd brings
+built_placed l s (says.Flip cvd) brings = absurd brings
+built_placed l s (says.Drop cvd) brings = absurd brings
+built_placed l s (says.Base next) brings = absurd brings
+built_placed l s (says.Whole said) brings = absurd brings
+built_placed l s (says.Wide cvd vid message columns parents rows fresh place added a b) brings = absurd brings
+
 abbrev writes_brought : (m : Move) (w : World) (b : Brought) → IsUnplaced b → Brings m w b → Writes m w
 writes_brought m w b unplaced brings =
-    record { event = b.event; list = b.list.items; segment = b.segment.items; says = brings.says; sized = unplaced.extents; runs = inl unplaced.runs }
+    record { event = b.event; list = b.list.items; segment = b.segment.items; says = brings.says; sized = unplaced.extents; runs = runs_of b.event b.list.items b.segment.items unplaced.runs }
 
 abbrev writes_drop : (cvd : ℕ) (w : World) → Writes (DropMove cvd) w
-writes_drop cvd w = record { event = says.Drop cvd; list = []; segment = []; says = refl; sized = refl; runs = inr (refl, refl) }
+writes_drop cvd w = record { event = says.Drop cvd; list = []; segment = []; says = refl; sized = refl; runs = (refl, refl) }
 
 -- one move more
-take_more : (before : List Made) (pages bytes : ℕ) (m : Move) (w : World) (written : Writes m w) → Take before pages bytes
-    → Take (before ++ record { move = m; world = w } ∷ []) (pages + (pages_for written.list + pages_for written.segment)) (bytes + (6 + length (spelling written.event)))
-take_more [] pages bytes m w written taken = (written, 0, 0, (refl, refl), omega (arith, taken.0), omega (arith, taken.1))
-take_more (made ∷ before) pages bytes m w written taken = (
+abbrev takes_event : (m : Move) (w : World) (written : Writes m w) → Takes m w (pages_for written.list + pages_for written.segment) (length (spelling written.event))
+takes_event m w written = inl (record { writes = written; pages_are = refl; size_is = refl })
+
+take_more : (before : List Made) (pages bytes own size : ℕ) (m : Move) (w : World) → Takes m w own size → Take before pages bytes
+    → Take (before ++ record { move = m; world = w } ∷ []) (pages + own) (bytes + (6 + size))
+take_more [] pages bytes own size m w takes taken = (own, size, 0, 0, takes, (refl, refl), omega (arith, taken.0), omega (arith, taken.1))
+take_more (made ∷ before) pages bytes own size m w takes taken = (
   taken.0,
-  taken.1 + (pages_for written.list + pages_for written.segment),
-  taken.2 + (6 + length (spelling written.event)),
-  take_more before taken.1 taken.2 m w written taken.3,
-  omega (arith, taken.4),
-  omega (arith, taken.5),
+  taken.1,
+  taken.2 + own,
+  taken.3 + (6 + size),
+  taken.4,
+  take_more before taken.2 taken.3 own size m w takes taken.5,
+  omega (arith, taken.6),
+  omega (arith, taken.7),
 )
+
+-- a move that isn't a checkpoint
+checkpoints_same : (before : List Made) (m : Move) (w : World) → is_checkpoint m ≡ false → checkpoints (before ++ record { move = m; world = w } ∷ []) ≡ checkpoints before
+checkpoints_same [] m w other = ap (λ b. (if b then 1 else 0) + 0) other
+checkpoints_same (made ∷ before) m w other = ap (λ n. (if is_checkpoint made.move then 1 else 0) + n) (checkpoints_same before m w other)
+
+no_checkpoint : (m : Move) (w : World) → Fits m w → is_checkpoint m ≡ false
+no_checkpoint (moves.Init name schema rows) w fits = refl
+no_checkpoint (moves.Commit cvd parents message added rows) w fits = refl
+no_checkpoint (moves.BeginPlan cvd p q) w fits = refl
+no_checkpoint (moves.Copy cvd) w fits = refl
+no_checkpoint (moves.Flip cvd) w fits = refl
+no_checkpoint (moves.Drop cvd) w fits = refl
+no_checkpoint moves.Checkpoint w fits = absurd fits
 
 -- ---- runs of pages below a highest one
 
@@ -148,21 +192,25 @@ full_is_licensed entry before held m w b pages within unplaced brings full =
 pub passes_is_licensed : (entry : Entry) (before : List Made) (held : Held) (m : Move) (w : World) (b : Brought)
     → IsWithin entry before held → IsUnplaced b → Brings m w b → PassesJournal held b.event → LacksRecord entry before m w
 passes_is_licensed entry before held m w b within unplaced brings passes = record {
-  writes = writes_brought m w b unplaced brings;
+  own = pages_for b.list.items + pages_for b.segment.items;
+  size = length (spelling b.event);
+  takes = takes_event m w (writes_brought m w b unplaced brings);
   pages = within.pages;
   bytes = within.bytes;
   taken = within.taken;
-  lacks = omega (arith, passes, within.within);
+  lacks = inl (omega (arith, passes, within.within));
 }
 
 pub drop_is_licensed : (entry : Entry) (before : List Made) (held : Held) (cvd : ℕ) (w : World)
     → IsWithin entry before held → PassesJournal held (says.Drop cvd) → LacksRecord entry before (DropMove cvd) w
 drop_is_licensed entry before held cvd w within passes = record {
-  writes = writes_drop cvd w;
+  own = 0;
+  size = length (spelling (says.Drop cvd));
+  takes = takes_event (DropMove cvd) w (writes_drop cvd w);
   pages = within.pages;
   bytes = within.bytes;
   taken = within.taken;
-  lacks = omega (arith, passes, within.within);
+  lacks = inl (omega (arith, passes, within.within));
 }
 
 -- ---- moves
@@ -177,12 +225,14 @@ brought_covers l s page = by (s.bytes == 0)
 
 pub within_made : (entry : Entry) (before : List Made) (old new : Held) (m : Move) (w : World) (b : Brought)
     → IsWithin entry before old → IsUnplaced b → Brings m w b → IsMade old new b
-    → new.journal.end ≤ old.journal.end + 6 + length (spelling b.event)
+    → new.journal.end ≤ old.journal.end + 6 + length (spelling b.event) → new.journal.epoch ≡ old.journal.epoch
     → IsWithin entry (before ++ record { move = m; world = w } ∷ []) new
-within_made entry before old new m w b within unplaced brings made grows = record {
+within_made entry before old new m w b within unplaced brings made grows same = record {
   pages = within.pages + (pages_for b.list.items + pages_for b.segment.items);
   bytes = within.bytes + (6 + length (spelling b.event));
-  taken = take_more before within.pages within.bytes m w (writes_brought m w b unplaced brings) within.taken;
+  epoch = omega (arith, same, within.epoch, checkpoints_same before m w (no_checkpoint m w brings.fits));
+  taken = take_more before within.pages within.bytes (pages_for b.list.items + pages_for b.segment.items) (length (spelling b.event)) m w
+      (takes_event m w (writes_brought m w b unplaced brings)) within.taken;
   below = below_now;
   within = omega (arith, grows, within.within);
 }
@@ -199,17 +249,19 @@ within_made entry before old new m w b within unplaced brings made grows = recor
         in let come : covers (brought (event_in e)) page ≡ covers (made.l ∷ extents_of made.s) page = ap (λ (es : List Extent). covers es page) (brought_placed made.l made.s b.event unplaced.runs)
         in omega (
           arith,
-          all_below page (omega (arith, some, now, come, live_applied page (event_in e) old.numbers, brought_covers made.l made.s page)),
+          all_below page (omega (arith, some, now, come, live_applied page e old.numbers (built_placed made.l made.s b.event unplaced.runs), brought_covers made.l made.s page)),
         )
 
 pub within_dropped : (entry : Entry) (before : List Made) (old new : Held) (cvd : ℕ) (w : World)
     → IsWithin entry before old → IsDropped old new cvd
-    → new.journal.end ≤ old.journal.end + 6 + length (spelling (says.Drop cvd))
+    → new.journal.end ≤ old.journal.end + 6 + length (spelling (says.Drop cvd)) → new.journal.epoch ≡ old.journal.epoch
     → IsWithin entry (before ++ record { move = DropMove cvd; world = w } ∷ []) new
-within_dropped entry before old new cvd w within dropped grows = record {
+within_dropped entry before old new cvd w within dropped grows same = record {
   pages = within.pages + 0;
   bytes = within.bytes + (6 + length (spelling (says.Drop cvd)));
-  taken = take_more before within.pages within.bytes (DropMove cvd) w (writes_drop cvd w) within.taken;
+  epoch = omega (arith, same, within.epoch, checkpoints_same before (DropMove cvd) w refl);
+  taken = take_more before within.pages within.bytes 0 (length (spelling (says.Drop cvd))) (DropMove cvd) w
+      (takes_event (DropMove cvd) w (writes_drop cvd w)) within.taken;
   below = below_now;
   within = omega (arith, grows, within.within);
 }
@@ -217,4 +269,4 @@ within_dropped entry before old new cvd w within dropped grows = record {
     below_now : AreBelow (live new.numbers) (entry.pages + (within.pages + 0))
     below_now page some =
         let now : covers (live new.numbers) page ≡ covers (live (applied (event_in (says.Drop cvd)) old.numbers)) page = ap (λ (n : Numbers Extent Extent). covers (live n) page) dropped.applied_is
-        in omega (arith, within.below page (omega (arith, some, now, live_applied page (event_in (says.Drop cvd)) old.numbers)))
+        in omega (arith, within.below page (omega (arith, some, now, live_applied page (says.Drop cvd) old.numbers refl)))

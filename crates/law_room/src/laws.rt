@@ -38,10 +38,10 @@ pub fn room_is_wanting_only_so()
 pub fn what_is_kept_grows_by_what_is_written()
     ensures made { (entry : Entry) (before : List Made) (old new : Held) (m : Move) (w : World) (b : Brought)
         → IsWithin entry before old → IsUnplaced b → Brings m w b → IsMade old new b
-        → new.journal.end ≤ old.journal.end + 6 + length (spelling b.event)
+        → new.journal.end ≤ old.journal.end + 6 + length (spelling b.event) → new.journal.epoch ≡ old.journal.epoch
         → IsWithin entry (before ++ record { move = m; world = w } ∷ []) new }
     ensures dropped { (entry : Entry) (before : List Made) (old new : Held) (cvd : ℕ) (w : World)
         → IsWithin entry before old → IsDropped old new cvd
-        → new.journal.end ≤ old.journal.end + 6 + length (spelling (says.Drop cvd))
+        → new.journal.end ≤ old.journal.end + 6 + length (spelling (says.Drop cvd)) → new.journal.epoch ≡ old.journal.epoch
         → IsWithin entry (before ++ record { move = DropMove cvd; world = w } ∷ []) new }
 {}

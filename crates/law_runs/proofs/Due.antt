@@ -12,7 +12,7 @@ use Rattle.ov_model.specs.Course.{Item, Makes, Says, SaysSome, Space, begins, co
 use Rattle.ov_model.specs.Forms.{built_forms}
 use Rattle.ov_model.specs.Moves.{Move, moved}
 use Rattle.ov_model.specs.Replies.{reply_text}
-use Rattle.ov_model.specs.World.{AllBegun, World, empty_world}
+use Rattle.ov_model.specs.World.{AllBegun, World, empty_world_of}
 use Rattle.ov_model.specs.declared.reply.Reply.{Reply}
 use Rattle.ov_model.proofs.Courses.{play_append}
 use Rattle.ov_model.proofs.Replying.{begun_moved, says_some}
@@ -171,7 +171,7 @@ begun_leads (m ∷ ms) v w leads begun = begun_leads ms (moved m v) w leads.1 (b
 
 -- each dataset of such a World has a version
 pub begun : (w : World) → Reached w → AllBegun w.sets
-begun w reached = begun_leads reached.0 empty_world w reached.1 tt
+begun w reached = begun_leads reached.2 (empty_world_of reached.0) w reached.3 tt
 
 -- so it is with one that an image stands for
 pub begun_where : (w : World) (c : Image) → StandsAs w c → AllBegun w.sets

@@ -6,13 +6,15 @@ use Rattle.ov_host.specs.Host.{Calls, State}
 use Rattle.ov_host.specs.Stops.{Only}
 use Rattle.ov_host.specs.Tape.{Prints}
 use Rattle.ov_host.proofs.Stops.{only_then, only_wider}
-use Rattle.ov_model.specs.Act.{Deed, Session, deed, refuses}
+use Rattle.ov_model.specs.Act.{Deed, Session, refuses, unless}
+use Rattle.ov_model.specs.Deed.{deed, permitted}
 use Rattle.ov_model.specs.Course.{Enough, Full, Item, Makes, NoRun, Room, Says, Served, Space, after, and_steps, attempt, attempts, first, line_served, play, replied, rest, served, step_by, steps, steps_then, world_after}
 use Rattle.ov_model.specs.Forms.{built_forms}
 use Rattle.ov_model.specs.Line.{Asks, Comment, Line, Refused, line_of}
 use Rattle.ov_model.specs.Moves.{Move, moved}
 use Rattle.ov_model.specs.Replies.{reply_text}
 use Rattle.ov_model.specs.Steps.{next_step}
+use Rattle.ov_model.specs.Users.{line_by, permit, unless_denied}
 use Rattle.ov_model.specs.World.{World}
 use Rattle.ov_model.specs.declared.command.Command.{Command}
 use Rattle.ov_model.specs.declared.refusal.Refusal.{Refusal}
@@ -117,9 +119,9 @@ attempts_end d s taken (m ∷ ms) w space =
 -- ---- a line that is served as a deed is
 
 -- what it does and says is what the deed does, and then steps; and so it is licensed
-record IsServed (n : ℕ) (w : World) (s : Session) (line : List ℕ) (d : Deed) : Type 0 where
-  acts : (space : Space) → served built_forms n w s line space ≡ and_steps n (attempts d s 0 d.moves w space)
-  licensed : (entry : Entry) (past : List Made) (space : Space) → LicensedMoves entry past d.moves w space
+pub record IsServed (n : ℕ) (w : World) (s : Session) (line : List ℕ) (d : Deed) : Type 0 where
+  pub acts : (space : Space) → served built_forms n w s line space ≡ and_steps n (attempts d s 0 d.moves w space)
+  pub licensed : (entry : Entry) (past : List Made) (space : Space) → LicensedMoves entry past d.moves w space
       → LicensedAfter n entry past w (attempts d s 0 d.moves w space) → LicensedLine n entry past w s space (line_of built_forms line)
 
 asks_served : (n : ℕ) (w : World) (s : Session) (line : List ℕ) (command : Command) → line_of built_forms line ≡ Asks command → IsServed n w s line (deed w s command)
@@ -134,6 +136,55 @@ refusal_served n w s line refusal is = record {
   licensed = λ entry past space moves after.
       subst (LicensedLine n entry past w s space) (sym is) (subst (λ (made : List Made). LicensedSteps n entry made w space) (append-nil past) after);
 }
+
+denied_served : (n : ℕ) (w : World) (s : Session) (line : List ℕ) (command : Command) (refusal : Refusal) → line_of built_forms line ≡ Asks command → permit s.user command ≡ Some refusal
+    → IsServed n w s line (refuses s refusal)
+denied_served n w s line command refusal is denied =
+    subst (IsServed n w s line) (ap (λ (o : Option Refusal). unless s o (permitted w s command)) denied) (asks_served n w s line command is)
+
+-- ---- what a line says of a user
+
+no_line : {X : Type 0} (command : Command) (refusal : Refusal) → Refused refusal ≡ Asks command → X
+no_line command refusal e = absurd cc
+
+no_refusal : {X : Type 0} (command : Command) (refusal : Refusal) → Asks command ≡ Refused refusal → X
+no_refusal command refusal e = absurd cc
+
+asked_if : (found : Option Refusal) (a command : Command) → unless_denied found a ≡ Asks command → (a ≡ command) × (found ≡ None)
+asked_if None a command e = (cc, refl)
+asked_if (Some refusal) a command e = no_line command refusal e
+
+-- no rule denies what it asks
+pub asked_by : (user : List ℕ) (l : Line) (command : Command) → line_by user l ≡ Asks command → (l ≡ Asks command) × (permit user command ≡ None)
+asked_by user Comment command e = absurd cc
+asked_by user (Asks a) command e =
+    let both = asked_if (permit user a) a command e
+    in (ap Asks both.0, sym (ap (permit user) both.0) ∙ both.1)
+asked_by user (Refused refusal) command e = no_line command refusal e
+
+refused_if : (found : Option Refusal) (a : Command) (refusal : Refusal) → unless_denied found a ≡ Refused refusal → found ≡ Some refusal
+refused_if None a refusal e = no_refusal a refusal e
+refused_if (Some x) a refusal e = cc
+
+refused_by : (n : ℕ) (w : World) (s : Session) (line : List ℕ) (refusal : Refusal) (l : Line) → line_of built_forms line ≡ l → line_by s.user l ≡ Refused refusal → IsServed n w s line (refuses s refusal)
+refused_by n w s line refusal Comment is e = absurd cc
+refused_by n w s line refusal (Asks command) is e = denied_served n w s line command refusal is (refused_if (permit s.user command) command refusal e)
+refused_by n w s line refusal (Refused x) is e = refusal_served n w s line refusal (is ∙ e)
+
+-- it is refused, by the line itself or by a rule
+pub served_refused : (n : ℕ) (w : World) (s : Session) (line : List ℕ) (refusal : Refusal) → line_by s.user (line_of built_forms line) ≡ Refused refusal → IsServed n w s line (refuses s refusal)
+served_refused n w s line refusal e = refused_by n w s line refusal (line_of built_forms line) refl e
+
+-- what no rule denies is done as it is by itself
+pub does_permitted : (w : World) (s t : Session) (command : Command) (reply : Reply) (before now : Held) (old new : State) → permit s.user command ≡ None
+    → Does (permitted w s command) s t w reply before now old new → Does (deed w s command) s t w reply before now old new
+does_permitted w s t command reply before now old new free does =
+    subst (λ (o : Option Refusal). Does (unless s o (permitted w s command)) s t w reply before now old new) (sym free) does
+
+pub breaks_permitted : (w : World) (s : Session) (command : Command) (old new : State) → permit s.user command ≡ None
+    → Breaks (permitted w s command) s w old new → Breaks (deed w s command) s w old new
+breaks_permitted w s command old new free breaks =
+    subst (λ (o : Option Refusal). Breaks (unless s o (permitted w s command)) s w old new) (sym free) breaks
 
 -- it was done or refused, and its reply was printed, in part or whole
 module _ (n : ℕ) (w : World) (s t : Session) (line : List ℕ) (d : Deed) (reply : Reply) (before now : Held) (old mid new : State) (is : IsServed n w s line d)
@@ -293,7 +344,7 @@ module _ (n : ℕ) (w : World) (s t : Session) (line : List ℕ) (command : Comm
 
 -- a line that is refused, at a World
 module _ (n : ℕ) (w : World) (s : Session) (line : List ℕ) (refusal : Refusal) (held : Held) (old new : State)
-    (refused_as : line_of built_forms line ≡ Refused refusal) (at : IsAtWorld w held old) where
+    (is : IsServed n w s line (refuses s refusal)) (at : IsAtWorld w held old) where
   told : Does (refuses s refusal) s s w (says.Refused refusal) held held old old
   told = does_told (refuses s refusal) s s w (says.Refused refusal) held old old refl at refl refl
 
@@ -301,7 +352,7 @@ module _ (n : ℕ) (w : World) (s : Session) (line : List ℕ) (refusal : Refusa
   pub serves_refusal : (ok : Bool) (bytes : List ℕ) → bytes ≡ reply_text (says.Refused refusal) → ok ≡ true → Calls (Prints bytes) ok old new
       → Serves n w s s line true true held held old new
   serves_refusal ok bytes text good call =
-      said n w s s line (refuses s refusal) (says.Refused refusal) held held old old new (refusal_served n w s line refusal refused_as) told
+      said n w s s line (refuses s refusal) (says.Refused refusal) held held old old new is told
       (printing told.world held (says.Refused refusal) old new ok bytes text told.at call)
       (printed_at told.world held old new ok bytes good told.at call)
       (printed_more told.world held old new ok bytes good told.at call ∙ ap (λ (b : List ℕ). printed_of old ++ b) text)
@@ -310,11 +361,11 @@ module _ (n : ℕ) (w : World) (s : Session) (line : List ℕ) (refusal : Refusa
   pub serves_refusal_unsaid : (ok : Bool) (bytes : List ℕ) (u : Session) (refused : Bool) (later : Held) → bytes ≡ reply_text (says.Refused refusal) → Calls (Prints bytes) ok old new
       → Serves n w s u line false refused held later old new
   serves_refusal_unsaid ok bytes u refused later text call =
-      unsaid n w s s line (refuses s refusal) (says.Refused refusal) held held old old new (refusal_served n w s line refusal refused_as) told
+      unsaid n w s s line (refuses s refusal) (says.Refused refusal) held held old old new is told
       (printing told.world held (says.Refused refusal) old new ok bytes text told.at call) u refused later
 
   -- nothing was printed
   pub serves_refusal_silent : (u : Session) (refused : Bool) (later : Held) → new.tape ≡ old.tape → Serves n w s u line false refused held later old new
   serves_refusal_silent u refused later tape =
-      unsaid n w s s line (refuses s refusal) (says.Refused refusal) held held old old new (refusal_served n w s line refusal refused_as) told
+      unsaid n w s s line (refuses s refusal) (says.Refused refusal) held held old old new is told
       (looked_found told.world held old new (Says (says.Refused refusal) ∷ []) told.at tape) u refused later

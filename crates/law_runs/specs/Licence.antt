@@ -2,7 +2,8 @@
 --     made_by w items      the moves among these, each with the World before it
 --     Licensed entry before forms steps w s lines space      each attempt of the course that is refused may be
 use Rattle.std.specs.Prelude.{ℕ, zero, suc, List, [], ◌∷◌, ◌++◌, Option, Some, None}
-use Rattle.ov_model.specs.Act.{Session, deed}
+use Rattle.ov_model.specs.Act.{Session}
+use Rattle.ov_model.specs.Deed.{deed}
 use Rattle.ov_model.specs.Course.{Item, Makes, Says, Room, Enough, NoRun, Full, Space, Served, attempts, first, rest, served}
 use Rattle.ov_model.specs.Forms.{Form}
 use Rattle.ov_model.specs.Line.{Line, Comment, Asks, Refused, line_of}

@@ -1,15 +1,22 @@
 -- Extents are counted by the pages that they cover.
-use Rattle.std.proofs.Common.{◌≡◌, ◌≤◌, ℕ, ◌+◌, Bool, true, false, ◌==◌, List, [], ◌∷◌, ◌++◌, length, map, filter, ap, arith}
-use Rattle.std.specs.Prelude.{not, if◌then◌else◌}
+use Rattle.std.proofs.Common.{◌≡◌, ◌≤◌, ℕ, ◌+◌, Bool, true, false, ◌==◌, List, [], ◌∷◌, ◌++◌, length, map, filter, refl, ap, arith}
+use Rattle.std.specs.Prelude.{not, if◌then◌else◌, Option, Some, None}
 use Rattle.std.specs.List.{flat_map}
 use Rattle.std.proofs.lemmas.List.{map-append}
 use Rattle.std.proofs.lemmas.Grind.{flat_map-append}
 use Rattle.ov_host.specs.declared.area.Extent.{Extent}
+use Rattle.ov_event.specs.declared.event.Event as raw
+use Rattle.ov_event.specs.declared.event.Event.TheVariants as says
+use Rattle.ov_layout.specs.Changes.{extents_of}
 use Rattle.ov_place.specs.declared.place_facts.Place.{Place}
 use Rattle.ov_place.specs.declared.place_facts.Place.TheVariants.{Own, Join}
+use Rattle.ov_catalog.specs.declared.field.Field.{Field}
+use Rattle.ov_catalog.specs.declared.field.Field.TheVariants as field
 use Rattle.ov_catalog.specs.Numbers.{VersionNumbers, PartNumbers, SetNumbers, Numbers}
-use Rattle.ov_catalog.specs.Events.{Event, Init, Commit, Drop, Other, own_part, with_joined, join_at, parts_with, version_of, new_set, with_version, numbered, change, applied}
+use Rattle.ov_catalog.specs.Events.{own_part, with_joined, join_at, parts_with, version_of, new_set, with_version, numbered, change, applied}
+use Rattle.ov_catalog.specs.Applying.{Beyond, first_off, is_built_event, off_at}
 use Rattle.ov_catalog.specs.Extents.{of_plan, of_set, live, brought, covers}
+use Rattle.ov_catalog.specs.Raw.{event_in, place_in, shape_in}
 
 covers-append : (a b : List Extent) (page : ℕ) → covers (a ++ b) page ≡ covers a page + covers b page
 covers-append [] b page = omega arith
@@ -91,15 +98,29 @@ module _ (page : ℕ) where
       by true rest = omega (arith, live_cons d (filter (numbered number) sets), live_cons d sets, rest)
       by false rest = omega (arith, live_cons d (filter (λ x. not (numbered number x)) sets), live_cons d sets, rest)
 
-  -- an event's extents come, and no others
-  pub live_applied : (e : Event Extent Extent) (n : Numbers Extent Extent) → covers (live (applied e n)) page ≤ covers (brought e) page + covers (live n) page
-  live_applied (Init name schema rows list segments) n =
-      let new : SetNumbers Extent Extent = new_set n.next name schema rows list segments
+  -- an event's extents come, and no others, of the events that are built: a flip may keep the segments of its source
+  pub live_applied : (e : raw.Event) (n : Numbers Extent Extent) → is_built_event e ≡ true
+      → covers (live (applied (event_in e) n)) page ≤ covers (brought (event_in e)) page + covers (live n) page
+  live_applied (says.Init name schema rows list segment) n built =
+      let new : SetNumbers Extent Extent = new_set n.next name (shape_in schema) rows list (extents_of segment)
       in let split : covers (flat_map of_set (n.sets ++ new ∷ [])) page ≡ covers (flat_map of_set n.sets ++ flat_map of_set (new ∷ [])) page = ap (λ es. covers es page) (flat_map-append of_set n.sets (new ∷ []))
-      in let parts : covers (flat_map (λ p. p.segments) (own_part 1 1 rows segments ∷ [])) page ≡ covers segments page + covers [] page = over_cons (own_part 1 1 rows segments) []
+      in let parts : covers (flat_map (λ p. p.segments) (own_part 1 1 rows (extents_of segment) ∷ [])) page ≡ covers (extents_of segment) page + covers [] page = over_cons (own_part 1 1 rows (extents_of segment)) []
       in omega (arith, split, covers-append (flat_map of_set n.sets) (flat_map of_set (new ∷ [])) page, live_cons new [], set_covers new, parts)
-  live_applied (Commit cvd vid message parents rows fresh place added list segments) n =
-      change_covers cvd (with_version (version_of parents message rows fresh list) place added segments) (list ∷ segments) n.sets
-      (λ d. version_covers (version_of parents message rows fresh list) place added segments d)
-  live_applied (Drop cvd) n = omega (arith, drop_covers cvd n.sets)
-  live_applied Other n = omega arith
+  live_applied (says.Commit cvd vid message parents rows fresh place added list segment) n built =
+      change_covers cvd (with_version (version_of parents message rows fresh list) (place_in place) added (extents_of segment)) (list ∷ extents_of segment) n.sets
+      (λ d. version_covers (version_of parents message rows fresh list) (place_in place) added (extents_of segment) d)
+  live_applied (says.Drop cvd) n built = omega (arith, drop_covers cvd n.sets)
+  live_applied (says.Plan cvd p q targets) n built = cc
+  live_applied (says.Copy cvd count segment) n built = cc
+  live_applied (says.Flip cvd) n built = cc
+  live_applied (says.Base next) n built = cc
+  live_applied (says.Whole said) n built = cc
+  live_applied (says.Wide cvd vid message columns parents rows fresh place added list segment) n built = cc
+
+-- an event that applies is one that is built
+pub applies_built : (e : raw.Event) (n : Numbers Extent Extent) → first_off e n ≡ None → is_built_event e ≡ true
+applies_built e n applies = by (is_built_event e) (off_at (record { format = 2; reach = Beyond }) e n) applies
+  where
+    by : (b : Bool) (o : Option Field) → (if b then o else Some field.Number) ≡ None → b ≡ true
+    by true o none = refl
+    by false o none = cc

@@ -1,28 +1,29 @@
 -- What holds of each World that moves reach: its datasets' numbers differ and are given out in order, the pieces of partitions
--- have known records alone, each version is in one partition, and no plan runs.
+-- have known records alone, in the order of their rids, each version is in one partition, and no plan runs.
 use Rattle.std.proofs.Common.{◌≡◌, ◌<◌, ℕ, ◌+◌, Bool, true, false, ◌==◌, List, [], ◌∷◌, ◌++◌, length, map, filter, refl, sym, ◌∙◌, ap, subst, arith}
-use Rattle.std.specs.List.{All}
-use Rattle.std.specs.declared.cmp.Ordering.{Ordering}
 use Rattle.std.specs.Prelude.{◌≢◌, not, if◌then◌else◌, Option, Some, None, unwrap_or, codes}
 use Rattle.std.proofs.lemmas.Bool.{eqb-true, eq-eqb}
 use Rattle.ov_place.specs.declared.place_facts.Place.{Place}
 use Rattle.ov_place.specs.declared.place_facts.Place.TheVariants.{Own, Join}
-use Rattle.ov_value.specs.Rows.{key_cmp}
 use Rattle.ov_value.specs.Shapes.{Shape}
-use Rattle.ov_value.specs.Spelling.{IsRow}
 use Rattle.ov_model.specs.Book.{Row, Version}
 use Rattle.ov_model.specs.Holding.{AreHeld}
-use Rattle.ov_model.specs.Lists.{AreIn, AllAreIn, IsBelow, Rises}
+use Rattle.ov_model.specs.Lists.{AreIn, AllAreIn}
 use Rattle.ov_model.specs.Moves.{Move, Init, Commit, BeginPlan, Copy, Flip, Drop, Checkpoint, moved, change, numbered, committed, with_version, version_of, placed_at, parts_with, with_joined, own_part, piece_of, new_set}
+use Rattle.ov_model.specs.Ordered.{HasOrder, HaveOrder}
 use Rattle.ov_model.specs.Placed.{IsPlaced, ArePlaced, HasParents, AllHaveParents}
-use Rattle.ov_model.specs.Records.{Rec, recs, records_of, record_of, fresh_in, order_of, is_among, lacking}
-use Rattle.ov_model.specs.World.{Part, Dataset, World, held, first_set, empty_world}
-use Rattle.ov_model.proofs.Growing.{recs_more, order_of_more}
-use Rattle.ov_model.proofs.Origins.{all_known, are_more}
+use Rattle.ov_model.specs.Records.{Rec, ordered_records, recs, records_of, fresh_in, order_of, is_among, lacking}
+use Rattle.ov_model.specs.World.{Part, Dataset, World, held, first_set, empty_world_of}
+use Rattle.ov_model.proofs.Growing.{order_of_more}
+use Rattle.ov_model.proofs.Ordering.{version_ordered, new_ordered, have_append, have_filter, have_changed}
+use Rattle.ov_model.proofs.Origins.{next_known, are_more}
 use Rattle.ov_model.proofs.Holds.{moved_held}
 use Rattle.ov_model.proofs.Placing.{moved_placed}
 use Rattle.ov_catalog.specs.Reached.{AreRows, Fits, IfThere, CommitFits, Leads, Reached}
+use Rattle.ov_catalog.specs.Told.{IsRowed, AreRowed, IsTold}
+use Rattle.ov_catalog.proofs.Ranking.{some_in}
 use Rattle.ov_catalog.proofs.Showing.{PiecesAreIn}
+use Rattle.ov_catalog.proofs.ToldMoves.{rows_append, rowed_append, rowed_filter}
 
 -- none of these datasets has the number
 abbrev pub NoneNumbered : ℕ → List Dataset → Type 0
@@ -46,31 +47,6 @@ abbrev pub AreKnown : List Dataset → Type 0
 AreKnown [] = Unit {0}
 AreKnown (d ∷ sets) = IsKnown d × AreKnown sets
 
--- two records by the keys of their rows
-abbrev pub rec_cmp : Shape → Rec → Rec → Ordering
-rec_cmp schema a b = key_cmp schema a.row b.row
-
-abbrev pub PiecesRise : Shape → List (List Rec) → Type 0
-PiecesRise schema [] = Unit {0}
-PiecesRise schema (piece ∷ pieces) = Rises (rec_cmp schema) piece × PiecesRise schema pieces
-
-abbrev pub PartsRise : Shape → List Part → Type 0
-PartsRise schema [] = Unit {0}
-PartsRise schema (part ∷ parts) = PiecesRise schema part.pieces × PartsRise schema parts
-
-abbrev pub HaveRows : Shape → List Version → Type 0
-HaveRows schema [] = Unit {0}
-HaveRows schema (v ∷ vs) = (Rises (key_cmp schema) v.rows × All (IsRow schema) v.rows) × HaveRows schema vs
-
--- the rows of a dataset's versions are rows of its schema, and they and the pieces of its partitions stand in key order
-pub record IsRowed (d : Dataset) : Type 0 where
-  pub rows : HaveRows d.cvd.schema d.cvd.versions
-  pub pieces : PartsRise d.cvd.schema d.parts
-
-abbrev pub AreRowed : List Dataset → Type 0
-AreRowed [] = Unit {0}
-AreRowed (d ∷ sets) = IsRowed d × AreRowed sets
-
 pub record IsGood (w : World) : Type 0 where
   pub distinct : Distinct w.sets
   pub below : AreBelow w.next w.sets
@@ -78,6 +54,10 @@ pub record IsGood (w : World) : Type 0 where
   pub placed : ArePlaced w.sets
   pub held : AreHeld w.sets
   pub rowed : AreRowed w.sets
+  pub ordered : HaveOrder w.sets
+
+pub told : (w : World) → IsGood w → IsTold w
+told w is = record { placed = is.placed; held = is.held; ordered = is.ordered; rowed = is.rowed }
 
 -- ---- the dataset of a number
 
@@ -126,6 +106,22 @@ found_placed number found (d ∷ sets) are e = by (d.cvd.number == number) e (λ
     by true here later = subst IsPlaced (some_same d found here) are.0
     by false here later = later here
 
+pub found_rowed : (number : ℕ) (found : Dataset) (sets : List Dataset) → AreRowed sets → first_set (numbered number) sets ≡ Some found → IsRowed found
+found_rowed number found [] are e = cc
+found_rowed number found (d ∷ sets) are e = by (d.cvd.number == number) e (λ later. found_rowed number found sets are.1 later)
+  where
+    by : (b : Bool) → (if b then Some d else first_set (numbered number) sets) ≡ Some found → (first_set (numbered number) sets ≡ Some found → IsRowed found) → IsRowed found
+    by true here later = subst IsRowed (some_same d found here) are.0
+    by false here later = later here
+
+pub found_ordered : (number : ℕ) (found : Dataset) (sets : List Dataset) → HaveOrder sets → first_set (numbered number) sets ≡ Some found → HasOrder found
+found_ordered number found [] have e = cc
+found_ordered number found (d ∷ sets) have e = by (d.cvd.number == number) e (λ later. found_ordered number found sets have.1 later)
+  where
+    by : (b : Bool) → (if b then Some d else first_set (numbered number) sets) ≡ Some found → (first_set (numbered number) sets ≡ Some found → HasOrder found) → HasOrder found
+    by true here later = subst HasOrder (some_same d found here) have.0
+    by false here later = later here
+
 -- ---- pieces, as a version comes
 
 lacking_in : (rs others all : List Rec) → AreIn rs all → AreIn (lacking rs others) all
@@ -168,20 +164,10 @@ placed_in : (all : List Rec) (place : Place) (next vid : ℕ) (rs : List Rec) (p
 placed_in all Own next vid rs parts ours are = parts_append all parts (own_part next vid rs ∷ []) are (piece_in rs all ours, tt)
 placed_in all (Join id) next vid rs parts ours are = join_in all id vid rs parts ours are
 
-last_in : (done : List (List Rec)) (l all : List Rec) → AllAreIn (done ++ l ∷ []) all → AreIn l all
-last_in [] l all are = are.0
-last_in (x ∷ done) l all are = last_in done l all are.1
-
--- the records of the next version are known then
-ours_known : (vs : List Version) (v : Version) → AreIn (records_of v (recs vs [])) (order_of (vs ++ v ∷ []))
-ours_known vs v =
-    last_in (recs vs []) (records_of v (recs vs [])) (order_of (vs ++ v ∷ []))
-    (subst (λ rss. AllAreIn rss (order_of (vs ++ v ∷ []))) (recs_more vs v []) (all_known (vs ++ v ∷ [])))
-
 version_known : (v : Version) (d : Dataset) → IsKnown d → IsKnown (with_version v d)
 version_known v d is = record {
-  pieces = placed_in (order_of (d.cvd.versions ++ v ∷ [])) (placed_at d v) d.next_part (length d.cvd.versions + 1) (records_of v (recs d.cvd.versions [])) d.parts
-      (ours_known d.cvd.versions v)
+  pieces = placed_in (order_of (d.cvd.versions ++ v ∷ [])) (placed_at d v) d.next_part (length d.cvd.versions + 1) (ordered_records d.cvd.versions v) d.parts
+      (some_in (is_among (records_of v (recs d.cvd.versions []))) (order_of (d.cvd.versions ++ v ∷ [])))
       (subst (λ all. PiecesAreIn all d.parts) (sym (order_of_more d.cvd.versions v))
       (parts_more (order_of d.cvd.versions) (fresh_in (records_of v (recs d.cvd.versions [])) (1 + length (recs d.cvd.versions []))) d.parts is.pieces));
   plan = is.plan;
@@ -189,7 +175,7 @@ version_known v d is = record {
 
 new_known : (number : ℕ) (name : List ℕ) (schema : Shape) (rows : List Row) → IsKnown (new_set number name schema rows)
 new_known number name schema rows = record {
-  pieces = (piece_in (records_of (version_of [] (codes "init") rows) []) (order_of (version_of [] (codes "init") rows ∷ [])) (ours_known [] (version_of [] (codes "init") rows)), tt);
+  pieces = (piece_in (records_of (version_of [] (codes "init") rows) []) (order_of (version_of [] (codes "init") rows ∷ [])) (next_known [] (version_of [] (codes "init") rows)), tt);
   plan = refl;
 }
 
@@ -281,84 +267,13 @@ below_filter next test (d ∷ sets) below = by (test d) (below_filter next test 
     by true rest = (below.0, rest)
     by false rest = rest
 
--- ---- rows and pieces in key order
-
-map_below : (schema : Shape) (f : Row → Rec) → ((row : Row) → (f row).row ≡ row) → (x : Row) (rows : List Row) → IsBelow (key_cmp schema) x rows → IsBelow (rec_cmp schema) (f x) (map f rows)
-map_below schema f is x [] below = tt
-map_below schema f is x (row ∷ rows) below = ((λ i. key_cmp schema (is x i) (is row i)) ∙ below.0, map_below schema f is x rows below.1)
-
-map_rises : (schema : Shape) (f : Row → Rec) → ((row : Row) → (f row).row ≡ row) → (rows : List Row) → Rises (key_cmp schema) rows → Rises (rec_cmp schema) (map f rows)
-map_rises schema f is [] rises = tt
-map_rises schema f is (row ∷ rows) rises = (map_below schema f is row rows rises.0, map_rises schema f is rows rises.1)
-
-lacking_below : (schema : Shape) (x : Rec) (rs others : List Rec) → IsBelow (rec_cmp schema) x rs → IsBelow (rec_cmp schema) x (lacking rs others)
-lacking_below schema x [] others below = tt
-lacking_below schema x (r ∷ rs) others below = by (not (is_among others r)) (lacking_below schema x rs others below.1)
-  where
-    by : (b : Bool) → IsBelow (rec_cmp schema) x (lacking rs others) → IsBelow (rec_cmp schema) x (if b then r ∷ lacking rs others else lacking rs others)
-    by true rest = (below.0, rest)
-    by false rest = rest
-
-lacking_rises : (schema : Shape) (rs others : List Rec) → Rises (rec_cmp schema) rs → Rises (rec_cmp schema) (lacking rs others)
-lacking_rises schema [] others rises = tt
-lacking_rises schema (r ∷ rs) others rises = by (not (is_among others r)) (lacking_rises schema rs others rises.1)
-  where
-    by : (b : Bool) → Rises (rec_cmp schema) (lacking rs others) → Rises (rec_cmp schema) (if b then r ∷ lacking rs others else lacking rs others)
-    by true rest = (lacking_below schema r rs others rises.0, rest)
-    by false rest = rest
-
-piece_rises : (schema : Shape) (rs : List Rec) → Rises (rec_cmp schema) rs → PiecesRise schema (piece_of rs)
-piece_rises schema [] rises = tt
-piece_rises schema (r ∷ rs) rises = (rises, tt)
-
-pieces_rise_append : (schema : Shape) (a b : List (List Rec)) → PiecesRise schema a → PiecesRise schema b → PiecesRise schema (a ++ b)
-pieces_rise_append schema [] b rise more = more
-pieces_rise_append schema (piece ∷ a) b rise more = (rise.0, pieces_rise_append schema a b rise.1 more)
-
-parts_rise_append : (schema : Shape) (a b : List Part) → PartsRise schema a → PartsRise schema b → PartsRise schema (a ++ b)
-parts_rise_append schema [] b rise more = more
-parts_rise_append schema (part ∷ a) b rise more = (rise.0, parts_rise_append schema a b rise.1 more)
-
-join_rises : (schema : Shape) (id vid : ℕ) (rs : List Rec) (parts : List Part) → Rises (rec_cmp schema) rs → PartsRise schema parts → PartsRise schema (map (λ part. if part.id == id then with_joined vid rs part else part) parts)
-join_rises schema id vid rs [] ours rise = tt
-join_rises schema id vid rs (part ∷ parts) ours rise = (by (part.id == id), join_rises schema id vid rs parts ours rise.1)
-  where
-    by : (b : Bool) → PiecesRise schema (if b then with_joined vid rs part else part).pieces
-    by true = pieces_rise_append schema part.pieces (piece_of (lacking rs (held part))) rise.0 (piece_rises schema (lacking rs (held part)) (lacking_rises schema rs (held part) ours))
-    by false = rise.0
-
-placed_rises : (schema : Shape) (place : Place) (next vid : ℕ) (rs : List Rec) (parts : List Part) → Rises (rec_cmp schema) rs → PartsRise schema parts → PartsRise schema (parts_with place next vid rs parts)
-placed_rises schema Own next vid rs parts ours rise = parts_rise_append schema parts (own_part next vid rs ∷ []) rise (piece_rises schema rs ours, tt)
-placed_rises schema (Join id) next vid rs parts ours rise = join_rises schema id vid rs parts ours rise
-
-rows_append : (schema : Shape) (a b : List Version) → HaveRows schema a → HaveRows schema b → HaveRows schema (a ++ b)
-rows_append schema [] b have more = more
-rows_append schema (v ∷ a) b have more = (have.0, rows_append schema a b have.1 more)
+-- ---- rows in key order
 
 version_rowed : (v : Version) (d : Dataset) → AreRows d.cvd.schema v.rows → IsRowed d → IsRowed (with_version v d)
-version_rowed v d are is = record {
-  rows = rows_append d.cvd.schema d.cvd.versions (v ∷ []) is.rows ((are.rise, are.fit), tt);
-  pieces = placed_rises d.cvd.schema (placed_at d v) d.next_part (length d.cvd.versions + 1) (records_of v (recs d.cvd.versions [])) d.parts
-      (map_rises d.cvd.schema (record_of v.parents (recs d.cvd.versions [])) (λ row. refl) v.rows are.rise) is.pieces;
-}
+version_rowed v d are is = record { rows = rows_append d.cvd.schema d.cvd.versions (v ∷ []) is.rows ((are.rise, are.fit), tt) }
 
 new_rowed : (number : ℕ) (name : List ℕ) (schema : Shape) (rows : List Row) → AreRows schema rows → IsRowed (new_set number name schema rows)
-new_rowed number name schema rows are = record {
-  rows = ((are.rise, are.fit), tt);
-  pieces = (piece_rises schema (records_of (version_of [] (codes "init") rows) []) (map_rises schema (record_of [] []) (λ row. refl) rows are.rise), tt);
-}
-
-rowed_append : (a b : List Dataset) → AreRowed a → AreRowed b → AreRowed (a ++ b)
-rowed_append [] b are more = more
-rowed_append (d ∷ a) b are more = (are.0, rowed_append a b are.1 more)
-
-rowed_filter : (test : Dataset → Bool) (sets : List Dataset) → AreRowed sets → AreRowed (filter test sets)
-rowed_filter test [] are = tt
-rowed_filter test (d ∷ sets) are = by (test d) (rowed_filter test sets are.1)
-  where
-    by : (b : Bool) → AreRowed (filter test sets) → AreRowed (if b then d ∷ filter test sets else filter test sets)
-    by true rest = (are.0, rest)
-    by false rest = rest
+new_rowed number name schema rows are = record { rows = ((are.rise, are.fit), tt) }
 
 rowed_change : (number : ℕ) (f : Dataset → Dataset) (found : Dataset) (sets : List Dataset) → IsOnly number found sets → (IsRowed found → IsRowed (f found)) → AreRowed sets → AreRowed (change number f sets)
 rowed_change number f found [] only keeps are = tt
@@ -368,10 +283,10 @@ rowed_change number f found (d ∷ sets) only keeps are = (by (d.cvd.number == n
     by true is = subst (λ x. IsRowed (f x)) (sym (only.0 (is refl))) (keeps (subst IsRowed (only.0 (is refl)) are.0))
     by false is = are.0
 
-rowed_commit : (cvd : ℕ) (parents message : List ℕ) (rows : List Row) (sets : List Dataset) (found : Option Dataset) → Distinct sets → first_set (numbered cvd) sets ≡ found
-    → IfThere (λ d. CommitFits d (version_of parents message rows)) found → AreRowed sets → AreRowed (change cvd (committed parents message [] rows) sets)
-rowed_commit cvd parents message rows sets None distinct e fits are = absurd fits
-rowed_commit cvd parents message rows sets (Some d) distinct e fits are =
+rowed_commit : (w : World) (cvd : ℕ) (parents message : List ℕ) (rows : List Row) (sets : List Dataset) (found : Option Dataset) → Distinct sets → first_set (numbered cvd) sets ≡ found
+    → IfThere (λ d. CommitFits w d (version_of parents message rows)) found → AreRowed sets → AreRowed (change cvd (committed parents message [] rows) sets)
+rowed_commit w cvd parents message rows sets None distinct e fits are = absurd fits
+rowed_commit w cvd parents message rows sets (Some d) distinct e fits are =
     rowed_change cvd (committed parents message [] rows) d sets (found_only cvd d sets distinct e) (version_rowed (version_of parents message rows) d fits.rows) are
 
 -- ---- moves
@@ -380,9 +295,9 @@ parents_of : (cvd : ℕ) (parents : List ℕ) (found : Dataset) (sets : List Dat
 parents_of cvd parents found [] only has = tt
 parents_of cvd parents found (d ∷ sets) only has = ((λ same. subst (HasParents parents) (sym (only.0 same)) has), parents_of cvd parents found sets only.1 has)
 
-has_parents : (cvd : ℕ) (v : Version) (sets : List Dataset) (found : Option Dataset) → Distinct sets → first_set (numbered cvd) sets ≡ found → IfThere (λ d. CommitFits d v) found → AllHaveParents cvd v.parents sets
-has_parents cvd v sets None distinct e fits = absurd fits
-has_parents cvd v sets (Some d) distinct e fits = parents_of cvd v.parents d sets (found_only cvd d sets distinct e) (fits.parents.some, fits.parents.there)
+has_parents : (w : World) (cvd : ℕ) (v : Version) (sets : List Dataset) (found : Option Dataset) → Distinct sets → first_set (numbered cvd) sets ≡ found → IfThere (λ d. CommitFits w d v) found → AllHaveParents cvd v.parents sets
+has_parents w cvd v sets None distinct e fits = absurd fits
+has_parents w cvd v sets (Some d) distinct e fits = parents_of cvd v.parents d sets (found_only cvd d sets distinct e) (fits.parents.some, fits.parents.there)
 
 pub good_moved : (m : Move) (w : World) → Fits m w → IsGood w → IsGood (moved m w)
 good_moved (Init name schema rows) w fits is = record {
@@ -392,15 +307,17 @@ good_moved (Init name schema rows) w fits is = record {
   placed = moved_placed (Init name schema rows) w tt is.placed;
   held = moved_held (Init name schema rows) w tt is.placed is.held;
   rowed = rowed_append w.sets (new_set w.next name schema rows ∷ []) is.rowed (new_rowed w.next name schema rows fits.sorted, tt);
+  ordered = have_append w.sets (new_set w.next name schema rows ∷ []) is.ordered (new_ordered w.next name schema rows, tt);
 }
 good_moved (Commit cvd parents message [] rows) w fits is = record {
   distinct = distinct_change cvd (committed parents message [] rows) w.sets (λ d. refl) is.distinct;
   below = below_change w.next cvd (committed parents message [] rows) w.sets (λ d. refl) is.below;
   known = known_change cvd (committed parents message [] rows) w.sets (λ d known. version_known (version_of parents message rows) d known) is.known;
   placed = moved_placed (Commit cvd parents message [] rows) w
-      (has_parents cvd (version_of parents message rows) w.sets (first_set (numbered cvd) w.sets) is.distinct refl fits) is.placed;
+      (has_parents w cvd (version_of parents message rows) w.sets (first_set (numbered cvd) w.sets) is.distinct refl fits) is.placed;
   held = moved_held (Commit cvd parents message [] rows) w tt is.placed is.held;
-  rowed = rowed_commit cvd parents message rows w.sets (first_set (numbered cvd) w.sets) is.distinct refl fits is.rowed;
+  rowed = rowed_commit w cvd parents message rows w.sets (first_set (numbered cvd) w.sets) is.distinct refl fits is.rowed;
+  ordered = have_changed cvd (committed parents message [] rows) w.sets (version_ordered (version_of parents message rows)) is.ordered;
 }
 good_moved (Commit cvd parents message (column ∷ added) rows) w fits is = absurd fits
 good_moved (BeginPlan cvd p q) w fits is = absurd fits
@@ -413,6 +330,7 @@ good_moved (Drop cvd) w fits is = record {
   placed = moved_placed (Drop cvd) w tt is.placed;
   held = moved_held (Drop cvd) w tt is.placed is.held;
   rowed = rowed_filter (λ d. not (numbered cvd d)) w.sets is.rowed;
+  ordered = have_filter (λ d. not (numbered cvd d)) w.sets is.ordered;
 }
 good_moved Checkpoint w fits is = absurd fits
 
@@ -421,7 +339,7 @@ good_leads [] v w leads is = subst IsGood leads is
 good_leads (m ∷ ms) v w leads is = good_leads ms (moved m v) w leads.1 (good_moved m v leads.0 is)
 
 pub good : (w : World) → Reached w → IsGood w
-good w reached = good_leads reached.0 empty_world w reached.1 (record { distinct = tt; below = tt; known = tt; placed = tt; held = tt; rowed = tt })
+good w reached = good_leads reached.2 (empty_world_of reached.0) w reached.3 (record { distinct = tt; below = tt; known = tt; placed = tt; held = tt; rowed = tt; ordered = tt })
 
 -- one move more
 leads_more : (ms : List Move) (m : Move) (v w : World) → Leads v ms w → Fits m w → Leads v (ms ++ m ∷ []) (moved m w)
@@ -429,4 +347,5 @@ leads_more [] m v w leads fits = (subst (Fits m) (sym leads) fits, ap (moved m) 
 leads_more (k ∷ ms) m v w leads fits = (leads.0, leads_more ms m (moved k v) w leads.1 fits)
 
 pub reached_more : (m : Move) (w : World) → Reached w → Fits m w → Reached (moved m w)
-reached_more m w reached fits = (reached.0 ++ m ∷ [], leads_more reached.0 m empty_world w reached.1 fits)
+reached_more m w reached fits =
+    (reached.0, reached.1, reached.2 ++ m ∷ [], leads_more reached.2 m (empty_world_of reached.0) w reached.3 fits)

@@ -1,10 +1,13 @@
 pub mod Filling
 pub mod Showing
+pub mod ToldMoves
 pub mod Good
 pub mod Moving
 pub mod Covering
 pub mod Standing
 pub mod Members
+pub mod Rising
+pub mod Ranking
 pub mod Only
 pub mod SetLemmas
 pub mod PartLemmas
@@ -12,4 +15,7 @@ pub mod CommitLemmas
 pub mod SchemaLemmas
 pub mod RoomLemmas
 pub mod StepLemmas
+pub mod Following
 pub mod WorkedLemmas
+pub mod Ascending
+pub mod WorkedChains

@@ -1,21 +1,37 @@
 -- Events are moves: the event of a move makes of a World's numbers those of the World after it.
-use Rattle.std.proofs.Common.{◌≡◌, ℕ, ◌+◌, Bool, true, false, ◌==◌, List, [], ◌∷◌, ◌++◌, length, map, filter, refl, sym, ◌∙◌, ap, subst}
-use Rattle.std.specs.Prelude.{not, if◌then◌else◌, Option, Some, None, codes}
+use Rattle.std.proofs.Common.{◌≡◌, ◌<◌, ℕ, ◌+◌, Bool, true, false, ◌==◌, List, [], ◌∷◌, ◌++◌, length, map, filter, refl, sym, ◌∙◌, ap, subst}
+use Rattle.std.specs.Prelude.{◌≢◌, not, if◌then◌else◌, Option, Some, None, is_some, unwrap_or, codes}
 use Rattle.std.proofs.lemmas.Bool.{eqb-true}
-use Rattle.std.proofs.lemmas.List.{map-append}
+use Rattle.std.proofs.lemmas.List.{map-append, append-nil, append_assoc}
+use Rattle.ov_value.specs.Rows.{key_cmp}
+use Rattle.ov_value.specs.Shapes.{Shape}
 use Rattle.ov_model.specs.Book.{Row, Version}
+use Rattle.ov_model.specs.Lists.{Rises}
 use Rattle.ov_model.specs.Moves as moves
-use Rattle.ov_model.specs.Moves.{Move, numbered, moved, committed, version_of, placed_at, piece_of}
-use Rattle.ov_model.specs.Records.{recs, records_of, order_of}
+use Rattle.ov_model.specs.Moves.{Move, numbered, moved, committed, version_of, placed_at, piece_of, wide}
+use Rattle.ov_model.specs.Plans.{missing}
+use Rattle.ov_model.specs.Records.{AllRise, recs, records_of, order_of}
+use Rattle.ov_model.specs.Ordered.{HasOrder}
 use Rattle.ov_model.specs.Placed.{IsPlaced}
 use Rattle.ov_model.specs.World.{Dataset, World, first_set}
-use Rattle.ov_catalog.specs.Numbers.{SetNumbers}
+use Rattle.ov_model.specs.World as worlds
+use Rattle.ov_model.proofs.Rids.{rows_once, order_of_once}
+use Rattle.ov_event.specs.declared.event.Event as raw
+use Rattle.ov_host.specs.declared.area.Extent.{Extent}
+use Rattle.ov_catalog.specs.Numbers.{SetNumbers, Numbers, nothing_yet}
 use Rattle.ov_catalog.specs.Events as events
-use Rattle.ov_catalog.specs.Events.{applied}
-use Rattle.ov_catalog.specs.Reached.{Fits, IfThere, CommitFits}
-use Rattle.ov_catalog.specs.Shown.{Rids, Records, segment_of, shown_version, shown_set, shown, added_to, commit_in, event_of}
-use Rattle.ov_catalog.proofs.Good.{NoneNumbered, Distinct, IsGood, IsKnown, found_known, found_placed}
+use Rattle.ov_catalog.specs.Events.{Event, applied, replayed}
+use Rattle.ov_catalog.specs.Reached.{Suits, Fits, IfThere, IfRunning, CommitFits, PlanFits, TakesColumns, MissesSome}
+use Rattle.ov_catalog.specs.Shown.{Rids, Records, segment_of, shown_version, shown_set, shown, added_to, init_event, commit_event, wide_event, plan_event, copy_for, in_set, commit_in, event_of, snapshot_of}
+use Rattle.ov_catalog.specs.Raw.{numbers_in}
+use Rattle.ov_catalog.specs.Snapshots.{IsSnapshot, events_of}
+use Rattle.ov_catalog.proofs.Good.{NoneNumbered, Distinct, IsGood, IsKnown, found_known, found_placed, found_rowed, found_ordered}
+use Rattle.ov_catalog.specs.Told.{IsRowed}
 use Rattle.ov_catalog.proofs.Showing.{version_shown, new_shown}
+use Rattle.ov_catalog.proofs.ToldMoves.{all_rise}
+
+pub some_same : {A : Type 0} (a b : A) → Some a ≡ Some b → a ≡ b
+some_same a b e = ap (λ o. unwrap_or o a) e
 
 unchanged : (number : ℕ) (f : Dataset → Dataset) (sets : List Dataset) → NoneNumbered number sets → moves.change number f sets ≡ sets
 unchanged number f [] none = refl
@@ -60,29 +76,98 @@ committed_numbers d v =
     (length (added_to (placed_at d v) d.parts (records_of v (recs d.cvd.versions []))))
     (map (segment_of (order_of (d.cvd.versions ++ v ∷ []))) (piece_of (added_to (placed_at d v) d.parts (records_of v (recs d.cvd.versions [])))))
 
+rise_more : (schema : Shape) (vs : List Version) (v : Version) → AllRise schema vs → Rises (key_cmp schema) v.rows → AllRise schema (vs ++ v ∷ [])
+rise_more schema [] v rise more = (more, tt)
+rise_more schema (w ∷ vs) v rise more = (rise.0, rise_more schema vs v rise.1 more)
+
 commit_shown : (cvd : ℕ) (parents message : List ℕ) (rows : List Row) (w : World) (found : Option Dataset) → first_set (numbered cvd) w.sets ≡ found
-    → IfThere (λ d. CommitFits d (version_of parents message rows)) found → IsGood w
-    → shown (moved (moves.Commit cvd parents message [] rows) w) ≡ applied (commit_in cvd (version_of parents message rows) found) (shown w)
-commit_shown cvd parents message rows w None e fits is = absurd fits
-commit_shown cvd parents message rows w (Some d) e fits is =
+    → IfThere (λ d. CommitFits w d (version_of parents message rows)) found → IsGood w
+    → (e : Event Rids Records) → commit_in cvd (version_of parents message rows) found ≡ Some e
+    → shown (moved (moves.Commit cvd parents message [] rows) w) ≡ applied e (shown w)
+commit_shown cvd parents message rows w None e fits is event said = absurd fits
+commit_shown cvd parents message rows w (Some d) e fits is event said =
     let known : IsKnown d = found_known cvd d w.sets is.known e
     in let placed : IsPlaced d = found_placed cvd d w.sets is.placed e
-    in λ i. record {
+    in let rowed : IsRowed d = found_rowed cvd d w.sets is.rowed e
+    in let ordered : HasOrder d = found_ordered cvd d w.sets is.ordered e
+    in let v : Version = version_of parents message rows
+    in let rise : AllRise d.cvd.schema (d.cvd.versions ++ v ∷ []) = rise_more d.cvd.schema d.cvd.versions v (all_rise d.cvd.schema d.cvd.versions rowed.rows) fits.rows.rise
+    in subst (λ x. shown (moved (moves.Commit cvd parents message [] rows) w) ≡ applied x (shown w))
+    (some_same (commit_event cvd d v) event said)
+    (λ i. record {
       next = w.next;
-      sets = changed_shown cvd (committed parents message [] rows) (committed_numbers d (version_of parents message rows)) d w.sets is.distinct e
-          (version_shown d (version_of parents message rows) known.pieces placed.ids_once known.plan) i;
-    }
+      sets = changed_shown cvd (committed parents message [] rows) (committed_numbers d v) d w.sets is.distinct e
+          (version_shown d v known.pieces placed.ids_once placed.targets ordered.plan
+          (rows_once d.cvd.schema parents (recs d.cvd.versions []) rows fits.rows.rise) (order_of_once d.cvd.schema (d.cvd.versions ++ v ∷ []) rise)) i;
+    })
 
-pub events_are_moves : (m : Move) (w : World) → Fits m w → IsGood w → shown (moved m w) ≡ applied (event_of m w) (shown w)
-events_are_moves (moves.Init name schema rows) w fits is = λ i. record {
-  next = w.next + 1;
-  sets = (map-append shown_set w.sets (moves.new_set w.next name schema rows ∷ [])
-      ∙ ap (λ d. map shown_set w.sets ++ d ∷ []) (new_shown w.next name schema rows (version_of [] (codes "init") rows) refl)) i;
-}
-events_are_moves (moves.Commit cvd parents message [] rows) w fits is = commit_shown cvd parents message rows w (first_set (numbered cvd) w.sets) refl fits is
-events_are_moves (moves.Commit cvd parents message (column ∷ added) rows) w fits is = absurd fits
-events_are_moves (moves.BeginPlan cvd p q) w fits is = absurd fits
-events_are_moves (moves.Copy cvd) w fits is = absurd fits
-events_are_moves (moves.Flip cvd) w fits is = absurd fits
-events_are_moves (moves.Drop cvd) w fits is = λ i. record { next = w.next; sets = dropped_shown cvd w.sets i }
-events_are_moves moves.Checkpoint w fits is = absurd fits
+pub events_are_moves : (m : Move) (w : World) → Fits m w → IsGood w → (e : Event Rids Records) → event_of m w ≡ Some e → shown (moved m w) ≡ applied e (shown w)
+events_are_moves (moves.Init name schema rows) w fits is e said =
+    subst (λ x. shown (moved (moves.Init name schema rows) w) ≡ applied x (shown w))
+    (some_same (init_event name (version_of [] (codes "init") rows) schema) e said)
+    (λ i. record {
+      next = w.next + 1;
+      sets = (map-append shown_set w.sets (moves.new_set w.next name schema rows ∷ [])
+          ∙ ap (λ d. map shown_set w.sets ++ d ∷ []) (new_shown w.next name schema rows (version_of [] (codes "init") rows) refl)) i;
+    })
+events_are_moves (moves.Commit cvd parents message [] rows) w fits is e said = commit_shown cvd parents message rows w (first_set (numbered cvd) w.sets) refl fits is e said
+events_are_moves (moves.Commit cvd parents message (column ∷ added) rows) w fits is e said = absurd fits
+events_are_moves (moves.BeginPlan cvd p q) w fits is e said = absurd fits
+events_are_moves (moves.Copy cvd) w fits is e said = absurd fits
+events_are_moves (moves.Flip cvd) w fits is e said = absurd fits
+events_are_moves (moves.Drop cvd) w fits is e said =
+    subst (λ x. shown (moved (moves.Drop cvd) w) ≡ applied x (shown w)) (some_same (events.Drop cvd) e said)
+    (λ i. record { next = w.next; sets = dropped_shown cvd w.sets i })
+events_are_moves moves.Checkpoint w fits is e said = absurd fits
+
+-- a move that suits has one event, but for a checkpoint
+commit_some : (cvd : ℕ) (v : Version) (found : Option Dataset) (P : Dataset → Type 0) → IfThere P found → is_some (commit_in cvd v found) ≡ true
+commit_some cvd v None P fits = absurd fits
+commit_some cvd v (Some d) P fits = refl
+
+in_some : (f : Dataset → Event Rids Records) (found : Option Dataset) (P : Dataset → Type 0) → IfThere P found → is_some (in_set (λ d. Some (f d)) found) ≡ true
+in_some f None P fits = absurd fits
+in_some f (Some d) P fits = refl
+
+copy_some : (cvd : ℕ) (found : Option Dataset) → IfThere MissesSome found → is_some (in_set (λ d. copy_for cvd d d.plan) found) ≡ true
+copy_some cvd None fits = absurd fits
+copy_some cvd (Some d) fits = by d.plan fits
+  where
+    by : (plan : Option worlds.Plan) → IfRunning (λ p. 0 < length (missing d p)) plan → is_some (copy_for cvd d plan) ≡ true
+    by None runs = absurd runs
+    by (Some p) runs = refl
+
+pub one_event : (m : Move) (w : World) → m ≢ moves.Checkpoint → Suits m w → is_some (event_of m w) ≡ true
+one_event (moves.Init name schema rows) w other suits = refl
+one_event (moves.Commit cvd parents message [] rows) w other suits =
+    commit_some cvd (version_of parents message rows) (first_set (numbered cvd) w.sets) (λ d. CommitFits w d (version_of parents message rows)) suits
+one_event (moves.Commit cvd parents message (column ∷ added) rows) w other suits =
+    in_some (λ d. wide_event cvd (column ∷ added) (wide (column ∷ added) d) (version_of parents message rows)) (first_set (numbered cvd) w.sets)
+    (λ d. TakesColumns w d (column ∷ added) × CommitFits w (wide (column ∷ added) d) (version_of parents message rows)) suits
+one_event (moves.BeginPlan cvd p q) w other suits = in_some (plan_event cvd p q) (first_set (numbered cvd) w.sets) (PlanFits p q) suits
+one_event (moves.Copy cvd) w other suits = copy_some cvd (first_set (numbered cvd) w.sets) suits
+one_event (moves.Flip cvd) w other suits = refl
+one_event (moves.Drop cvd) w other suits = refl
+one_event moves.Checkpoint w other suits = absurd (other refl)
+
+-- ---- snapshots
+
+wholes_replayed : {L S : Type 0} (sets before : List (SetNumbers L S)) (next : ℕ)
+    → replayed (map (λ d. events.Whole d) sets) (record { next = next; sets = before }) ≡ record { next = next; sets = before ++ sets }
+wholes_replayed [] before next = λ i. record { next = next; sets = sym (append-nil before) i }
+wholes_replayed (d ∷ sets) before next =
+    wholes_replayed sets (before ++ d ∷ []) next ∙ (λ i. record { next = next; sets = append_assoc before (d ∷ []) sets i })
+
+-- a snapshot says the numbers, whatever came before
+pub snapshot_replayed : {L S : Type 0} (n before : Numbers L S) → replayed (events_of n) before ≡ n
+snapshot_replayed n before = wholes_replayed n.sets [] n.next
+
+pub snapshot_numbers : (events : List raw.Event) (n : Numbers Extent Extent) → IsSnapshot events n → numbers_in events ≡ n
+snapshot_numbers events n is = ap (λ es. replayed es nothing_yet) is ∙ snapshot_replayed n nothing_yet
+
+wholes_shown : (sets : List Dataset) → map (λ d. events.Whole (shown_set d)) sets ≡ map (λ d. events.Whole d) (map shown_set sets)
+wholes_shown [] = refl
+wholes_shown (d ∷ sets) = ap (λ es. events.Whole (shown_set d) ∷ es) (wholes_shown sets)
+
+pub world_replayed : (w : World) (before : Numbers Rids Records) → replayed (snapshot_of w) before ≡ shown w
+world_replayed w before = ap (λ es. replayed (events.Base w.next ∷ es) before) (wholes_shown w.sets) ∙ snapshot_replayed (shown w) before

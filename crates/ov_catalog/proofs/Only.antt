@@ -1,9 +1,8 @@
--- Two Worlds that moves reach and that show the same are the same. The rows of a version are found by its list, whose rids the
--- segments give rows; parents and messages are shown as they are. So the versions are the same, with them all records, and then
--- the pieces.
+-- Two Worlds that are told by their numbers and show the same are the same. The rows of a version are found by its list, whose rids the
+-- segments give rows; parents and messages are shown as they are. So the versions are the same, with them all records, then the
+-- pieces, which have their records in the order of rids, and the plans.
 use Rattle.std.proofs.Common.{◌≡◌, ◌≤◌, ◌<◌, ◌⊎◌, ℕ, zero, suc, ◌+◌, ◌-◌, Bool, true, false, ◌==◌, List, [], ◌∷◌, ◌++◌, length, map, get_or, refl, sym, ◌∙◌, ap, subst, inl, inr, arith}
-use Rattle.std.specs.Prelude.{◌||◌, filter, if◌then◌else◌}
-use Rattle.std.specs.Cmp.{IsTotalOrder, on_total}
+use Rattle.std.specs.Prelude.{◌||◌, filter, if◌then◌else◌, Option, Some, None, unwrap_or}
 use Rattle.std.specs.List.{All}
 use Rattle.std.proofs.lemmas.Bool.{cases_Bool, eqb-true}
 use Rattle.ov_value.specs.declared.spelled.RowBytes.{RowBytes}
@@ -15,46 +14,21 @@ use Rattle.ov_value.proofs.MarkLemmas.{rows_same}
 use Rattle.ov_model.specs.Book.{Row, Version}
 use Rattle.ov_model.specs.Holding.{VersionsAreIn, PartsHold, IsHeld, AreHeld}
 use Rattle.ov_model.specs.Lists.{IsIn, AreIn, AllAreIn, joined}
+use Rattle.ov_model.specs.Ordered.{IsInOrder, AreInOrder, PartsAreInOrder, CopiesAreInOrder, HasOrder, HaveOrder}
 use Rattle.ov_model.specs.Placed.{IsPlaced, ArePlaced, part_times}
-use Rattle.ov_model.specs.Records.{Rec, is_same_rec, record_of, records_of, recs, of_version, fresh_in, order, order_of, rid_in, weights}
-use Rattle.ov_model.specs.World.{Part, Dataset, World, held, is_one}
+use Rattle.ov_model.specs.Records.{Rec, is_among, record_of, records_of, recs, of_version, fresh_in, order, order_of, rid_in, weights}
+use Rattle.ov_model.specs.World.{Part, Target, Plan, Dataset, World, held, is_one}
 use Rattle.ov_model.proofs.Counting.{not_listed}
-use Rattle.ov_model.proofs.Growing.{same_rec-refl, length_recs}
-use Rattle.ov_model.proofs.Holds.{same_recs}
+use Rattle.ov_model.proofs.Growing.{length_recs}
+use Rattle.ov_model.proofs.Holds.{among_in, in_among}
+use Rattle.ov_model.proofs.Ordering.{filter_same}
+use Rattle.ov_model.proofs.Widening.{same_bool}
 use Rattle.ov_catalog.specs.Numbers.{VersionNumbers, PartNumbers}
-use Rattle.ov_catalog.specs.Shown.{Rids, Records, list_of, kept_as, segment_of, shown_version, shown_versions, shown_part, shown_set, shown}
-use Rattle.ov_catalog.proofs.Good.{rec_cmp, PiecesRise, PartsRise, HaveRows, IsRowed, AreRowed, IsKnown, AreKnown, IsGood}
+use Rattle.ov_catalog.specs.Shown.{Rids, Records, list_of, kept_as, segment_of, shown_version, shown_versions, shown_part, shown_target, shown_plan, shown_set, shown}
+use Rattle.ov_catalog.specs.Told.{HaveRows, IsRowed, AreRowed, IsTold}
 use Rattle.ov_catalog.proofs.Members.{all_at, left_in, right_in, of_append, in_map, of_map, in_sorted, of_sorted, same_rising, heads, tails}
+use Rattle.ov_catalog.proofs.Ranking.{place_same, are_in_at, order_known}
 use Rattle.ov_catalog.proofs.Showing.{PiecesAreIn, before_in, done_in}
-
--- ---- a rid is one record's
-
-rid_some : (xs : List Rec) (r : Rec) → 1 ≤ rid_in xs r
-rid_some [] r = omega arith
-rid_some (x ∷ xs) r = by (is_same_rec r x)
-  where
-    by : (b : Bool) → 1 ≤ (if b then 1 else rid_in xs r + 1)
-    by true = omega arith
-    by false = omega arith
-
-rest_in : (x r : Rec) (xs : List Rec) → IsIn (x ∷ xs) r → is_same_rec r x ≡ false → IsIn xs r
-rest_in x r xs (inl same) other = absurd (clash (sym (ap (is_same_rec r) (sym same) ∙ same_rec-refl r) ∙ other))
-  where
-    clash : true ≡ false → ⊥
-    clash e = cc
-rest_in x r xs (inr later) other = later
-
-place_same : (xs : List Rec) (r q : Rec) → IsIn xs r → IsIn xs q → rid_in xs r ≡ rid_in xs q → r ≡ q
-place_same [] r q is also same = absurd is
-place_same (x ∷ xs) r q is also same =
-    by (is_same_rec r x) (is_same_rec q x) (same_recs r x) (same_recs q x) (rest_in x r xs is) (rest_in x q xs also) same (place_same xs r q)
-  where
-    by : (b c : Bool) → (b ≡ true → r ≡ x) → (c ≡ true → q ≡ x) → (b ≡ false → IsIn xs r) → (c ≡ false → IsIn xs q)
-        → (if b then 1 else rid_in xs r + 1) ≡ (if c then 1 else rid_in xs q + 1) → (IsIn xs r → IsIn xs q → rid_in xs r ≡ rid_in xs q → r ≡ q) → r ≡ q
-    by true true here there more other e rest = here refl ∙ sym (there refl)
-    by true false here there more other e rest = absurd (omega (arith, e, rid_some xs q))
-    by false true here there more other e rest = absurd (omega (arith, e, rid_some xs r))
-    by false false here there more other e rest = rest (more refl) (other refl) (omega (arith, e))
 
 -- ---- what partitions hold, and what their segments have
 
@@ -118,11 +92,6 @@ record Finds (schema : Shape) (all other held_here held_there : List Rec) : Type
   rows : (r : Rec) → IsIn held_here r → IsRow schema r.row
   rows_there : (r : Rec) → IsIn held_there r → IsRow schema r.row
   found : (r : Rec) → IsIn held_here r → IsKeptOf other held_there (kept_as all r)
-
-are_in_at : (rs all : List Rec) (r : Rec) → AreIn rs all → IsIn rs r → IsIn all r
-are_in_at [] all r are is = absurd is
-are_in_at (x ∷ rs) all r are (inl same) = subst (IsIn all) (sym same) are.0
-are_in_at (x ∷ rs) all r are (inr later) = are_in_at rs all r are.1 later
 
 row_there : (schema : Shape) (all other ours theirs : List Rec) → Finds schema all other ours theirs → (rs qs : List Rec) → AreIn rs ours → AreIn qs theirs
     → list_of all rs ≡ list_of other qs → (r : Rec) → IsIn rs r → (q : Rec) × (IsIn qs q × (q.row ≡ r.row))
@@ -189,30 +158,68 @@ member_recs all p q here there same r is =
     place_same all that.0 r (are_in_at q all that.0 there that.1.0) (are_in_at p all r here is) (sym (ap (λ k. k.0) that.1.1))
     in subst (IsIn q) one that.1.0
 
-rec_total : (schema : Shape) → IsTotalOrder (rec_cmp schema)
-rec_total schema = on_total (λ r. r.row) (key_cmp_total schema)
+-- two pieces in the order of rids that have the same segment
+piece_equal : (all p q : List Rec) → AreIn p all → AreIn q all → IsInOrder all p → IsInOrder all q → segment_of all p ≡ segment_of all q → p ≡ q
+piece_equal all p q here there order other same = order ∙ filter_same (is_among p) (is_among q) all (λ r is. among r) ∙ sym other
+  where
+    among : (r : Rec) → is_among p r ≡ is_among q r
+    among r =
+        same_bool (is_among p r) (is_among q r)
+        (λ e. in_among q r (member_recs all p q here there same r (among_in p r e)))
+        (λ e. in_among p r (member_recs all q p there here (sym same) r (among_in q r e)))
 
-pieces_equal : (schema : Shape) (all : List Rec) (ps qs : List (List Rec)) → AllAreIn ps all → AllAreIn qs all → PiecesRise schema ps → PiecesRise schema qs
+pieces_equal : (all : List Rec) (ps qs : List (List Rec)) → AllAreIn ps all → AllAreIn qs all → AreInOrder all ps → AreInOrder all qs
     → map (segment_of all) ps ≡ map (segment_of all) qs → ps ≡ qs
-pieces_equal schema all [] [] here there rise other same = refl
-pieces_equal schema all [] (q ∷ qs) here there rise other same = cc
-pieces_equal schema all (p ∷ ps) [] here there rise other same = cc
-pieces_equal schema all (p ∷ ps) (q ∷ qs) here there rise other same =
+pieces_equal all [] [] here there order other same = refl
+pieces_equal all [] (q ∷ qs) here there order other same = cc
+pieces_equal all (p ∷ ps) [] here there order other same = cc
+pieces_equal all (p ∷ ps) (q ∷ qs) here there order other same =
     let first : segment_of all p ≡ segment_of all q = heads (segment_of all p) (segment_of all q) (map (segment_of all) ps) (map (segment_of all) qs) same
-    in let one : p ≡ q = same_rising (rec_cmp schema) (rec_total schema) p q rise.0 other.0 (member_recs all p q here.0 there.0 first) (member_recs all q p there.0 here.0 (sym first))
-    in let later : ps ≡ qs = pieces_equal schema all ps qs here.1 there.1 rise.1 other.1 (tails (segment_of all p) (segment_of all q) (map (segment_of all) ps) (map (segment_of all) qs) same)
+    in let one : p ≡ q = piece_equal all p q here.0 there.0 order.0 other.0 first
+    in let later : ps ≡ qs = pieces_equal all ps qs here.1 there.1 order.1 other.1 (tails (segment_of all p) (segment_of all q) (map (segment_of all) ps) (map (segment_of all) qs) same)
     in λ i. one i ∷ later i
 
-parts_equal : (schema : Shape) (all : List Rec) (ps qs : List Part) → PiecesAreIn all ps → PiecesAreIn all qs → PartsRise schema ps → PartsRise schema qs
+parts_equal : (all : List Rec) (ps qs : List Part) → PiecesAreIn all ps → PiecesAreIn all qs → PartsAreInOrder all ps → PartsAreInOrder all qs
     → map (shown_part all) ps ≡ map (shown_part all) qs → ps ≡ qs
-parts_equal schema all [] [] here there rise other same = refl
-parts_equal schema all [] (q ∷ qs) here there rise other same = cc
-parts_equal schema all (p ∷ ps) [] here there rise other same = cc
-parts_equal schema all (p ∷ ps) (q ∷ qs) here there rise other same =
+parts_equal all [] [] here there order other same = refl
+parts_equal all [] (q ∷ qs) here there order other same = cc
+parts_equal all (p ∷ ps) [] here there order other same = cc
+parts_equal all (p ∷ ps) (q ∷ qs) here there order other same =
     let first : shown_part all p ≡ shown_part all q = heads (shown_part all p) (shown_part all q) (map (shown_part all) ps) (map (shown_part all) qs) same
-    in let pieces : p.pieces ≡ q.pieces = pieces_equal schema all p.pieces q.pieces here.0 there.0 rise.0 other.0 (ap (λ x. x.segments) first)
-    in let later : ps ≡ qs = parts_equal schema all ps qs here.1 there.1 rise.1 other.1 (tails (shown_part all p) (shown_part all q) (map (shown_part all) ps) (map (shown_part all) qs) same)
+    in let pieces : p.pieces ≡ q.pieces = pieces_equal all p.pieces q.pieces here.0 there.0 order.0 other.0 (ap (λ x. x.segments) first)
+    in let later : ps ≡ qs = parts_equal all ps qs here.1 there.1 order.1 other.1 (tails (shown_part all p) (shown_part all q) (map (shown_part all) ps) (map (shown_part all) qs) same)
     in λ i. record { id = ap (λ x. x.id) first i; versions = ap (λ x. x.versions) first i; holds = ap (λ x. x.holds) first i; pieces = pieces i } ∷ later i
+
+-- ---- and the plans
+
+targets_equal : (d e : Dataset) (ts us : List Target) → map (shown_target d) ts ≡ map (shown_target e) us → ts ≡ us
+targets_equal d e [] [] same = refl
+targets_equal d e [] (u ∷ us) same = cc
+targets_equal d e (t ∷ ts) [] same = cc
+targets_equal d e (t ∷ ts) (u ∷ us) same =
+    let first : shown_target d t ≡ shown_target e u = heads (shown_target d t) (shown_target e u) (map (shown_target d) ts) (map (shown_target e) us) same
+    in let later : ts ≡ us = targets_equal d e ts us (tails (shown_target d t) (shown_target e u) (map (shown_target d) ts) (map (shown_target e) us) same)
+    in λ i. record { versions = ap (λ x. x.versions) first i; source = ap (λ x. x.source) first i; kept = ap (λ x. x.kept) first i; kept_records = ap (λ x. x.kept_records) first i } ∷ later i
+
+some_is : {X : Type 0} (a b : X) → Some a ≡ Some b → a ≡ b
+some_is a b e = ap (λ o. unwrap_or o a) e
+
+plan_equal : (d e : Dataset) (all : List Rec) → order_of d.cvd.versions ≡ all → order_of e.cvd.versions ≡ all → (p q : Option Plan) → CopiesAreInOrder all p → CopiesAreInOrder all q
+    → shown_plan d p ≡ shown_plan e q → p ≡ q
+plan_equal d e all here there None None order other same = refl
+plan_equal d e all here there None (Some q) order other same = cc
+plan_equal d e all here there (Some p) None order other same = cc
+plan_equal d e all here there (Some p) (Some q) order other same =
+    let it = some_is _ _ same
+    in let copied : p.copied ≡ q.copied =
+    pieces_equal all p.copied q.copied (order_known all p.copied order) (order_known all q.copied other) order other
+    (ap (λ xs. map (segment_of xs) p.copied) (sym here) ∙ ap (λ x. x.segments) it ∙ ap (λ xs. map (segment_of xs) q.copied) there)
+    in let targets : p.targets ≡ q.targets = targets_equal d e p.targets q.targets (ap (λ x. x.targets) it)
+    in λ i. Some (record { p = ap (λ x. x.p) it i; q = ap (λ x. x.q) it i; targets = targets i; at = ap (λ x. x.at) it i; copied = copied i })
+
+parts_known : (all : List Rec) (parts : List Part) → PartsAreInOrder all parts → PiecesAreIn all parts
+parts_known all [] are = tt
+parts_known all (part ∷ parts) are = (order_known all part.pieces are.0, parts_known all parts are.1)
 
 -- ---- what holds of a dataset's records
 
@@ -312,18 +319,18 @@ all_held d placed hold = all_from (recs d.cvd.versions []) (held_all d.parts) at
 -- ---- datasets and Worlds
 
 record IsFit (d : Dataset) : Type 0 where
-  known : IsKnown d
   placed : IsPlaced d
   hold : IsHeld d
   rowed : IsRowed d
+  ordered : HasOrder d
 
 finds : (schema : Shape) (d e : Dataset) → IsFit d → IsFit e → HaveRows schema d.cvd.versions → HaveRows schema e.cvd.versions
     → map (shown_part (order_of d.cvd.versions)) d.parts ≡ map (shown_part (order_of e.cvd.versions)) e.parts
     → Finds schema (order_of d.cvd.versions) (order_of e.cvd.versions) (held_all d.parts) (held_all e.parts)
 finds schema d e is it rows others same = record {
-  known = λ r there. known_all e.parts (order_of e.cvd.versions) r it.known.pieces there;
-  rows = λ r here. order_rows schema (recs d.cvd.versions []) 1 (recs_rows schema d.cvd.versions [] rows tt) r (known_all d.parts (order_of d.cvd.versions) r is.known.pieces here);
-  rows_there = λ r there. order_rows schema (recs e.cvd.versions []) 1 (recs_rows schema e.cvd.versions [] others tt) r (known_all e.parts (order_of e.cvd.versions) r it.known.pieces there);
+  known = λ r there. known_all e.parts (order_of e.cvd.versions) r (parts_known (order_of e.cvd.versions) e.parts it.ordered.parts) there;
+  rows = λ r here. order_rows schema (recs d.cvd.versions []) 1 (recs_rows schema d.cvd.versions [] rows tt) r (known_all d.parts (order_of d.cvd.versions) r (parts_known (order_of d.cvd.versions) d.parts is.ordered.parts) here);
+  rows_there = λ r there. order_rows schema (recs e.cvd.versions []) 1 (recs_rows schema e.cvd.versions [] others tt) r (known_all e.parts (order_of e.cvd.versions) r (parts_known (order_of e.cvd.versions) e.parts it.ordered.parts) there);
   found = λ r here. from_kept (order_of e.cvd.versions) e.parts (kept_as (order_of d.cvd.versions) r)
       (subst (λ parts. IsIn (kept_all parts) (kept_as (order_of d.cvd.versions) r)) same (to_kept (order_of d.cvd.versions) d.parts r here));
 }
@@ -332,7 +339,6 @@ set_equal : (d e : Dataset) → IsFit d → IsFit e → shown_set d ≡ shown_se
 set_equal d e is it same =
     let schema : d.cvd.schema ≡ e.cvd.schema = ap (λ n. n.schema) same
     in let rows : HaveRows d.cvd.schema e.cvd.versions = subst (λ s. HaveRows s e.cvd.versions) (sym schema) it.rowed.rows
-    in let rise : PartsRise d.cvd.schema e.parts = subst (λ s. PartsRise s e.parts) (sym schema) it.rowed.pieces
     in let parts_shown : map (shown_part (order_of d.cvd.versions)) d.parts ≡ map (shown_part (order_of e.cvd.versions)) e.parts = ap (λ n. n.parts) same
     in let versions : d.cvd.versions ≡ e.cvd.versions =
     versions_equal d.cvd.schema (order_of d.cvd.versions) (order_of e.cvd.versions) (held_all d.parts) (held_all e.parts)
@@ -340,31 +346,34 @@ set_equal d e is it same =
     [] [] d.cvd.versions e.cvd.versions is.rowed.rows rows (all_held d is.placed is.hold) (all_held e it.placed it.hold) (ap (λ n. n.versions) same)
     in let all : order_of e.cvd.versions ≡ order_of d.cvd.versions = ap order_of (sym versions)
     in let parts : d.parts ≡ e.parts =
-    parts_equal d.cvd.schema (order_of d.cvd.versions) d.parts e.parts is.known.pieces (subst (λ a. PiecesAreIn a e.parts) all it.known.pieces) is.rowed.pieces rise
-    (parts_shown ∙ ap (λ a. map (shown_part a) e.parts) all)
+    parts_equal (order_of d.cvd.versions) d.parts e.parts (parts_known (order_of d.cvd.versions) d.parts is.ordered.parts) (subst (λ a. PiecesAreIn a e.parts) all (parts_known (order_of e.cvd.versions) e.parts it.ordered.parts))
+    is.ordered.parts (subst (λ a. PartsAreInOrder a e.parts) all it.ordered.parts) (parts_shown ∙ ap (λ a. map (shown_part a) e.parts) all)
+    in let plan : d.plan ≡ e.plan =
+    plan_equal d e (order_of d.cvd.versions) refl all d.plan e.plan is.ordered.plan (subst (λ a. CopiesAreInOrder a e.plan) all it.ordered.plan) (ap (λ n. n.plan) same)
     in λ i. record {
       cvd = record { number = ap (λ n. n.number) same i; name = ap (λ n. n.name) same i; schema = schema i; versions = versions i };
       parts = parts i;
       next_part = ap (λ n. n.next_part) same i;
       threshold = ap (λ n. n.threshold) same i;
-      plan = (is.known.plan ∙ sym it.known.plan) i;
+      plan = plan i;
     }
 
-sets_equal : (ds es : List Dataset) → AreKnown ds → AreKnown es → ArePlaced ds → ArePlaced es → AreHeld ds → AreHeld es → AreRowed ds → AreRowed es → map shown_set ds ≡ map shown_set es → ds ≡ es
+sets_equal : (ds es : List Dataset) → ArePlaced ds → ArePlaced es → AreHeld ds → AreHeld es → AreRowed ds → AreRowed es → HaveOrder ds → HaveOrder es
+    → map shown_set ds ≡ map shown_set es → ds ≡ es
 sets_equal [] [] a b c d e f g h same = refl
 sets_equal [] (y ∷ ys) a b c d e f g h same = cc
 sets_equal (x ∷ xs) [] a b c d e f g h same = cc
-sets_equal (x ∷ xs) (y ∷ ys) known known_there placed placed_there hold hold_there rowed rowed_there same =
+sets_equal (x ∷ xs) (y ∷ ys) placed placed_there hold hold_there rowed rowed_there order order_there same =
     let first : x ≡ y =
-    set_equal x y (record { known = known.0; placed = placed.0; hold = hold.0; rowed = rowed.0 })
-    (record { known = known_there.0; placed = placed_there.0; hold = hold_there.0; rowed = rowed_there.0 })
+    set_equal x y (record { placed = placed.0; hold = hold.0; rowed = rowed.0; ordered = order.0 })
+    (record { placed = placed_there.0; hold = hold_there.0; rowed = rowed_there.0; ordered = order_there.0 })
     (heads (shown_set x) (shown_set y) (map shown_set xs) (map shown_set ys) same)
     in let later : xs ≡ ys =
-    sets_equal xs ys known.1 known_there.1 placed.1 placed_there.1 hold.1 hold_there.1 rowed.1 rowed_there.1 (tails (shown_set x) (shown_set y) (map shown_set xs) (map shown_set ys) same)
+    sets_equal xs ys placed.1 placed_there.1 hold.1 hold_there.1 rowed.1 rowed_there.1 order.1 order_there.1 (tails (shown_set x) (shown_set y) (map shown_set xs) (map shown_set ys) same)
     in λ i. first i ∷ later i
 
-pub shown_once : (w v : World) → IsGood w → IsGood v → shown w ≡ shown v → (w.sets ≡ v.sets) × (w.next ≡ v.next)
+pub shown_once : (w v : World) → IsTold w → IsTold v → shown w ≡ shown v → (w.sets ≡ v.sets) × (w.next ≡ v.next)
 shown_once w v is it same = (
-  sets_equal w.sets v.sets is.known it.known is.placed it.placed is.held it.held is.rowed it.rowed (ap (λ n. n.sets) same),
+  sets_equal w.sets v.sets is.placed it.placed is.held it.held is.rowed it.rowed is.ordered it.ordered (ap (λ n. n.sets) same),
   ap (λ n. n.next) same,
 )

@@ -1,6 +1,6 @@
 -- What a World shows, as a version comes: what was shown stays, and the new version and its records come to it.
 use Rattle.std.proofs.Common.{◌≡◌, ◌≤◌, ℕ, suc, ◌+◌, Bool, true, false, ◌==◌, List, [], ◌∷◌, ◌++◌, length, map, refl, sym, ◌∙◌, ap, subst, arith}
-use Rattle.std.specs.Prelude.{if◌then◌else◌, Option, None, codes}
+use Rattle.std.specs.Prelude.{if◌then◌else◌, Option, Some, None, codes}
 use Rattle.std.proofs.lemmas.List.{map-append, length-map, length-append, append-nil}
 use Rattle.ov_place.specs.declared.place_facts.Place.{Place}
 use Rattle.ov_place.specs.declared.place_facts.Place.TheVariants.{Own, Join}
@@ -10,13 +10,17 @@ use Rattle.ov_model.specs.Book.{Row, Version}
 use Rattle.ov_model.specs.Lists.{AreIn, AllAreIn, joined}
 use Rattle.ov_model.specs.Moves as moves
 use Rattle.ov_model.specs.Moves.{piece_of, placed_at, next_with}
-use Rattle.ov_model.specs.Placed.{id_times}
-use Rattle.ov_model.specs.Records.{Rec, recs, records_of, record_of, fresh_in, order_of, rid_in, weights, lacking}
-use Rattle.ov_model.specs.World.{Part, Plan, Dataset, held}
+use Rattle.ov_model.specs.Ordered.{CopiesAreInOrder}
+use Rattle.ov_model.specs.Placed.{id_times, TargetsAre, PlanIs}
+use Rattle.ov_model.specs.Records.{Rec, in_order, ordered_records, recs, records_of, record_of, fresh_in, order_of, rid_in, weights, lacking}
+use Rattle.ov_model.specs.World.{Part, Target, Plan, Dataset, held}
 use Rattle.ov_model.proofs.Growing.{order_of_more, rid_more}
-use Rattle.ov_model.proofs.Origins.{all_known}
+use Rattle.ov_model.proofs.Origins.{all_known, next_known}
+use Rattle.ov_model.proofs.Rids.{Once}
+use Rattle.ov_model.proofs.Wanted.{records_in_more}
 use Rattle.ov_catalog.specs.Events as events
-use Rattle.ov_catalog.specs.Shown.{sorted_by, list_of, kept_as, segment_of, shown_version, shown_versions, shown_part, shown_plan, shown_set, held_by, added_to}
+use Rattle.ov_catalog.specs.Shown.{sorted_by, list_of, kept_as, segment_of, shown_version, shown_versions, shown_part, shown_target, shown_plan, shown_set, held_by, added_to}
+use Rattle.ov_catalog.proofs.Ranking.{order_known, added_ordered, added_in, added_once, ordered_long, segments_same as pieces_same}
 
 -- ---- what is known keeps its rid
 
@@ -155,16 +159,62 @@ placed_shown all more (Join id) next vid rs parts are once = join_shown all more
 
 -- ---- a version more
 
-plan_same : (d e : Dataset) (plan : Option Plan) → plan ≡ None → shown_plan d plan ≡ shown_plan e plan
-plan_same d e plan none = subst (λ p. shown_plan d p ≡ shown_plan e p) (sym none) refl
+targets_same : (v : Version) (d : Dataset) (ts : List Target) → TargetsAre (length d.cvd.versions) ts → map (shown_target (moves.with_version v d)) ts ≡ map (shown_target d) ts
+targets_same v d [] are = refl
+targets_same v d (t ∷ ts) are = λ i.
+    record {
+      versions = t.versions;
+      size = length (records_in_more d.cvd.versions v d.cvd (moves.with_version v d).cvd t.versions refl refl are.0 i);
+      source = t.source;
+      kept = t.kept;
+      kept_records = t.kept_records;
+    }
+    ∷ targets_same v d ts are.1 i
 
-pub version_shown : (d : Dataset) (v : Version) → PiecesAreIn (order_of d.cvd.versions) d.parts → ((id : ℕ) → id_times d.parts id ≤ 1) → d.plan ≡ None
+-- what a plan shows stays, as its targets have versions that were there, and its copies records that were
+plan_same : (v : Version) (d : Dataset) (plan : Option Plan) → PlanIs (length d.cvd.versions) plan → CopiesAreInOrder (order_of d.cvd.versions) plan
+    → shown_plan (moves.with_version v d) plan ≡ shown_plan d plan
+plan_same v d None are order = refl
+plan_same v d (Some plan) are order =
+    let more : List Rec = fresh_in (records_of v (recs d.cvd.versions [])) (1 + length (recs d.cvd.versions []))
+    in let segments : map (segment_of (order_of (d.cvd.versions ++ v ∷ []))) plan.copied ≡ map (segment_of (order_of d.cvd.versions)) plan.copied =
+    ap (λ all. map (segment_of all) plan.copied) (order_of_more d.cvd.versions v)
+    ∙ segments_same (order_of d.cvd.versions) more plan.copied (order_known (order_of d.cvd.versions) plan.copied order)
+    in λ i. Some (record {
+      p = plan.p;
+      q = plan.q;
+      targets = targets_same v d plan.targets are i;
+      at = plan.at;
+      copied = length (joined plan.copied);
+      segments = segments i;
+    })
+
+-- what a version brings to its partition, in the order of rids or in that of its rows
+brings_same : (d : Dataset) (v : Version) → Once (records_of v (recs d.cvd.versions [])) → Once (order_of (d.cvd.versions ++ v ∷ []))
+    → (length (added_to (placed_at d v) d.parts (ordered_records d.cvd.versions v)) ≡ length (added_to (placed_at d v) d.parts (records_of v (recs d.cvd.versions []))))
+    × (map (segment_of (order_of (d.cvd.versions ++ v ∷ []))) (piece_of (added_to (placed_at d v) d.parts (ordered_records d.cvd.versions v)))
+    ≡ map (segment_of (order_of (d.cvd.versions ++ v ∷ []))) (piece_of (added_to (placed_at d v) d.parts (records_of v (recs d.cvd.versions [])))))
+brings_same d v once all_once =
+    let all : List Rec = order_of (d.cvd.versions ++ v ∷ [])
+    in let rs : List Rec = records_of v (recs d.cvd.versions [])
+    in let brought : List Rec = added_to (placed_at d v) d.parts rs
+    in let is : added_to (placed_at d v) d.parts (in_order all rs) ≡ in_order all brought = added_ordered all rs (placed_at d v) d.parts
+    in let known : AreIn brought all = added_in all rs (placed_at d v) d.parts (next_known d.cvd.versions v)
+    in let apart : Once brought = added_once rs (placed_at d v) d.parts once
+    in (
+      ap length is ∙ ordered_long all brought known apart all_once,
+      ap (λ xs. map (segment_of all) (piece_of xs)) is ∙ pieces_same all brought known apart all_once,
+    )
+
+pub version_shown : (d : Dataset) (v : Version) → PiecesAreIn (order_of d.cvd.versions) d.parts → ((id : ℕ) → id_times d.parts id ≤ 1)
+    → PlanIs (length d.cvd.versions) d.plan → CopiesAreInOrder (order_of d.cvd.versions) d.plan
+    → Once (records_of v (recs d.cvd.versions [])) → Once (order_of (d.cvd.versions ++ v ∷ []))
     → shown_set (moves.with_version v d)
     ≡ events.with_version (shown_version (order_of (d.cvd.versions ++ v ∷ [])) (recs d.cvd.versions []) v) (placed_at d v)
     (length (added_to (placed_at d v) d.parts (records_of v (recs d.cvd.versions []))))
     (map (segment_of (order_of (d.cvd.versions ++ v ∷ []))) (piece_of (added_to (placed_at d v) d.parts (records_of v (recs d.cvd.versions [])))))
     (shown_set d)
-version_shown d v are once none = λ i. record {
+version_shown d v are once targets copies rows_once all_once = λ i. record {
   number = d.cvd.number;
   name = d.cvd.name;
   schema = d.cvd.schema;
@@ -172,13 +222,10 @@ version_shown d v are once none = λ i. record {
   parts = parts i;
   next_part = next_with (placed_at d v) d.next_part;
   threshold = d.threshold;
-  plan = plan_same (moves.with_version v d) d d.plan none i;
+  plan = plan_same v d d.plan targets copies i;
   records = records i;
 }
   where
-    vs : List Version
-    vs = d.cvd.versions
-
     rs : List Rec
     rs = records_of v (recs d.cvd.versions [])
 
@@ -194,17 +241,32 @@ version_shown d v are once none = λ i. record {
         ∙ ap (λ ws. ws ++ shown_version (order_of (d.cvd.versions ++ v ∷ [])) (recs d.cvd.versions []) v ∷ [])
         (ap (λ all. shown_versions all [] d.cvd.versions) grown ∙ versions_same (order_of d.cvd.versions) more [] d.cvd.versions (all_known d.cvd.versions))
 
-    parts : map (shown_part (order_of (d.cvd.versions ++ v ∷ []))) (moves.parts_with (placed_at d v) d.next_part (length d.cvd.versions + 1) rs d.parts)
-        ≡ events.parts_with (placed_at d v) d.next_part (length (shown_versions (order_of d.cvd.versions) [] d.cvd.versions) + 1) (length (added_to (placed_at d v) d.parts rs))
-        (map (segment_of (order_of (d.cvd.versions ++ v ∷ []))) (piece_of (added_to (placed_at d v) d.parts rs))) (map (shown_part (order_of d.cvd.versions)) d.parts)
-    parts =
-        subst (λ all. map (shown_part all) (moves.parts_with (placed_at d v) d.next_part (length d.cvd.versions + 1) rs d.parts)
-        ≡ events.parts_with (placed_at d v) d.next_part (length (shown_versions (order_of d.cvd.versions) [] d.cvd.versions) + 1) (length (added_to (placed_at d v) d.parts rs))
-        (map (segment_of all) (piece_of (added_to (placed_at d v) d.parts rs))) (map (shown_part (order_of d.cvd.versions)) d.parts)) (sym grown)
-        (placed_shown (order_of d.cvd.versions) more (placed_at d v) d.next_part (length d.cvd.versions + 1) rs d.parts are once
-        ∙ ap (λ n. events.parts_with (placed_at d v) d.next_part (n + 1) (length (added_to (placed_at d v) d.parts rs))
-        (map (segment_of (order_of d.cvd.versions ++ more)) (piece_of (added_to (placed_at d v) d.parts rs))) (map (shown_part (order_of d.cvd.versions)) d.parts))
+    -- in whatever order its records come to its partition
+    each : (xs : List Rec) → map (shown_part (order_of (d.cvd.versions ++ v ∷ []))) (moves.parts_with (placed_at d v) d.next_part (length d.cvd.versions + 1) xs d.parts)
+        ≡ events.parts_with (placed_at d v) d.next_part (length (shown_versions (order_of d.cvd.versions) [] d.cvd.versions) + 1) (length (added_to (placed_at d v) d.parts xs))
+        (map (segment_of (order_of (d.cvd.versions ++ v ∷ []))) (piece_of (added_to (placed_at d v) d.parts xs))) (map (shown_part (order_of d.cvd.versions)) d.parts)
+    each xs =
+        subst (λ all. map (shown_part all) (moves.parts_with (placed_at d v) d.next_part (length d.cvd.versions + 1) xs d.parts)
+        ≡ events.parts_with (placed_at d v) d.next_part (length (shown_versions (order_of d.cvd.versions) [] d.cvd.versions) + 1) (length (added_to (placed_at d v) d.parts xs))
+        (map (segment_of all) (piece_of (added_to (placed_at d v) d.parts xs))) (map (shown_part (order_of d.cvd.versions)) d.parts)) (sym grown)
+        (placed_shown (order_of d.cvd.versions) more (placed_at d v) d.next_part (length d.cvd.versions + 1) xs d.parts are once
+        ∙ ap (λ n. events.parts_with (placed_at d v) d.next_part (n + 1) (length (added_to (placed_at d v) d.parts xs))
+        (map (segment_of (order_of d.cvd.versions ++ more)) (piece_of (added_to (placed_at d v) d.parts xs))) (map (shown_part (order_of d.cvd.versions)) d.parts))
         (sym (versions_long (order_of d.cvd.versions) [] d.cvd.versions)))
+
+    -- the same, in the order of rids
+    brings : ((length (added_to (placed_at d v) d.parts (ordered_records d.cvd.versions v)) ≡ length (added_to (placed_at d v) d.parts (records_of v (recs d.cvd.versions []))))
+        × (map (segment_of (order_of (d.cvd.versions ++ v ∷ []))) (piece_of (added_to (placed_at d v) d.parts (ordered_records d.cvd.versions v)))
+        ≡ map (segment_of (order_of (d.cvd.versions ++ v ∷ []))) (piece_of (added_to (placed_at d v) d.parts (records_of v (recs d.cvd.versions []))))))
+    brings = brings_same d v rows_once all_once
+
+    parts : map (shown_part (order_of (d.cvd.versions ++ v ∷ []))) (moves.parts_with (placed_at d v) d.next_part (length d.cvd.versions + 1) (ordered_records d.cvd.versions v) d.parts)
+        ≡ events.parts_with (placed_at d v) d.next_part (length (shown_versions (order_of d.cvd.versions) [] d.cvd.versions) + 1)
+        (length (added_to (placed_at d v) d.parts (records_of v (recs d.cvd.versions []))))
+        (map (segment_of (order_of (d.cvd.versions ++ v ∷ []))) (piece_of (added_to (placed_at d v) d.parts (records_of v (recs d.cvd.versions []))))) (map (shown_part (order_of d.cvd.versions)) d.parts)
+    parts = each (ordered_records d.cvd.versions v)
+        ∙ (λ i. events.parts_with (placed_at d v) d.next_part (length (shown_versions (order_of d.cvd.versions) [] d.cvd.versions) + 1)
+        (brings.0 i) (brings.1 i) (map (shown_part (order_of d.cvd.versions)) d.parts))
 
     records : length (order_of (d.cvd.versions ++ v ∷ [])) ≡ length (order_of d.cvd.versions) + length (fresh_in rs (length (recs d.cvd.versions []) + 1))
     records =

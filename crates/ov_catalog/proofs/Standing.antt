@@ -2,23 +2,24 @@
 use Rattle.std.proofs.Common.{◌≡◌, ◌≤◌, ◌<◌, ℕ, zero, suc, ◌+◌, List, [], ◌∷◌, ◌++◌, map, refl, sym, ◌∙◌, ap, subst, inl, inr, arith}
 use Rattle.std.specs.Prelude.{Option, Some, None, unwrap_or}
 use Rattle.std.specs.List.{flat_map}
+use Rattle.std.specs.Option.{option_map}
 use Rattle.std.proofs.lemmas.List.{map-append}
 use Rattle.ov_host.specs.declared.area.Extent.{Extent}
 use Rattle.ov_model.specs.Lists.{IsIn}
 use Rattle.ov_model.specs.Moves.{Move, moved}
 use Rattle.ov_model.specs.World.{World, empty_world}
 use Rattle.ov_catalog.specs.Numbers.{VersionNumbers, PartNumbers, PlanNumbers, SetNumbers, Numbers, each_version, each_part, each_plan, each_set, each, nothing_yet}
-use Rattle.ov_catalog.specs.Events.{applied, replayed}
+use Rattle.ov_catalog.specs.Events.{Event, applied, replayed}
 use Rattle.ov_event.specs.declared.event.Event as raw
 use Rattle.ov_catalog.specs.Applying.{AllApply, first_off}
 use Rattle.ov_catalog.specs.Raw.{event_in, numbers_in}
 use Rattle.ov_catalog.specs.Extents.{of_plan, of_set, live, brought, covers, AreApart}
 use Rattle.ov_catalog.specs.Shown.{Rids, Records, shown, event_of}
-use Rattle.ov_catalog.specs.Stands.{Readings, seen, asked, asked_event, StandsFor, ReadSame, IsMove}
-use Rattle.ov_catalog.proofs.Covering.{live_applied}
+use Rattle.ov_catalog.specs.Stands.{Readings, seen, asked, seen_event, asked_as, StandsFor, ReadSame, IsMove}
+use Rattle.ov_catalog.proofs.Covering.{live_applied, applies_built}
 use Rattle.ov_catalog.proofs.Filling.{applied_each, replayed_more}
-use Rattle.ov_catalog.proofs.Good.{good, reached_more}
-use Rattle.ov_catalog.proofs.Moving.{events_are_moves}
+use Rattle.ov_catalog.proofs.Good.{told, good, reached_more}
+use Rattle.ov_catalog.proofs.Moving.{some_same, events_are_moves}
 use Rattle.ov_catalog.proofs.Only.{shown_once}
 
 -- ---- the same is read
@@ -120,17 +121,24 @@ one_more events r w e m stands is =
       applies = apply_more events e nothing_yet stands.applies is.applies;
       shows = ap (seen r) more
           ∙ applied_each r.list r.segment (event_in e) n
-          ∙ ap (λ f. applied f (seen r n)) is.spells
-          ∙ ap (applied (asked_event m w)) stands.shows
-          ∙ sym (applied_each Some Some (event_of m w) (shown w))
-          ∙ ap (each Some Some) (sym (events_are_moves m w is.fits (good w stands.reached)));
+          ∙ of_event (event_of m w) refl is.spells;
       apart = subst (λ k. AreApart (live k) r.pages) (sym more) (record {
-        once = λ page. omega (arith, live_applied page (event_in e) n, is.apart page);
+        once = λ page. omega (arith, live_applied page e n (applies_built e n is.applies), is.apart page);
         inside = λ page some. inside page (covers (brought (event_in e)) page) (covers (live n) page) (covers (live (applied (event_in e) n)) page)
-            (live_applied page (event_in e) n) some (is.inside page) (stands.apart.inside page);
+            (live_applied page e n (applies_built e n is.applies)) some (is.inside page) (stands.apart.inside page);
       });
     }
   where
+    -- what is read says the event, which makes the World's numbers those after the move
+    of_event : (said : Option (Event Rids Records)) → event_of m w ≡ said → Some (seen_event r e) ≡ option_map asked_as said
+        → applied (seen_event r e) (seen r (numbers_in events)) ≡ asked (moved m w)
+    of_event None same spells = absurd cc
+    of_event (Some x) same spells =
+        ap (λ f. applied f (seen r (numbers_in events))) (some_same (seen_event r e) (asked_as x) spells)
+        ∙ ap (applied (asked_as x)) stands.shows
+        ∙ sym (applied_each Some Some x (shown w))
+        ∙ ap (each Some Some) (sym (events_are_moves m w is.fits (good w stands.reached) x same))
+
     inside : (page a b c : ℕ) → c ≤ a + b → 1 ≤ c → (1 ≤ a → page < r.pages) → (1 ≤ b → page < r.pages) → page < r.pages
     inside page zero b c most some new old = old (omega (arith, most, some))
     inside page (suc a) b c most some new old = new (omega arith)
@@ -138,7 +146,7 @@ one_more events r w e m stands is =
 -- no event, and any readings
 pub nothing_stands : (r : Readings) → StandsFor [] r empty_world
 nothing_stands r = record {
-  reached = ([], refl);
+  reached = (2, inr refl, [], refl);
   applies = tt;
   shows = refl;
   apart = record { once = λ page. omega arith; inside = λ page some. absurd (omega (arith, some)) };
@@ -186,5 +194,5 @@ out_of n = λ i. record { next = n.next; sets = out_sets n.sets i }
 pub at_most_one : (events : List raw.Event) (r : Readings) (w v : World) → StandsFor events r w → StandsFor events r v → (w.sets ≡ v.sets) × (w.next ≡ v.next)
 at_most_one events r w v here there =
     let same : asked w ≡ asked v = sym here.shows ∙ there.shows
-    in shown_once w v (good w here.reached) (good v there.reached)
+    in shown_once w v (told w (good w here.reached)) (told v (good v there.reached))
     (sym (out_of (shown w)) ∙ ap (each (λ o. unwrap_or o []) (λ o. unwrap_or o [])) same ∙ out_of (shown v))

@@ -46,6 +46,7 @@ fits = record {
   new = refl;
   few = omega arith;
   sound = sound;
+  plain = λ one. absurd (omega (arith, one));
   sorted = record { rise = tt; few = omega arith; fit = λ k d lt. absurd (omega arith); short = λ k d lt. absurd (omega arith) };
 }
 
@@ -53,7 +54,7 @@ pub empty-move : (r : Readings) → r.list nowhere ≡ Some [] → IsMove empty_
 empty-move r read = record {
   fits = fits;
   applies = applies;
-  spells = λ i. Init (codes "empty") one_column 0 (read i) [];
+  spells = λ i. Some (Init (codes "empty") one_column 0 (read i) []);
   apart = λ page. let none = covers-none page in omega (arith, none);
   inside = λ page some. let none = covers-none page in absurd (omega (arith, none, some));
 }

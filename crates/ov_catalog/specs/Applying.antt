@@ -1,163 +1,21 @@
 -- When an event follows what the catalog has, and else the first part of it that doesn't.
---     first_off e n      that part; None where the event applies
-use Rattle.std.specs.Prelude.{◌≡◌, ℕ, ◌+◌, ◌-◌, ◌*◌, ◌%◌, ◌^◌, Bool, true, false, not, ◌&&◌, ◌||◌, ◌==◌, nat_le, nat_lt, if◌then◌else◌, List, [], ◌∷◌, length, map, slice_index_or, Option, Some, None, is_ok, find}
-use Rattle.std.specs.List.{list_all, list_any, sum_by}
+--     off_at stage e n      that part, where so much of the half came before; None where the event applies
+--     first_off e n      the same, of the events that are built so far
+--     AllFollow stage events n      each event applies where those before it end
+--     AllApply events n      the same, of the events that are built so far
+use Rattle.std.specs.Prelude.{◌≡◌, ℕ, Bool, true, false, ◌&&◌, ◌==◌, nat_le, nat_lt, if◌then◌else◌, List, [], ◌∷◌, Option, Some, None, find}
 use Rattle.std.specs.Option.{option_or}
-use Rattle.std.specs.Ordering.{nat_cmp, eq_by_cmp}
-use Rattle.std.specs.Set.{distinct_count}
-use Rattle.std.specs.Str.{bytes_eq}
 use Rattle.ov_event.specs.declared.event.Event as raw
 use Rattle.ov_event.specs.declared.event.Event.TheVariants as says
-use Rattle.ov_event.specs.declared.event.RawSchema.{RawSchema}
-use Rattle.ov_graph.specs.Versions.{heaviest}
 use Rattle.ov_host.specs.declared.area.Extent.{Extent}
-use Rattle.ov_host.specs.Extent.{pages_of}
-use Rattle.ov_place.specs.Placement.{placed}
-use Rattle.ov_place.specs.declared.place_facts.Place.{Place}
-use Rattle.ov_place.specs.declared.place_facts.Place.TheVariants.{Own, Join}
-use Rattle.ov_place.specs.declared.place_facts.PlaceFacts.{PlaceFacts}
-use Rattle.ov_value.specs.declared.column.Column.{Column}
-use Rattle.ov_value.specs.declared.column.Kind.TheVariants as kind
-use Rattle.ov_value.specs.Making.{schema_of}
-use Rattle.ov_value.specs.Naming.{is_name}
 use Rattle.ov_catalog.specs.declared.field.Field.{Field}
 use Rattle.ov_catalog.specs.declared.field.Field.TheVariants as off
-use Rattle.ov_catalog.specs.Numbers.{VersionNumbers, PartNumbers, TargetNumbers, PlanNumbers, SetNumbers, Numbers}
+use Rattle.ov_catalog.specs.Numbers.{SetNumbers, Numbers}
 use Rattle.ov_catalog.specs.Events.{numbered, applied}
-use Rattle.ov_catalog.specs.Raw.{place_in, event_in}
-
-abbrev pub off_unless : Bool → Field → Option Field
-off_unless holds field = if holds then None else Some field
-
--- ---- what both Init and Commit ask
-
-abbrev pub is_named : {L S : Type 0} → List ℕ → SetNumbers L S → Bool
-is_named name d = bytes_eq d.name name
-
-abbrev pub no_column : Column
-no_column = record { name = []; kind = kind.Int }
-
-abbrev pub name_at : List Column → ℕ → List ℕ
-name_at columns place = (slice_index_or columns place no_column).name
-
-abbrev pub are_places : List Column → List ℕ → Bool
-are_places columns key = list_all (λ place. nat_lt place (length columns)) key
-
--- each key position is one of a column, and the columns with the names at these positions are a schema's
-abbrev pub is_schema : RawSchema → Bool
-is_schema s =
-    are_places s.columns s.key && is_ok (schema_of s.columns (map (name_at s.columns) s.key))
-
--- no extent passes page 2^22, and an empty one has page 0
-abbrev pub is_extent : Extent → Bool
-is_extent e = nat_le (e.page + pages_of e) (2 ^ 22) && (not (e.bytes == 0) || e.page == 0)
-
--- both or none
-abbrev pub is_same : Bool → Bool → Bool
-is_same true b = b
-is_same false b = not b
-
--- a list of so many rows: its ranges have 8 bytes each, there is at most one a row, and one at least where there is a row
-abbrev pub is_list : ℕ → Extent → Bool
-is_list rows list = list.bytes % 8 == 0 && (nat_le list.bytes (8 * rows) && (is_same (list.bytes == 0) (rows == 0) && is_extent list))
-
--- a segment of so many records, which is empty where there are none
-abbrev pub is_segment : ℕ → Extent → Bool
-is_segment records segment = is_same (segment.bytes == 0) (records == 0) && is_extent segment
-
--- ---- Init
-
-abbrev pub init_off : {L S : Type 0} → List ℕ → RawSchema → ℕ → Extent → Extent → Numbers L S → Option Field
-init_off name schema rows list segment n =
-    option_or (off_unless (nat_lt n.next 4294967295) off.Number)
-    (option_or (off_unless (is_name name && (not (list_any (is_named name) n.sets) && nat_lt (length n.sets) 1024)) off.Name)
-    (option_or (off_unless (is_schema schema) off.Schema)
-    (option_or (off_unless (nat_le rows 1000000) off.Rows)
-    (off_unless (is_list rows list && is_segment rows segment) off.Place))))
-
--- ---- Commit
-
--- the rows of a version; none where it isn't there
-abbrev pub rows_at : {L : Type 0} → List (VersionNumbers L) → ℕ → ℕ
-rows_at versions vid = slice_index_or (map (λ v. v.rows) versions) (vid - 1) 0
-
--- no number stands twice: as many are distinct as there are
-abbrev pub are_distinct : List ℕ → Bool
-are_distinct ns = distinct_count (eq_by_cmp nat_cmp) ns == length ns
-
--- a version that is there; the weight of its edge is at most its rows and those of the new version
-abbrev pub is_parent : {L : Type 0} → List (VersionNumbers L) → ℕ → ℕ × ℕ → Bool
-is_parent versions rows edge =
-    (nat_le 1 edge.0 && nat_le edge.0 (length versions)) && (nat_le edge.1 rows && nat_le edge.1 (rows_at versions edge.0))
-
--- at least one, none twice
-abbrev pub are_parents : {L : Type 0} → List (VersionNumbers L) → ℕ → List (ℕ × ℕ) → Bool
-are_parents versions rows parents =
-    nat_le 1 (length parents) && (list_all (is_parent versions rows) parents && are_distinct (map (λ edge. edge.0) parents))
-
--- the partition that serves a version, and the one of a number
-abbrev pub part_serving : {S : Type 0} → List (PartNumbers S) → ℕ → Option (PartNumbers S)
-part_serving parts vid = find (λ part. list_any (λ v. v == vid) part.versions) parts
-
-abbrev pub part_numbered : {S : Type 0} → List (PartNumbers S) → ℕ → Option (PartNumbers S)
-part_numbered parts id = find (λ part. part.id == id) parts
-
-abbrev pub id_in : {S : Type 0} → Option (PartNumbers S) → ℕ
-id_in None = 0
-id_in (Some part) = part.id
-
-abbrev pub records_in : {S : Type 0} → Option (PartNumbers S) → ℕ
-records_in None = 0
-records_in (Some part) = part.records
-
--- the targets that weren't flipped yet
-abbrev pub targets_from : ℕ → List TargetNumbers → List TargetNumbers
-targets_from at [] = []
-targets_from at (t ∷ ts) = if at == 0 then t ∷ ts else targets_from (at - 1) ts
-
-abbrev pub is_unmoved : {S : Type 0} → Option (PlanNumbers S) → ℕ → Bool
-is_unmoved None vid = false
-is_unmoved (Some plan) vid = list_any (λ t. list_any (λ v. v == vid) t.versions) (targets_from plan.at plan.targets)
-
-abbrev pub copied_in : {S : Type 0} → Option (PlanNumbers S) → ℕ
-copied_in None = 0
-copied_in (Some plan) = plan.copied
-
-abbrev pub stored : {L S : Type 0} → SetNumbers L S → ℕ
-stored d = sum_by (λ part. part.records) d.parts + copied_in d.plan
-
--- what decides on a version's place, by its edge from its tree parent
-abbrev pub facts_of : {L S : Type 0} → SetNumbers L S → ℕ × ℕ → PlaceFacts
-facts_of d edge = record {
-  threshold = d.threshold;
-  unmoved = is_unmoved d.plan edge.0;
-  weight = edge.1;
-  records = d.records;
-  stored = stored d;
-  parent = id_in (part_serving d.parts edge.0);
-}
-
-abbrev pub is_place : Place → Place → Bool
-is_place Own Own = true
-is_place (Join a) (Join b) = a == b
-is_place _ _ = false
-
--- an own partition takes all rows; one that is joined takes at least the new records, and holds no more records then than the
--- dataset has
-abbrev pub is_count : {L S : Type 0} → SetNumbers L S → ℕ → ℕ → ℕ → Place → Bool
-is_count d rows fresh added Own = added == rows
-is_count d rows fresh added (Join id) =
-    (nat_le fresh added && nat_le added rows) && nat_le (records_in (part_numbered d.parts id) + added) (d.records + fresh)
-
-abbrev pub commit_off : {L S : Type 0} → ℕ → List ℕ → List (ℕ × ℕ) → ℕ → ℕ → Place → ℕ → Extent → Extent → SetNumbers L S → Option Field
-commit_off vid message parents rows fresh place added list segment d =
-    option_or (off_unless (vid == length d.versions + 1 && nat_le vid 65535) off.Vid)
-    (option_or (off_unless (nat_le (length message) 1024) off.Message)
-    (option_or (off_unless (are_parents d.versions rows parents) off.Parent)
-    (option_or (off_unless (nat_le rows 1000000 && (nat_le fresh rows && (nat_le rows (d.records + fresh) && nat_le (d.records + fresh) (2 ^ 31)))) off.Rows)
-    (option_or (off_unless (is_place place (placed (facts_of d (heaviest parents)))) off.Placing)
-    (option_or (off_unless (is_count d rows fresh added place) off.Count)
-    (off_unless (is_list rows list && is_segment added segment) off.Place))))))
+use Rattle.ov_catalog.specs.Planning.{plan_off, of_running, copy_off, flip_off}
+use Rattle.ov_catalog.specs.Raw.{place_in, whole_in, event_in}
+use Rattle.ov_catalog.specs.Wholes.{whole_off}
+pub use Rattle.ov_catalog.specs.Testing.{off_unless, is_named, no_column, name_at, are_places, is_schema, is_extent, is_same, is_list, is_segment, name_off, init_off, rows_at, are_distinct, is_parent, are_parents, part_serving, part_numbered, id_in, records_in, targets_from, is_unmoved, copied_in, stored, facts_of, is_place, is_count, vid_off, message_off, version_off, commit_off, columns_off, wide_off}
 
 -- of a live dataset
 abbrev pub of_live : {L S : Type 0} → (SetNumbers L S → Option Field) → Option (SetNumbers L S) → Option Field
@@ -167,15 +25,96 @@ of_live test (Some d) = test d
 abbrev pub set_numbered : {L S : Type 0} → ℕ → Numbers L S → Option (SetNumbers L S)
 set_numbered cvd n = find (numbered cvd) n.sets
 
--- Plans, their steps, snapshots and added columns don't apply yet.
-abbrev pub first_off : {L S : Type 0} → raw.Event → Numbers L S → Option Field
-first_off (says.Init name schema rows list segment) n = init_off name schema rows list segment n
-first_off (says.Commit cvd vid message parents rows fresh place added list segment) n =
-    of_live (commit_off vid message parents rows fresh (place_in place) added list segment) (set_numbered cvd n)
-first_off (says.Drop cvd) n = of_live (λ d. None) (set_numbered cvd n)
-first_off _ n = Some off.Number
+-- ---- what counts besides the numbers
 
--- each event applies where those before it end
+-- Where a half of the journal stands: before its first event; in its snapshot, directly behind the Base, which has the next
+-- dataset's number, or behind a Whole, the last of which has this number, 0 where there is none; or further on.
+pub data Reach : Type 0 where
+  AtStart : Reach
+  InSnapshot : (next last : ℕ) → Reach
+  Beyond : Reach
+
+-- the store's format number, and how far the half has come
+pub record Stage : Type 0 where
+  pub format : ℕ
+  pub reach : Reach
+
+abbrev pub start_of : ℕ → Stage
+start_of format = record { format = format; reach = AtStart }
+
+-- a Base begins a snapshot
+abbrev pub base_off : ℕ → Reach → Option Field
+base_off next AtStart = off_unless (nat_le 1 next) off.Number
+base_off next (InSnapshot base last) = Some off.Number
+base_off next Beyond = Some off.Number
+
+-- the numbers of a snapshot's datasets ascend below that of the next one
+abbrev pub number_off : ℕ → Reach → Option Field
+number_off number AtStart = Some off.Number
+number_off number (InSnapshot next last) = off_unless (nat_lt last number && nat_lt number next) off.Number
+number_off number Beyond = Some off.Number
+
+-- a store of format 1 takes no columns
+abbrev pub format_off : ℕ → Option Field
+format_off format = off_unless (format == 2) off.Number
+
+abbrev pub off_at : {L S : Type 0} → Stage → raw.Event → Numbers L S → Option Field
+off_at stage (says.Init name schema rows list segment) n = init_off name schema rows list segment n
+off_at stage (says.Commit cvd vid message parents rows fresh place added list segment) n =
+    of_live (commit_off vid message parents rows fresh (place_in place) added list segment) (set_numbered cvd n)
+off_at stage (says.Plan cvd p q targets) n = of_live (plan_off p q targets) (set_numbered cvd n)
+off_at stage (says.Copy cvd count segment) n = of_live (λ d. of_running (copy_off count segment) d.plan) (set_numbered cvd n)
+off_at stage (says.Flip cvd) n = of_live (λ d. of_running flip_off d.plan) (set_numbered cvd n)
+off_at stage (says.Drop cvd) n = of_live (λ d. None) (set_numbered cvd n)
+off_at stage (says.Base next) n = base_off next stage.reach
+off_at stage (says.Whole said) n = option_or (number_off said.number stage.reach) (whole_off said (whole_in said) n)
+off_at stage (says.Wide cvd vid message columns parents rows fresh place added list segment) n =
+    option_or (format_off stage.format)
+    (of_live (wide_off vid message columns parents rows fresh (place_in place) added list segment) (set_numbered cvd n))
+
+-- a snapshot goes on with a Whole, and ends with any other event
+abbrev pub reach_with : ℕ → Reach → Reach
+reach_with number AtStart = Beyond
+reach_with number (InSnapshot next last) = InSnapshot next number
+reach_with number Beyond = Beyond
+
+abbrev pub reach_after : raw.Event → Reach → Reach
+reach_after (says.Init name schema rows list segment) reach = Beyond
+reach_after (says.Commit cvd vid message parents rows fresh place added list segment) reach = Beyond
+reach_after (says.Plan cvd p q targets) reach = Beyond
+reach_after (says.Copy cvd count segment) reach = Beyond
+reach_after (says.Flip cvd) reach = Beyond
+reach_after (says.Drop cvd) reach = Beyond
+reach_after (says.Base next) reach = InSnapshot next 0
+reach_after (says.Whole said) reach = reach_with said.number reach
+reach_after (says.Wide cvd vid message columns parents rows fresh place added list segment) reach = Beyond
+
+-- a half keeps its format number
+abbrev pub stage_after : raw.Event → Stage → Stage
+stage_after e stage = record { format = stage.format; reach = reach_after e stage.reach }
+
+abbrev pub AllFollow : Stage → List raw.Event → Numbers Extent Extent → Type 0
+AllFollow stage [] n = Unit {0}
+AllFollow stage (e ∷ es) n = (off_at stage e n ≡ None) × AllFollow (stage_after e stage) es (applied (event_in e) n)
+
+-- ---- what is built so far
+
+-- those of the moves that are built
+abbrev pub is_built_event : raw.Event → Bool
+is_built_event (says.Init name schema rows list segment) = true
+is_built_event (says.Commit cvd vid message parents rows fresh place added list segment) = true
+is_built_event (says.Plan cvd p q targets) = false
+is_built_event (says.Copy cvd count segment) = false
+is_built_event (says.Flip cvd) = false
+is_built_event (says.Drop cvd) = true
+is_built_event (says.Base next) = false
+is_built_event (says.Whole said) = false
+is_built_event (says.Wide cvd vid message columns parents rows fresh place added list segment) = false
+
+-- Whether an event that is built applies doesn't hang on the stage, so it is asked at any; the others are refused.
+abbrev pub first_off : {L S : Type 0} → raw.Event → Numbers L S → Option Field
+first_off e n = if is_built_event e then off_at (record { format = 2; reach = Beyond }) e n else Some off.Number
+
 abbrev pub AllApply : List raw.Event → Numbers Extent Extent → Type 0
 AllApply [] n = Unit {0}
 AllApply (e ∷ es) n = (first_off e n ≡ None) × AllApply es (applied (event_in e) n)

@@ -1,18 +1,25 @@
 -- Which moves fit a World, and which Worlds moves reach.
---     Fits m w      what a command asks before it makes the move
---     Reached w      such moves lead from the empty World to it
-use Rattle.std.specs.Prelude.{◌≡◌, ◌≢◌, ◌<◌, ◌≤◌, ◌^◌, ℕ, IsTrue, IsUtf8, List, [], ◌∷◌, ◌++◌, length, Option, Some, None}
+--     Suits m w      what a command asks before it makes the move
+--     Fits m w      the same, of the moves that the program makes so far
+--     Reached w      such moves lead from the empty World of one of the formats to it
+--     ReachedByAll w      the same with all moves
+use Rattle.std.specs.Prelude.{◌≡◌, ◌≢◌, ◌⊎◌, ◌<◌, ◌≤◌, ◌^◌, ◌-◌, ℕ, IsTrue, IsUtf8, is_ok, List, [], ◌∷◌, ◌++◌, length, Option, Some, None}
 use Rattle.std.specs.List.{All}
+use Rattle.ov_value.specs.declared.column.Column.{Column}
+use Rattle.ov_value.specs.Making.{widened}
 use Rattle.ov_value.specs.Naming.{is_name}
 use Rattle.ov_value.specs.Rows.{key_cmp}
 use Rattle.ov_value.specs.Shapes.{Shape, IsSound}
 use Rattle.ov_value.specs.Spelling.{IsRow, row_spelling}
+use Rattle.ov_model.specs.Act.{null_row}
 use Rattle.ov_model.specs.Book.{Row, Version}
+use Rattle.ov_model.specs.Built.{is_built, IfBuilt}
 use Rattle.ov_model.specs.Lists.{Rises}
-use Rattle.ov_model.specs.Moves.{Move, Init, Commit, Drop, moved, numbered, version_of}
+use Rattle.ov_model.specs.Moves.{Move, Init, Commit, BeginPlan, Copy, Flip, Drop, Checkpoint, moved, numbered, version_of, wide}
 use Rattle.ov_model.specs.Placed.{AreThere, times}
+use Rattle.ov_model.specs.Plans.{missing}
 use Rattle.ov_model.specs.Records.{order_of}
-use Rattle.ov_model.specs.World.{Dataset, World, first_set, set_named, empty_world}
+use Rattle.ov_model.specs.World.{Plan, Dataset, World, first_set, set_named, empty_world_of}
 
 -- the rows of a version: in key order with no key twice, not too many, and each a row of the schema of at most 65,536 bytes
 pub record AreRows (schema : Shape) (rows : List Row) : Type 0 where
@@ -21,6 +28,10 @@ pub record AreRows (schema : Shape) (rows : List Row) : Type 0 where
   pub fit : All (IsRow schema) rows
   pub short : All (λ row. length (row_spelling row).bytes ≤ 65536) rows
 
+-- in a store of format 1 no row has NULL
+abbrev pub ArePlain : World → List Row → Type 0
+ArePlain w rows = w.format ≡ 1 → null_row 1 rows ≡ None
+
 pub record InitFits (w : World) (name : List ℕ) (schema : Shape) (rows : List Row) : Type 0 where
   pub numbers : w.next < 4294967295
   pub named : IsTrue (is_name name)
@@ -28,6 +39,7 @@ pub record InitFits (w : World) (name : List ℕ) (schema : Shape) (rows : List 
   pub few : length w.sets < 1024
   pub sound : IsSound schema
   pub sorted : AreRows schema rows
+  pub plain : ArePlain w rows
 
 -- versions, each of them there, and none twice
 pub record AreParents (count : ℕ) (parents : List ℕ) : Type 0 where
@@ -35,30 +47,81 @@ pub record AreParents (count : ℕ) (parents : List ℕ) : Type 0 where
   pub there : AreThere count parents
   pub once : (vid : ℕ) → times parents vid ≤ 1
 
--- of a commit to this dataset, without added columns
-pub record CommitFits (d : Dataset) (v : Version) : Type 0 where
+-- of a commit to this dataset, as the added columns leave it
+pub record CommitFits (w : World) (d : Dataset) (v : Version) : Type 0 where
   pub parents : AreParents (length d.cvd.versions) v.parents
   pub text : IsUtf8 v.message
   pub short : length v.message ≤ 1024
   pub few : length d.cvd.versions < 65535
   pub rows : AreRows d.cvd.schema v.rows
   pub records : length (order_of (d.cvd.versions ++ v ∷ [])) ≤ 2 ^ 31
+  pub plain : ArePlain w v.rows
+
+-- columns may be added to this dataset: the store isn't one of format 1, and the schema takes them
+pub record TakesColumns (w : World) (d : Dataset) (added : List Column) : Type 0 where
+  pub format : w.format ≢ 1
+  pub accepted : IsTrue (is_ok (widened d.cvd.schema added))
+
+-- a plan may begin: none runs, the threshold is in range, and numbers for partitions are left
+pub record PlanFits (p q : ℕ) (d : Dataset) : Type 0 where
+  pub idle : d.plan ≡ None
+  pub some : 1 ≤ p
+  pub at_most : p ≤ q
+  pub few : q ≤ 1000000
+  pub numbers : d.next_part ≤ 4294000000
 
 abbrev pub IfThere : (Dataset → Type 0) → Option Dataset → Type 0
 IfThere P None = ⊥
 IfThere P (Some d) = P d
 
--- Added columns, plans, their steps and checkpoints aren't among the moves yet.
+abbrev pub IfRunning : (Plan → Type 0) → Option Plan → Type 0
+IfRunning P None = ⊥
+IfRunning P (Some plan) = P plan
+
+-- a plan runs, and its current target misses records, or none
+abbrev pub MissesSome : Dataset → Type 0
+MissesSome d = IfRunning (λ plan. 0 < length (missing d plan)) d.plan
+
+abbrev pub MissesNone : Dataset → Type 0
+MissesNone d = IfRunning (λ plan. missing d plan ≡ []) d.plan
+
+abbrev pub Suits : Move → World → Type 0
+Suits (Init name schema rows) w = InitFits w name schema rows
+Suits (Commit cvd parents message [] rows) w = IfThere (λ d. CommitFits w d (version_of parents message rows)) (first_set (numbered cvd) w.sets)
+Suits (Commit cvd parents message (column ∷ added) rows) w =
+    IfThere (λ d. TakesColumns w d (column ∷ added) × CommitFits w (wide (column ∷ added) d) (version_of parents message rows))
+    (first_set (numbered cvd) w.sets)
+Suits (BeginPlan cvd p q) w = IfThere (PlanFits p q) (first_set (numbered cvd) w.sets)
+Suits (Copy cvd) w = IfThere MissesSome (first_set (numbered cvd) w.sets)
+Suits (Flip cvd) w = IfThere MissesNone (first_set (numbered cvd) w.sets)
+Suits (Drop cvd) w = IfThere (λ d. Unit {0}) (first_set (numbered cvd) w.sets)
+Suits Checkpoint w = w.epoch < 2 ^ 32 - 1
+
 abbrev pub Fits : Move → World → Type 0
-Fits (Init name schema rows) w = InitFits w name schema rows
-Fits (Commit cvd parents message [] rows) w = IfThere (λ d. CommitFits d (version_of parents message rows)) (first_set (numbered cvd) w.sets)
-Fits (Drop cvd) w = IfThere (λ d. Unit {0}) (first_set (numbered cvd) w.sets)
-Fits _ w = ⊥
+Fits m w = IfBuilt (is_built m) (Suits m w)
 
 -- from the World v, by moves that fit one after another
 abbrev pub Leads : World → List Move → World → Type 0
 Leads v [] w = v ≡ w
 Leads v (m ∷ ms) w = Fits m v × Leads (moved m v) ms w
 
+-- a known format number
+abbrev pub IsFormat : ℕ → Type 0
+IsFormat format = (format ≡ 1) ⊎ (format ≡ 2)
+
 abbrev pub Reached : World → Type 0
-Reached w = (ms : List Move) × Leads empty_world ms w
+Reached w = (format : ℕ) × IsFormat format × (ms : List Move) × Leads (empty_world_of format) ms w
+
+-- ---- with all moves
+
+-- The World after a move, in a store whose format number stays. A checkpoint changes that of a store of format 1, and what it
+-- leaves is a World of format 2, which the same moves reach from the empty World of format 2.
+abbrev pub moved_within : Move → World → World
+moved_within m w = record (moved m w) { format = w.format }
+
+abbrev pub LeadsByAll : World → List Move → World → Type 0
+LeadsByAll v [] w = v ≡ w
+LeadsByAll v (m ∷ ms) w = Suits m v × LeadsByAll (moved_within m v) ms w
+
+abbrev pub ReachedByAll : World → Type 0
+ReachedByAll w = (format : ℕ) × IsFormat format × (ms : List Move) × LeadsByAll (empty_world_of format) ms w

@@ -31,11 +31,17 @@ pub record Kept : Type 0 where
   pub numbers : Numbers Extent Extent
   pub ready : Ready
 
--- A drop and an event that doesn't apply need no room.
+-- A drop needs no room. None is made yet for events that aren't built.
 abbrev pub HasRoom : raw.Event → Ready → Type 0
 HasRoom (says.Init name schema rows list segment) ready = ready ≡ ForInit (shape_in schema)
 HasRoom (says.Commit cvd vid message parents rows fresh place added list segment) ready = ready ≡ ForCommit cvd (place_in place)
-HasRoom _ ready = Unit {0}
+HasRoom (says.Plan cvd p q targets) ready = ⊥
+HasRoom (says.Copy cvd count segment) ready = ⊥
+HasRoom (says.Flip cvd) ready = ⊥
+HasRoom (says.Drop cvd) ready = Unit {0}
+HasRoom (says.Base next) ready = ⊥
+HasRoom (says.Whole said) ready = ⊥
+HasRoom (says.Wide cvd vid message columns parents rows fresh place added list segment) ready = ⊥
 
 abbrev pub IsForInit : Ready → Type 0
 IsForInit Nothing = ⊥

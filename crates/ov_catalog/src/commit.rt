@@ -24,21 +24,10 @@ use crate::placing::place_version;
 use crate::refusing::unless;
 use ov_event::{Items, Placed};
 use ov_layout::Layout;
+use ov_model::{MESSAGE_BYTES, MOST_RECORDS, MOST_ROWS, MOST_VERSIONS};
 use ov_place::{Place, PlaceFacts, place};
 use ov_value::Txt;
 use std::alloc::{AllocError, Global};
-
-/// The greatest number of rows of a version.
-pub const MOST_ROWS: u32 = 1_000_000;
-
-/// The greatest number of versions of a dataset.
-const MOST_VERSIONS: u32 = 65_535;
-
-/// The greatest number of bytes of a message.
-const MOST_MESSAGE: usize = 1_024;
-
-/// The greatest number of records of a dataset, 2^31.
-const MOST_RECORDS: u64 = 2_147_483_648;
 
 fn are_rows(new: &Arrival, records: u32) -> bool
     ensures { result ≡ (nat_le new.now.rows 1000000 && (nat_le new.now.fresh new.now.rows && (nat_le new.now.rows (records + new.now.fresh) && nat_le (records + new.now.fresh) (2 ^ 31)))) }
@@ -122,7 +111,7 @@ fn check_commit(
         new.vid as usize == d.versions.len() + 1 && new.vid <= MOST_VERSIONS,
         Field::Vid,
     )?;
-    unless(message.len() <= MOST_MESSAGE, Field::Message)?;
+    unless(message.len() <= MESSAGE_BYTES, Field::Message)?;
     check_parents(alloc, &d.versions, new.rows, parents)?;
     unless(are_rows(new, d.records), Field::Rows)?;
     unless(is_place(new.place, next_place(d, parents)), Field::Placing)?;

@@ -6,7 +6,7 @@ ghost use Rattle.ov_catalog.specs.Applying.{is_extent as is_extent_by, is_list a
 use ov_host::Extent;
 
 /// The page area has so many pages at most, 2^22.
-const MOST_PAGES: u64 = 4_194_304;
+const MOST_PAGES: u64 = ov_host::PAGES as u64;
 
 fn is_extent(extent: Extent) -> bool
     ensures { result ≡ is_extent_by extent }

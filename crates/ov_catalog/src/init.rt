@@ -9,7 +9,6 @@ ghost use Rattle.ov_catalog.specs.Raw.{shape_in};
 ghost use Rattle.ov_catalog.specs.Ready.{IsSet, IsSpare};
 ghost use Rattle.ov_catalog.specs.Sets.{set_in, sets_in};
 
-use crate::commit::MOST_ROWS;
 use crate::cvd::{Cvd, Version};
 use crate::error::ApplyErr;
 use crate::extents::{is_list, is_segment};
@@ -21,11 +20,9 @@ use crate::schemas::schema_from;
 use ov_event::{Items, RawSchema};
 use ov_host::Extent;
 use ov_layout::Layout;
+use ov_model::{MOST_CVDS, MOST_ROWS};
 use ov_value::{Schema, Txt, is_name};
 use std::alloc::{AllocError, Global};
-
-/// So many datasets are live at most.
-const MOST_SETS: usize = 1_024;
 
 /// Whether a dataset may begin beside these, and then its schema.
 pub fn check_init(
@@ -43,7 +40,7 @@ pub fn check_init(
 {
     unless(next < u32::MAX, Field::Number)?;
     unless(
-        is_name(name.as_str()) && !has_name(sets, name) && sets.len() < MOST_SETS,
+        is_name(name.as_str()) && !has_name(sets, name) && sets.len() < MOST_CVDS,
         Field::Name,
     )?;
     let made = schema_from(alloc, schema)?;

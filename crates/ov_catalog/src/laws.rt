@@ -1,20 +1,42 @@
 //! Laws of what events and readings stand for, each the contract of a function that does nothing.
 
-ghost use Rattle.std.specs.Prelude.{◌≡◌, List, [], ◌∷◌, ◌++◌, Some};
+ghost use Rattle.std.specs.Prelude.{ℕ, ◌≡◌, ◌≢◌, true, List, [], ◌∷◌, ◌++◌, None, Some, is_some};
 ghost use Rattle.ov_event.specs.declared.event.Event as raw;
-ghost use Rattle.ov_model.specs.Moves.{Move, moved};
+ghost use Rattle.ov_host.specs.declared.area.Extent.{Extent};
+ghost use Rattle.ov_model.specs.Moves.{Move, Checkpoint, moved};
 ghost use Rattle.ov_model.specs.World.{World, empty_world};
-ghost use Rattle.ov_catalog.specs.Events.{applied};
+ghost use Rattle.ov_catalog.specs.Applying.{AllApply, AllFollow, Stage, first_off, off_at};
+ghost use Rattle.ov_catalog.specs.Events.{Event, applied, replayed};
 ghost use Rattle.ov_catalog.specs.Extents.{live};
 ghost use Rattle.ov_catalog.specs.Raw.{numbers_in};
-ghost use Rattle.ov_catalog.specs.Reached.{Fits, Reached};
-ghost use Rattle.ov_catalog.specs.Shown.{shown, event_of};
+ghost use Rattle.ov_catalog.specs.Numbers.{Numbers};
+ghost use Rattle.ov_catalog.specs.Reached.{Fits, Reached, ReachedByAll, Suits};
+ghost use Rattle.ov_catalog.specs.Shown.{Rids, Records, shown, event_of, snapshot_of};
+ghost use Rattle.ov_catalog.specs.Snapshots.{IsSnapshot, events_of};
 ghost use Rattle.ov_catalog.specs.Worked.{nowhere, empty_event, empty_move};
-ghost use Rattle.ov_catalog.specs.Stands.{Readings, StandsFor, ReadSame, IsMove};
+ghost use Rattle.ov_catalog.specs.Stands.{Readings, StandsFor, StandsForAll, ReadSame, IsMove};
 
-/// The event of a move makes of a World's numbers those of the World after it.
+/// The event of a move makes of a World's numbers those of the World after it. Each move but a checkpoint has one.
 pub fn events_are_moves()
-    ensures { (m : Move) (w : World) → Reached w → Fits m w → shown (moved m w) ≡ applied (event_of m w) (shown w) }
+    ensures moves { (m : Move) (w : World) (e : Event Rids Records) → Reached w → Fits m w → event_of m w ≡ Some e
+        → shown (moved m w) ≡ applied e (shown w) }
+    ensures one { (m : Move) (w : World) → m ≢ Checkpoint → Suits m w → is_some (event_of m w) ≡ true }
+{}
+
+/// The events of a checkpoint say the World's numbers, whatever came before.
+pub fn a_snapshot_says_the_world()
+    ensures numbers { (n before : Numbers Extent Extent) → replayed (events_of n) before ≡ n }
+    ensures spelled { (events : List raw.Event) (n : Numbers Extent Extent) → IsSnapshot events n → numbers_in events ≡ n }
+    ensures world { (w : World) (before : Numbers Rids Records) → replayed (snapshot_of w) before ≡ shown w }
+{}
+
+/// An event that is built applies where it follows by all that counts, however far the half has come; and then those behind
+/// each other do. So it is with the Worlds that moves reach, and with what stands for them.
+pub fn what_is_built_follows()
+    ensures one { (stage : Stage) (e : raw.Event) (n : Numbers Extent Extent) → first_off e n ≡ None → off_at stage e n ≡ None }
+    ensures all { (events : List raw.Event) (stage : Stage) (n : Numbers Extent Extent) → AllApply events n → AllFollow stage events n }
+    ensures reached { (w : World) → Reached w → ReachedByAll w }
+    ensures stands { (format : ℕ) (events : List raw.Event) (r : Readings) (w : World) → StandsFor events r w → StandsForAll format events r w }
 {}
 
 /// No event stands for the empty World, whatever the pages have.

@@ -17,6 +17,8 @@ mod placing;
 mod refusing;
 mod room;
 mod schemas;
+mod telling;
+mod worked;
 
 pub use catalog::Catalog;
 pub use commit::next_place;
@@ -24,6 +26,12 @@ pub use cvd::{Cvd, Plan, Target, Version};
 pub use error::ApplyErr;
 pub use field::Field;
 pub use laws::{
-    an_empty_dataset_stands, at_most_one_world, events_are_moves,
+    a_snapshot_says_the_world, an_empty_dataset_stands, at_most_one_world, events_are_moves,
     nothing_stands_for_the_empty_world, one_more_event, only_live_extents_matter,
+    what_is_built_follows,
+};
+pub use telling::{numbers_tell_worlds_apart, order_is_by_rid};
+pub use worked::{
+    a_migration_of_a_chain, a_plan_of_a_chain, a_snapshot_of_a_chain, a_wider_version_of_a_chain,
+    steps_of_a_chain,
 };

@@ -3,4 +3,4 @@
 
 mod text;
 
-pub use text::{Checkout, checkout_of, checkout_text};
+pub use text::{Checkout, checkout_of};

@@ -35,15 +35,6 @@ pub fn checkout_of(alloc: Global, schema: &Schema, scan: &Scan) -> Result<Checko
     })
 }
 
-/// The text alone.
-pub fn checkout_text(alloc: Global, schema: &Schema, scan: &Scan) -> Result<Vec<u8>, AllocError>
-    requires { IsSound schema.now scan.now }
-    ensures { IfOk result (λ text. text.items ≡ text_of schema.now (merged schema.now (map (rows_at scan.now.records) scan.now.picks))) }
-{
-    let Checkout { text, rows: _ } = checkout_of(alloc, schema, scan)?;
-    Ok(text)
-}
-
 // The positions of the merge, each of which is there.
 fn merged_places(alloc: Global, schema: &Schema, scan: &Scan) -> Result<Pick, AllocError>
     requires { IsSound schema.now scan.now }

@@ -27,7 +27,7 @@ use ov_value::Txt;
 use std::alloc::Global;
 
 /// The most bytes of a line.
-const LINE_BYTES: usize = 65_536;
+const LINE_BYTES: usize = ov_model::LINE_BYTES;
 
 /// The command of a line of this form, by the words behind its name.
 fn read_by_words(alloc: Global, form: &Form, words: &[Word]) -> Result<Command, LineErr>

@@ -1,5 +1,5 @@
 -- A change whose runs are written to free pages, at any World that the store is at.
-use Rattle.std.proofs.Common.{◌≡◌, ℕ, ◌+◌, ◌<◌, ◌≤◌, List, [], ◌∷◌, ◌++◌, None, sym, ◌∙◌, ap, subst}
+use Rattle.std.proofs.Common.{◌≡◌, ℕ, ◌+◌, ◌<◌, ◌≤◌, List, [], ◌∷◌, ◌++◌, None, Some, sym, ◌∙◌, ap, subst}
 use Rattle.ov_host.specs.declared.area.Extent.{Extent}
 use Rattle.ov_host.specs.Host.{State}
 use Rattle.ov_host.specs.Stops.{Only}
@@ -82,7 +82,7 @@ module _ (w : World) (held : Held) (s0 : State) (is : IsAtWorld w held s0) (m : 
       let are : brought (event_in e) ≡ l ∷ extents_of s = brought_placed l s x.event unplaced.runs
       in is_move is.events (readings_of final) w e m (storing.stands_over w held s0 is final same) brings.fits
       (applies_sound e (numbers_in is.events) applies_now)
-      (spells extents x.list.items x.segment.items l s placed pages x.event unplaced.runs ∙ brings.says)
+      (ap Some (spells extents x.list.items x.segment.items l s placed pages x.event unplaced.runs) ∙ brings.says)
       (λ page. subst (λ (es : List Extent). covers es page + covers extents page ≤ 1) (sym are)
       (runs_apart extents x.list.items x.segment.items l s placed page (is.stands.stands.apart.once page)))
       (λ page. subst (λ (es : List Extent). 1 ≤ covers es page → page < pages_in final) (sym are)

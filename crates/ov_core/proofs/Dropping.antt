@@ -67,7 +67,7 @@ pub drop_there : (cvd : ℕ) (n m after : Numbers Extent Extent) (old new : List
 drop_there cvd n m after old new same is kept there page some =
     let now : after ≡ applied (event_in (says.Drop cvd)) n = is ∙ ap (applied (event_in (says.Drop cvd))) same
     in let some_now : 1 ≤ covers (live (applied (event_in (says.Drop cvd)) n)) page = subst (λ (x : Numbers Extent Extent). 1 ≤ covers (live x) page) now some
-    in subst (λ (ps : List ℕ). page < pages_in ps) (sym kept) (there page (omega (arith, some_now, live_applied page (event_in (says.Drop cvd)) n)))
+    in subst (λ (ps : List ℕ). page < pages_in ps) (sym kept) (there page (omega (arith, some_now, live_applied page (says.Drop cvd) n refl)))
 
 pub drop_event : (cvd : ℕ) → cvd < 2 ^ 32 → IsEvent (says.Drop cvd)
 unfolding IsEvent

@@ -6,8 +6,8 @@ use Rattle.ov_host.specs.declared.area.Extent.{Extent}
 use Rattle.ov_host.specs.Extent.{pages_of}
 use Rattle.ov_event.specs.declared.event.Event as raw
 use Rattle.ov_event.specs.declared.event.Event.TheVariants as says
-use Rattle.ov_event.specs.Fields.{u8, u32, text, extent, IsExtent}
-use Rattle.ov_event.specs.Spelling.{spelling, schema, parents, place, IsEvent}
+use Rattle.ov_event.specs.Fields.{u8, u32, text, extent, counted, IsExtent}
+use Rattle.ov_event.specs.Spelling.{spelling, schema, column, parents, place, IsEvent}
 use Rattle.ov_catalog.specs.Numbers.{SetNumbers, Numbers}
 use Rattle.ov_catalog.specs.Applying.{first_off, commit_off, of_live, set_numbered, is_extent, is_list, is_segment, is_same}
 use Rattle.ov_catalog.specs.Raw.{place_in}
@@ -27,6 +27,10 @@ extent_length : (e : Extent) → length (extent e) ≡ 8
 unfolding extent
 extent_length e =
     omega (arith, length-append (u32 e.page) (u32 e.bytes ++ []), length-append (u32 e.bytes) [], u32_length e.page, u32_length e.bytes)
+
+-- the last field
+end_same : (l m : Extent) → length (extent l ++ []) ≡ length (extent m ++ [])
+end_same l m = omega (arith, length-append (extent l) [], length-append (extent m) [], extent_length l, extent_length m)
 
 -- the two last fields
 ends_same : (l s m t : Extent) → length (extent l ++ (extent s ++ [])) ≡ length (extent m ++ (extent t ++ []))
@@ -54,12 +58,14 @@ spelled_same l s (says.Commit cvd vid message edges rows fresh placed added list
     behind_same (u8 2) _ _ (behind_same (u32 cvd) _ _ (behind_same (u32 vid) _ _ (behind_same (text message) _ _ (behind_same (parents edges) _ _
     (behind_same (u32 rows) _ _ (behind_same (u32 fresh) _ _ (behind_same (place placed) _ _ (behind_same (u32 added) _ _ (ends_same l s list segment)))))))))
 spelled_same l s (says.Plan cvd p q targets) = refl
-spelled_same l s (says.Copy cvd count segment) = refl
+spelled_same l s (says.Copy cvd count segment) = behind_same (u8 4) _ _ (behind_same (u32 cvd) _ _ (behind_same (u32 count) _ _ (end_same s segment)))
 spelled_same l s (says.Flip cvd) = refl
 spelled_same l s (says.Drop cvd) = refl
 spelled_same l s (says.Base next) = refl
 spelled_same l s (says.Whole set) = refl
-spelled_same l s (says.Wide cvd vid message columns edges rows fresh placed added list segment) = refl
+spelled_same l s (says.Wide cvd vid message added edges rows fresh placed more list segment) =
+    behind_same (u8 9) _ _ (behind_same (u32 cvd) _ _ (behind_same (u32 vid) _ _ (behind_same (text message) _ _ (behind_same (counted u8 column added) _ _ (behind_same (parents edges) _ _
+    (behind_same (u32 rows) _ _ (behind_same (u32 fresh) _ _ (behind_same (place placed) _ _ (behind_same (u32 more) _ _ (ends_same l s list segment))))))))))
 
 pub passes_same : (journal : journals.Numbers) (l s : Extent) (e : raw.Event) → PassesEnd journal (with_extents l s e) → PassesEnd journal e
 passes_same journal l s e passes = omega (arith, passes, spelled_same l s e)
@@ -75,12 +81,13 @@ event_placed l s (says.Init name columns rows list segment) is a b = (is.0, is.1
 event_placed l s (says.Commit cvd vid message edges rows fresh placed added list segment) is a b =
     (is.0, is.1, is.2, is.3, is.4, is.5, is.6, is.7, a, b)
 event_placed l s (says.Plan cvd p q targets) is a b = is
-event_placed l s (says.Copy cvd count segment) is a b = is
+event_placed l s (says.Copy cvd count segment) is a b = (is.0, is.1, b)
 event_placed l s (says.Flip cvd) is a b = is
 event_placed l s (says.Drop cvd) is a b = is
 event_placed l s (says.Base next) is a b = is
 event_placed l s (says.Whole set) is a b = is
-event_placed l s (says.Wide cvd vid message columns edges rows fresh placed added list segment) is a b = is
+event_placed l s (says.Wide cvd vid message columns edges rows fresh placed added list segment) is a b =
+    (is.0, is.1, is.2, is.3, is.4, is.5, is.6, is.7, is.8, a, b)
 
 -- the extents of an event that brings runs
 pub record Ends (e : raw.Event) (l s : Extent) : Type 0 where

@@ -226,12 +226,12 @@ served_more_by (says.Commit cvd vid message parents rows fresh place added list 
     (place_there vid message parents rows fresh (place_in place) added list segment d found.2 served) served)
     all
 served_more_by (says.Drop cvd) n h all = all_filter (λ d. not (numbered cvd d)) n.sets all
-served_more_by (says.Plan cvd p q targets) n h all = all
-served_more_by (says.Copy cvd count segment) n h all = all
-served_more_by (says.Flip cvd) n h all = all
-served_more_by (says.Base next) n h all = all
-served_more_by (says.Whole set) n h all = all
-served_more_by (says.Wide cvd vid message columns parents rows fresh place added list segment) n h all = all
+served_more_by (says.Plan cvd p q targets) n h all = absurd cc
+served_more_by (says.Copy cvd count segment) n h all = absurd cc
+served_more_by (says.Flip cvd) n h all = absurd cc
+served_more_by (says.Base next) n h all = absurd cc
+served_more_by (says.Whole set) n h all = absurd cc
+served_more_by (says.Wide cvd vid message columns parents rows fresh place added list segment) n h all = absurd cc
 
 all_served_by : (es : List raw.Event) (n : Numbers Extent Extent) → AllApply es n → AllServed n.sets → AllServed (replayed (map event_in es) n).sets
 all_served_by [] n apply all = all

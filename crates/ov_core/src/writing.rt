@@ -25,7 +25,7 @@ use ov_publish::Run;
 use std::alloc::Global;
 
 // The greatest length of the journal, in bytes.
-const JOURNAL_BYTES: usize = 1 << 28;
+const JOURNAL_BYTES: usize = ov_journal::JOURNAL_BYTES as usize;
 
 /// The event with its extents where its runs go.
 pub fn placed(event: Event, at: Placing) -> Event
@@ -59,6 +59,35 @@ pub fn placed(event: Event, at: Placing) -> Event
             cvd,
             vid,
             message,
+            parents,
+            rows,
+            fresh,
+            place,
+            added,
+            list,
+            segment,
+        },
+        Event::Copy { cvd, count, .. } => Event::Copy {
+            cvd,
+            count,
+            segment,
+        },
+        Event::Wide {
+            cvd,
+            vid,
+            message,
+            columns,
+            parents,
+            rows,
+            fresh,
+            place,
+            added,
+            ..
+        } => Event::Wide {
+            cvd,
+            vid,
+            message,
+            columns,
             parents,
             rows,
             fresh,

@@ -8,3 +8,4 @@ pub mod Lists
 pub mod Places
 pub mod Rows
 pub mod Sizes
+pub mod CellFields

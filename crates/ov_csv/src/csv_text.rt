@@ -4,12 +4,15 @@ ghost use Rattle.std.specs.Prelude.{◌≡◌, [], Some, None, true, IfOk, OnOk,
 ghost use Rattle.csv.specs.Records.{fields_of};
 ghost use Rattle.csv.specs.Writing.{default_writer, row_text, text_written};
 ghost use Rattle.ov_value.specs.Shapes.{names};
+ghost use Rattle.ov_model.specs.Answers.{cell_fields};
 ghost use Rattle.ov_model.specs.Csv.{fields_of as row_fields, text_of};
 ghost use Rattle.ov_csv.specs.Growing.{Grows, IsOpen};
 
+use crate::cells::fill_cells;
 use crate::spelling::{fill_names, fill_row};
 use csv::{ByteRecord, Error, Writer, WriterBuilder};
-use ov_value::{Column, Row, Schema};
+use ov_model::Cell;
+use ov_value::{Column, Kind, Row, Schema};
 use std::alloc::{AllocError, Global};
 use std::marker::Model;
 
@@ -75,6 +78,21 @@ impl CsvText {
         }
         self.failed = true;
         fill_row(self.alloc, &mut self.line, columns, row)?;
+        write_line(&mut self.writer, &self.line)?;
+        self.failed = false;
+        Ok(())
+    }
+
+    /// Adds the line of an answer's row, whose cells stand in columns of these kinds.
+    pub fn cells(&mut self, kinds: &[Kind], cells: &[Cell]) -> Result<(), AllocError>
+        ensures ok { OnOk result (Grows self.old (row_text default_writer (cell_fields kinds.now cells.now)) self.new) }
+        ensures err { OnErr result (self.new ≡ None) }
+    {
+        if self.failed {
+            return Err(AllocError);
+        }
+        self.failed = true;
+        fill_cells(self.alloc, &mut self.line, kinds, cells)?;
         write_line(&mut self.writer, &self.line)?;
         self.failed = false;
         Ok(())

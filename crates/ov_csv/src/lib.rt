@@ -1,11 +1,13 @@
 //! Rows from the text of a file, and the text of a file from rows.
 //!
 //! `read_csv` reads a whole file and names its first fault; `CsvText` writes a header and rows, a line at
-//! a time, and `write_csv` those of a scan. The `csv`
+//! a time, `write_csv` those of a scan, and `write_answer` the rows of an answer, which have no header. The `csv`
 //! crate splits the bytes into records and writes records; what a field spells in a column stands in the definitions of
 //! `ov_model`, which both sides are proved to meet.
 #![tactic(auto)]
 
+mod answering;
+mod cells;
 mod csv_err;
 mod csv_text;
 mod fields;
@@ -17,6 +19,7 @@ mod scans;
 mod spelling;
 mod texts;
 
+pub use answering::write_answer;
 pub use csv_err::CsvErr;
 pub use csv_text::{CsvText, write_rows};
 pub use reading::read_csv;

@@ -16,7 +16,7 @@ use ov_value::{Row, Schema};
 use std::alloc::Global;
 
 /// The greatest number of bytes of a file.
-const MOST_BYTES: usize = 67_108_864;
+const MOST_BYTES: usize = ov_model::FILE_BYTES;
 
 /// The rows of a file in file order, or its first fault, in time linear in its bytes. Beside the rows it keeps one record at
 /// a time.

@@ -14,7 +14,7 @@ use crate::csv_err::CsvErr;
 use crate::fields::read_field;
 use crate::texts::Texts;
 use csv::ByteRecord;
-use ov_value::{Column, Row, Schema, Value, row_len};
+use ov_value::{Column, LONGEST_ROW, Row, Schema, Value, row_len};
 use std::alloc::Global;
 
 /// The row that the record spells, which is the `row`th after the header, or the first refusal.
@@ -66,7 +66,7 @@ fn is_long(schema: &Schema, texts: &Texts<'_>, size: usize, made: &Row) -> bool
     ensures { result ≡ nat_lt 65536 (length (row_spelling made.now).bytes) }
 {
     let _columns = schema.columns();
-    size > 64_000 && row_len(made) > 65_536
+    size > 64_000 && row_len(made) > LONGEST_ROW
 }
 
 // The values of the texts and the number of the texts' bytes, or the refusal of the first that spells none.

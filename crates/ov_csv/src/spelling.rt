@@ -42,7 +42,8 @@ pub(crate) fn fill_row(
     Ok(())
 }
 
-fn push_value(
+/// Adds the field of a value in a column of the kind.
+pub(crate) fn push_value(
     alloc: Global,
     line: &mut ByteRecord,
     kind: Kind,

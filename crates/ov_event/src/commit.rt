@@ -10,10 +10,10 @@ ghost use Rattle.ov_event.specs.Events.{tail_at, commit_at, wide_at};
 
 use crate::event::{Event, Placed};
 use crate::field::Field;
-use crate::items::Items;
 use crate::list::{few_of, parents_of, write_parents};
 use crate::stop::Stop;
 use ov_host::Extent;
+use ov_items::Items;
 use ov_value::Txt;
 use std::alloc::{AllocError, Global};
 

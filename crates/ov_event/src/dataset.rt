@@ -8,12 +8,12 @@ ghost use Rattle.ov_event.specs.Records.{version_at, part_at, dataset_at};
 
 use crate::event::RawSchema;
 use crate::field::Field;
-use crate::items::Items;
 use crate::list::{parents_of, write_parents};
 use crate::plan::{maybe_plan_of, write_maybe_plan};
 use crate::stop::Stop;
 use crate::whole::{RawPart, RawVersion, Whole};
 use ov_host::Extent;
+use ov_items::Items;
 use ov_value::Txt;
 use std::alloc::{AllocError, Global};
 

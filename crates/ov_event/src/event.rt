@@ -1,8 +1,8 @@
 //! What the journal's events are.
 
-use crate::items::Items;
 use crate::whole::Whole;
 use ov_host::Extent;
+use ov_items::Items;
 use ov_value::{Column, Txt};
 
 /// The columns and the positions of the key columns, counted from 0. It may be one that `Schema::new` refuses.

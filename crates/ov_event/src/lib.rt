@@ -5,7 +5,6 @@ mod commit;
 mod dataset;
 mod event;
 mod field;
-mod items;
 mod laws;
 mod list;
 mod plan;
@@ -16,8 +15,8 @@ mod whole;
 mod writing;
 
 pub use event::{Event, Placed, PlanTarget, RawSchema};
-pub use items::Items;
 pub use laws::one_event;
+pub use ov_items::Items;
 pub use reading::read_event;
 pub use whole::{RawPart, RawPlan, RawTarget, RawVersion, Whole};
 pub use writing::bytes_of;

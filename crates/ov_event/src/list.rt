@@ -9,8 +9,8 @@ ghost use Rattle.ov_event.specs.Fields.{u8, u16, u32, counted};
 ghost use Rattle.ov_event.specs.Reading.{Gives, items_at, counted_at, u8_at, u16_at, u32_at};
 
 use crate::field::Field;
-use crate::items::Items;
 use crate::stop::Stop;
+use ov_items::Items;
 use std::alloc::{AllocError, Global};
 
 /// So many items. Memory is taken as they are read, so a number that passes the bytes takes none.

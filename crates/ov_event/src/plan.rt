@@ -8,9 +8,9 @@ ghost use Rattle.ov_event.specs.Records.{target_at, raw_target_at, raw_plan_at, 
 
 use crate::event::PlanTarget;
 use crate::field::Field;
-use crate::items::Items;
 use crate::stop::Stop;
 use crate::whole::{RawPlan, RawTarget};
+use ov_items::Items;
 use std::alloc::{AllocError, Global};
 
 impl Field for PlanTarget {

@@ -10,10 +10,10 @@ ghost use Rattle.ov_event.specs.Events.{init_at, plan_at, copy_at, fields_at, ev
 use crate::commit::{commit_of, wide_of};
 use crate::event::{Event, RawSchema};
 use crate::field::Field;
-use crate::items::Items;
 use crate::stop::Stop;
 use crate::whole::Whole;
 use ov_host::Extent;
+use ov_items::Items;
 use ov_value::Txt;
 use std::alloc::{AllocError, Global};
 

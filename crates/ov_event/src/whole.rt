@@ -1,8 +1,8 @@
 //! A dataset as it stands, as one event.
 
 use crate::event::RawSchema;
-use crate::items::Items;
 use ov_host::Extent;
+use ov_items::Items;
 use ov_value::Txt;
 
 /// A dataset: its number, its name, its schema, how many records it has, the threshold p / q or 0 and 0 for

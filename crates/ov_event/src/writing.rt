@@ -8,9 +8,9 @@ ghost use Rattle.ov_event.specs.Spelling.{spelling, schema as schema_bytes};
 use crate::commit::{write_head, write_placed, write_rows};
 use crate::event::{Event, RawSchema};
 use crate::field::Field;
-use crate::items::Items;
 use crate::list::write_few;
 use ov_host::Extent;
+use ov_items::Items;
 use ov_value::Txt;
 use std::alloc::{AllocError, Global};
 

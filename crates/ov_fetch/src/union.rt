@@ -14,24 +14,17 @@ pub(crate) fn union_of(alloc: Global, members: &[Members]) -> Result<Members, Al
     ensures { IfOk result (IsAskedSet members.now) }
 {
     match members {
-        [] => nothing(alloc),
-        [one] => one.union(alloc, one),
+        [] => Ok(Members::empty(alloc)),
+        [one] => {
+            let copy = one.copy(alloc)?;
+            Ok(copy)
+        }
         _ => {
             let (left, right) = members.split_at(members.len() / 2);
             let left = union_of(alloc, left)?;
             let right = union_of(alloc, right)?;
             left.union(alloc, &right)
         }
-    }
-}
-
-// The set without a rid.
-fn nothing(alloc: Global) -> Result<Members, AllocError>
-    ensures { IfOk result (λ members. members ≡ []) }
-{
-    match Members::of(alloc, &[])? {
-        Some(members) => Ok(members),
-        None => unreachable!(),
     }
 }
 

@@ -9,7 +9,7 @@ use ov_host::Stage;
 use std::alloc::Global;
 
 /// The greatest number of bytes of a file.
-const MOST_BYTES: usize = 67_108_864;
+const MOST_BYTES: usize = ov_model::FILE_BYTES;
 
 /// The bytes of one piece.
 const PIECE: usize = 65_536;

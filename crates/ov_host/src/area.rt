@@ -5,6 +5,12 @@ ghost use Rattle.ov_host.specs.Extent.{pages_of};
 /// The bytes of one page.
 pub const PAGE_BYTES: u32 = 4096;
 
+/// How many pages the page area has at most.
+pub const PAGES: u32 = 4_194_304;
+
+/// A run of consecutive pages has fewer than these.
+pub const RUN_LIMIT: u32 = 1_048_576;
+
 /// One of the two areas of a host.
 #[derive(Clone, Copy, Debug, PartialEq, Eq)]
 pub enum Area {

@@ -13,7 +13,7 @@ mod null;
 mod source;
 mod stage;
 
-pub use area::{Area, Extent, Failed, Found, PAGE_BYTES};
+pub use area::{Area, Extent, Failed, Found, PAGE_BYTES, PAGES, RUN_LIMIT};
 pub use host::Host;
 pub use laws::{clock_never_goes_back, stops_in_a_call_include_its_failures};
 pub use null::{NullHost, NullSource, NullStage};

@@ -17,7 +17,7 @@ use ov_host::{Area, Failed, Host};
 use std::marker::Model;
 
 // The greatest length of the journal, in bytes.
-pub(crate) const JOURNAL_BYTES: u64 = 1 << 28;
+pub const JOURNAL_BYTES: u64 = 1 << 28;
 
 /// The journal of a store: the place of its first closed gate, and its live slot.
 #[derive(Debug, Drop)]

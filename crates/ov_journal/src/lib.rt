@@ -20,9 +20,10 @@ mod writing;
 
 pub use errors::{AppendErr, JournalErr};
 pub use framed::{Framed, can_snapshot, frame, snapshot};
-pub use journal::Journal;
+pub use journal::{JOURNAL_BYTES, Journal};
 pub use laws::{
     a_journal_ends_at_its_first_closed_gate, bytes_are_one_thing, only_the_live_half_matters,
 };
 pub use payloads::{Payload, Payloads};
+pub use reading::FRONT_BYTES;
 pub use snapshots::Snapshot;

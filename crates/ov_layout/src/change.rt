@@ -7,7 +7,7 @@ ghost use Rattle.ov_layout.specs.Changes.{extents_of, joined_part, own_part};
 ghost use Rattle.ov_layout.specs.Flips.{leaving};
 ghost use Rattle.ov_layout.specs.Spares.{AreEmpty, FitsPart, HaveRoom};
 
-use crate::lists::{Extents, Vids};
+use crate::lists::{Extents, Vids, leave, push_to};
 use crate::part::Part;
 use crate::spares::Spares;
 use ov_host::Extent;
@@ -74,11 +74,11 @@ pub fn join_part(part: &mut Part, vid: u32, added: u32, segment: Extent, spare: 
     ensures joined { part.new ≡ joined_part vid added segment part.old }
     ensures empty { AreEmpty spare.new }
 {
-    part.versions.push(vid, &mut spare.versions);
-    part.holds.push(vid, &mut spare.holds);
+    push_to(&mut part.versions, vid, &mut spare.versions);
+    push_to(&mut part.holds, vid, &mut spare.holds);
     part.records += added;
     if segment.bytes > 0 {
-        part.segments.push(segment, &mut spare.segments);
+        push_to(&mut part.segments, segment, &mut spare.segments);
     }
 }
 
@@ -90,7 +90,7 @@ pub fn leave_part(part: &mut Part, versions: &[u32]) -> u64
     ensures saved { result + length part.new.versions * part.new.records ≡ length part.old.versions * part.old.records }
 {
     let before = part.versions.as_slice().len();
-    part.versions.leave(versions);
+    leave(&mut part.versions, versions);
     let gone = before - part.versions.as_slice().len();
     gone as u64 * u64::from(part.records)
 }

@@ -1,3 +1,4 @@
+pub mod Lexing
 pub mod Scans
 pub mod Spellings
 pub mod Texts

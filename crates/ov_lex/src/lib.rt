@@ -9,6 +9,6 @@ mod lex;
 mod spellings;
 mod token;
 
-pub use laws::{one_list_of_tokens, tokens_or_a_bad_byte};
+pub use laws::{every_text_is_read, one_list_of_tokens, tokens_or_a_bad_byte};
 pub use lex::tokens;
 pub use token::{LexErr, Token, TokenKind};

@@ -2,6 +2,7 @@ pub mod RidLemmas
 pub mod RunLemmas
 pub mod RangeLemmas
 pub mod EdgeLemmas
+pub mod GreatestLemmas
 pub mod PutLemmas
 pub mod WalkLemmas
 pub mod ReadLemmas

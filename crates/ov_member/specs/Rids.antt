@@ -1,5 +1,5 @@
 -- Sets of record ids, each as the list of its rids from the least to the greatest.
-use Rattle.std.specs.Prelude.{◌≡◌, ℕ, suc, ◌^◌, ◌≤◌, Bool, not, ◌||◌, ◌==◌, List, [], ◌∷◌, filter}
+use Rattle.std.specs.Prelude.{◌≡◌, ℕ, suc, ◌^◌, ◌≤◌, Bool, true, not, ◌||◌, ◌==◌, List, [], ◌∷◌, All, filter}
 use Rattle.std.specs.List.{list_any}
 
 -- the numbers ascend strictly, the first is at least least, and none is above 2^31
@@ -27,3 +27,8 @@ left_out xs ys = filter (λ rid. not (has ys rid)) xs
 pub record IsUnion (xs ys zs : List ℕ) : Type 0 where
   pub rids : AreRids zs
   pub members : (rid : ℕ) → has zs rid ≡ (has xs rid || has ys rid)
+
+-- it is one of the rids, and none is above it
+pub record IsGreatest (rids : List ℕ) (rid : ℕ) : Type 0 where
+  pub there : has rids rid ≡ true
+  pub above : All (λ other. other ≤ rid) rids

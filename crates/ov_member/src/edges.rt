@@ -1,7 +1,7 @@
 //! A set as its edges: where each of its ranges begins, and one past where it ends, ascending.
 
 ghost use Rattle.std.specs.Prelude.{◌≡◌, [], ◌∷◌, ◌++◌, length, IfOk, OnOk, MatchOption};
-ghost use Rattle.ov_member.specs.Rids.{AreRids, has};
+ghost use Rattle.ov_member.specs.Rids.{AreRids, IsGreatest, has};
 ghost use Rattle.ov_member.specs.Edges.{AreEdges, rids_between};
 
 use crate::members::LAST_RID;
@@ -45,6 +45,17 @@ pub fn contains(edges: &[u32], rid: u32) -> bool
     ensures { result ≡ has (rids_between edges.now) rid }
 {
     edges.partition_point(|edge| *edge <= rid) % 2 == 1
+}
+
+/// The greatest rid of a set: the one before its last edge.
+pub fn greatest(edges: &[u32]) -> Option<u32>
+    requires { AreEdges edges.now }
+    ensures { MatchOption result (rids_between edges.now ≡ []) (IsGreatest (rids_between edges.now)) }
+{
+    match edges.last() {
+        Some(past) => Some(*past - 1),
+        None => None,
+    }
 }
 
 /// How many rids a set has.

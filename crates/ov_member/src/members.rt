@@ -1,8 +1,8 @@
 //! A set of record ids.
 
-ghost use Rattle.std.specs.Prelude.{◌≡◌, ◌≤◌, ◌^◌, length, IfOk};
+ghost use Rattle.std.specs.Prelude.{◌≡◌, ◌≤◌, ◌^◌, [], length, IfOk, MatchOption};
 ghost use Rattle.std.specs.Option.{SomeIff};
-ghost use Rattle.ov_member.specs.Rids.{AreRids, has, shared, left_out, IsUnion};
+ghost use Rattle.ov_member.specs.Rids.{AreRids, has, shared, left_out, IsGreatest, IsUnion};
 ghost use Rattle.ov_member.specs.Lists.{spelling, Spells};
 ghost use Rattle.ov_member.specs.Edges.{AreEdges, rids_between};
 
@@ -45,6 +45,24 @@ impl Members {
         }
     }
 
+    /// The set without a rid. Takes no memory.
+    pub fn empty(alloc: Global) -> Members
+        ensures { result ≡ [] }
+    {
+        Members {
+            edges: Vec::new(alloc),
+        }
+    }
+
+    /// The same rids, as a set of its own.
+    pub fn copy(&self, alloc: Global) -> Result<Members, AllocError>
+        ensures set { IfOk result AreRids }
+        ensures same { IfOk result (λ copy. copy ≡ self.now) }
+    {
+        let edges = Vec::from_slice(alloc, &self.edges)?;
+        Ok(Members { edges })
+    }
+
     /// The set with these edges.
     pub(crate) fn kept_by(edges: Vec<u32>) -> Members
         requires { AreEdges edges.items }
@@ -82,6 +100,13 @@ impl Members {
         ensures { result ≡ has self.now rid }
     {
         edges::contains(&self.edges, rid)
+    }
+
+    /// The greatest rid; `None` where there is no rid.
+    pub fn greatest(&self) -> Option<u32>
+        ensures { MatchOption result (self.now ≡ []) (IsGreatest self.now) }
+    {
+        edges::greatest(&self.edges)
     }
 
     /// How many rids the set has, at most [`LAST_RID`].

@@ -2,14 +2,15 @@
 use Rattle.std.proofs.Common.{◌≡◌, ℕ, zero, suc, ◌+◌, Bool, true, false, List, [], ◌∷◌, ◌++◌, length, map, filter, refl, sym, ◌∙◌, ap}
 use Rattle.std.specs.Prelude.{Option, Some, None, not, if◌then◌else◌}
 use Rattle.std.specs.Str.{bytes_eq}
-use Rattle.ov_model.specs.Act.{Session, Deed, deed, checkout_deed, vids_refusal, gives, merge_of, unless, refuses, generated_reply, init_refusal}
-use Rattle.ov_model.specs.Asking.{cvd_in}
+use Rattle.ov_model.specs.Act.{Session, Deed, checkout_deed, vids_refusal, gives, merge_of, unless, refuses, generated_reply, init_refusal}
+use Rattle.ov_model.specs.Deed.{deed, permitted}
 use Rattle.ov_model.specs.Book.{Cvd}
 use Rattle.ov_model.specs.Generator.{generated}
 use Rattle.ov_model.specs.Moves.{Move, Init, Commit, BeginPlan, Copy, Flip, Drop, Checkpoint, moved, change, new_set, committed, numbered}
 use Rattle.ov_model.specs.Plans.{planned, copied_more, flipped}
 use Rattle.ov_model.specs.Steps.{next_step, next_steps, and_after, first_step, all_moved, steps_left, steps_of_all}
-use Rattle.ov_model.specs.World.{Dataset, World, book, first_set, named, set_named}
+use Rattle.ov_model.specs.Users.{permit}
+use Rattle.ov_model.specs.World.{Dataset, World, book, cvd_in, first_set, named, set_named}
 use Rattle.ov_model.specs.declared.command.Command.{Command}
 use Rattle.ov_model.specs.declared.command.Command.TheVariants as asks
 use Rattle.ov_model.specs.declared.refusal.Refusal.{Refusal}
@@ -60,7 +61,7 @@ migrate_same n w v a =
 generate_same : (name : List ℕ) (ms : List Move) (w v : World) → AreAlike w v → generated_reply name (set_named (all_moved ms w) name) ≡ generated_reply name (set_named (all_moved ms v) name)
 generate_same name ms w v a = ap (λ sets. generated_reply name (first_set (named name) sets)) (all_alike ms w v a).sets
 
-numbers_same : (w : World) (epoch records : ℕ) (s : Session) (command : Command) → (deed (numbered_so w epoch records w.format) s command).reply ≡ (deed w s command).reply
+numbers_same : (w : World) (epoch records : ℕ) (s : Session) (command : Command) → (permitted (numbered_so w epoch records w.format) s command).reply ≡ (permitted w s command).reply
 numbers_same w epoch records s (asks.Init cvd schema file) = refl
 numbers_same w epoch records s (asks.Checkout cvd vids file None) = refl
 numbers_same w epoch records s (asks.Checkout cvd vids file (Some table)) = refl
@@ -85,10 +86,15 @@ numbers_same w epoch records s asks.Whoami = refl
 numbers_same w epoch records s (asks.Unstage user table) = refl
 numbers_same w epoch records s asks.Tables = refl
 
+deeds_same : (w : World) (epoch records : ℕ) (s : Session) (command : Command) → (deed (numbered_so w epoch records w.format) s command).reply ≡ (deed w s command).reply
+deeds_same w epoch records s command =
+    unless_same s (permit s.user command) (permitted (numbered_so w epoch records w.format) s command) (permitted w s command)
+    (numbers_same w epoch records s command)
+
 pub checkpoint_same : (w : World) (s : Session) (command : Command) → w.format ≡ 2 → (deed (moved Checkpoint w) s command).reply ≡ (deed w s command).reply
 checkpoint_same w s command two =
     ap (λ format. (deed (numbered_so w (w.epoch + 1) (length w.sets + 1) format) s command).reply) (sym two)
-    ∙ numbers_same w (w.epoch + 1) (length w.sets + 1) s command
+    ∙ deeds_same w (w.epoch + 1) (length w.sets + 1) s command
 
 -- the dataset of a name, in a book
 abbrev pub first_named : List ℕ → List Cvd → Option Cvd
@@ -103,17 +109,18 @@ pub found_in_book : (name : List ℕ) (sets : List Dataset) → cvd_in (first_se
 found_in_book name [] = refl
 found_in_book name (d ∷ sets) = cvd_if (named name d) d (first_set (named name) sets) (first_named name (map (λ x. x.cvd) sets)) (found_in_book name sets)
 
-abbrev checkout_by : Session → List ℕ → Option (List ℕ) → List ℕ → Option Cvd → Deed
-checkout_by s vids file name None = refuses s (no.NoCvd name)
-checkout_by s vids file name (Some cvd) = unless s (vids_refusal (length cvd.versions) [] vids) (gives s cvd (merge_of cvd vids) file)
+abbrev checkout_in_book : Session → List ℕ → Option (List ℕ) → List ℕ → Option Cvd → Deed
+checkout_in_book s vids file name None = refuses s (no.NoCvd name)
+checkout_in_book s vids file name (Some cvd) = unless s (vids_refusal (length cvd.versions) [] vids) (gives s cvd (merge_of cvd vids) file)
 
-checkout_is : (s : Session) (vids : List ℕ) (file : Option (List ℕ)) (name : List ℕ) (d : Option Dataset) → checkout_deed s vids file name d ≡ checkout_by s vids file name (cvd_in d)
+checkout_is : (s : Session) (vids : List ℕ) (file : Option (List ℕ)) (name : List ℕ) (d : Option Dataset) → checkout_deed s vids file name d ≡ checkout_in_book s vids file name (cvd_in d)
 checkout_is s vids file name None = refl
 checkout_is s vids file name (Some d) = refl
 
-checkout_in : (w : World) (s : Session) (vids : List ℕ) (file : Option (List ℕ)) (name : List ℕ) → deed w s (asks.Checkout name vids file None) ≡ checkout_by s vids file name (first_named name (book w))
-checkout_in w s vids file name = checkout_is s vids file name (set_named w name) ∙ ap (checkout_by s vids file name) (found_in_book name w.sets)
+checkout_in : (w : World) (s : Session) (vids : List ℕ) (file : Option (List ℕ)) (name : List ℕ) → permitted w s (asks.Checkout name vids file None) ≡ checkout_in_book s vids file name (first_named name (book w))
+checkout_in w s vids file name = checkout_is s vids file name (set_named w name) ∙ ap (checkout_in_book s vids file name) (found_in_book name w.sets)
 
 pub checkout_same : (w v : World) (s : Session) (vids : List ℕ) (file : Option (List ℕ)) (name : List ℕ) → book w ≡ book v → deed w s (asks.Checkout name vids file None) ≡ deed v s (asks.Checkout name vids file None)
 checkout_same w v s vids file name same =
-    checkout_in w s vids file name ∙ ap (λ b. checkout_by s vids file name (first_named name b)) same ∙ sym (checkout_in v s vids file name)
+    ap (unless s (permit s.user (asks.Checkout name vids file None)))
+    (checkout_in w s vids file name ∙ ap (λ b. checkout_in_book s vids file name (first_named name b)) same ∙ sym (checkout_in v s vids file name))

@@ -10,7 +10,7 @@ use Rattle.csv.specs.Writing.{escaped, fields_text, is_blank}
 use Rattle.ov_value.specs.Making.{name_refusal, column_refusal, key_refusal}
 use Rattle.ov_value.specs.Naming.{is_name, is_vid, is_column_name}
 use Rattle.ov_value.specs.Spelling.{row_spelling}
-use Rattle.ov_model.specs.Asking.{BadByte, NoQuery}
+use Rattle.ov_model.specs.QueryTexts.{BadByte, NoQuery}
 use Rattle.ov_model.specs.Examples.{people}
 use Rattle.ov_model.specs.Questions.{AllAnswered, said, answered, counts, by_score, unknown, not_grouped, no_int, with_null, totals, four_versions, of_ancestors}
 use Rattle.ov_model.specs.Replies.{line}

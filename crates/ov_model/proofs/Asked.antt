@@ -1,9 +1,12 @@
 -- An answer is of the book; the lineages of a condition by cases.
 use Rattle.std.proofs.Common.{◌≡◌, ℕ, Bool, List, [], ◌∷◌, map, refl, sym, ◌∙◌, ap}
-use Rattle.ov_model.specs.Act.{Session}
-use Rattle.ov_model.specs.Asking.{Asked, BadByte, NoQuery, AsksQuery, lineages_step, cond_lineages, name_read, query_by, run_deed}
+use Rattle.ov_model.specs.Act.{Session, unless}
+use Rattle.ov_model.specs.Asking.{lineages_step, cond_lineages, name_read, query_by, run_deed}
 use Rattle.ov_model.specs.Lists.{joined}
+use Rattle.ov_model.specs.QueryTexts.{Asked, BadByte, NoQuery, AsksQuery, AsksJoin}
 use Rattle.ov_model.proofs.Alike.{first_named, found_in_book}
+use Rattle.ov_model.proofs.Joining.{join_of_book}
+use Rattle.ov_model.specs.Users.{permit_names}
 use Rattle.ov_model.specs.World.{World, book}
 use Rattle.ov_model.specs.declared.query.Cond.{Cond}
 use Rattle.ov_model.specs.declared.query.Cond.TheOpen.{Cond-F}
@@ -16,13 +19,14 @@ use Rattle.ov_model.specs.declared.query.Query.{Query}
 
 query_of_book : (w v : World) (s : Session) (query : Query) → book w ≡ book v → run_deed w s (AsksQuery query) ≡ run_deed v s (AsksQuery query)
 query_of_book w v s query same =
-    ap (query_by s query)
+    ap (λ cvd. unless s (permit_names s.user (name_read query.source ∷ [])) (query_by s query cvd))
     (found_in_book (name_read query.source) w.sets ∙ ap (first_named (name_read query.source)) same ∙ sym (found_in_book (name_read query.source) v.sets))
 
 pub run_of_book : (w v : World) (s : Session) (asked : Asked) → book w ≡ book v → run_deed w s asked ≡ run_deed v s asked
 run_of_book w v s (BadByte at) same = refl
 run_of_book w v s NoQuery same = refl
 run_of_book w v s (AsksQuery query) same = query_of_book w v s query same
+run_of_book w v s (AsksJoin join) same = ap (unless s (permit_names s.user (join.left.cvd ∷ join.right.cvd ∷ []))) (join_of_book w v s join same)
 
 pub lineages-compare : (left : Operand) (by : Sign) (right : Operand) → cond_lineages (Compare left by right) ≡ []
 lineages-compare left by right = ap cond_lineages (sym (rolls-Compare left by right)) ∙ fold-roll-Cond (List ℕ) lineages_step (Cond-F.Compare left by right)

@@ -3,7 +3,8 @@ use Rattle.std.proofs.Common.{◌≡◌, ◌≤◌, ◌+◌, ℕ, zero, suc, Boo
 use Rattle.std.specs.Prelude.{Option, Some, None, slice_get}
 use Rattle.std.specs.List.{onto_first}
 use Rattle.std.specs.Prelude.{◌≢◌, if◌then◌else◌}
-use Rattle.ov_model.specs.Act.{Session, Deed, deed}
+use Rattle.ov_model.specs.Act.{Session, Deed}
+use Rattle.ov_model.specs.Deed.{deed}
 use Rattle.ov_model.specs.Course.{Item, Makes, Says, Room, Enough, NoRun, Full, Space, first, rest, Served, after, replied, attempt, attempts, try_step, step_by, steps, and_steps, line_served, served, course, due, moves_of, play, world_after, world_at}
 use Rattle.ov_model.specs.Forms.{Form}
 use Rattle.ov_model.specs.Line.{Line, Comment, Asks, Refused, line_of}

@@ -13,10 +13,10 @@ use Rattle.ov_model.specs.Lists.{IsIn, AreIn, AllAreIn, joined}
 use Rattle.ov_model.specs.Moves.{Move, Init, Commit, BeginPlan, Copy, Flip, Drop, Checkpoint, moved, change, numbered, committed, with_version, version_of, wide, wide_part, wide_rec, placed_at, parts_with, with_joined, own_part, piece_of, new_set}
 use Rattle.ov_model.specs.Placed.{AreVersions, ArePlaced, IsPlaced, PlanIs, times}
 use Rattle.ov_model.specs.Plans.{planned, copied_more, current, kept_pieces, missing, records_in, leaving, left_parts, target_part, flipped_by, flipped}
-use Rattle.ov_model.specs.Records.{Rec, is_same_rec, is_same_row, is_among, lacking, recs, records_of, of_version, order_of}
+use Rattle.ov_model.specs.Records.{Rec, is_same_rec, is_same_row, is_among, in_order, ordered_records, lacking, recs, records_of, of_version, order_of}
 use Rattle.ov_model.specs.World.{Part, Plan, Dataset, World, held, is_one}
 use Rattle.ov_model.proofs.Growing.{recs_more, length_recs, same_rec-refl}
-use Rattle.ov_model.proofs.Origins.{all_known, in_left, in_right, in_filter, are_more}
+use Rattle.ov_model.proofs.Origins.{all_known, next_known, in_left, in_right, in_filter, are_more}
 use Rattle.ov_model.proofs.Counting.{one_same, not_listed}
 use Rattle.ov_model.proofs.Placing.{target_at}
 use Rattle.ov_model.proofs.Widening.{same_rows, map_are_in, joined_map, wide_version_recs, wide_recs}
@@ -36,9 +36,22 @@ in_if : (t rest : Bool) (r x : Rec) (xs : List Rec) → (t ≡ true → r ≡ x)
 in_if true rest r x xs here later e = inl (here refl)
 in_if false rest r x xs here later e = inr (later e)
 
-among_in : (xs : List Rec) (r : Rec) → is_among xs r ≡ true → IsIn xs r
+pub among_in : (xs : List Rec) (r : Rec) → is_among xs r ≡ true → IsIn xs r
 among_in [] r e = cc
 among_in (x ∷ xs) r e = in_if (is_same_rec r x) (is_among xs r) r x xs (λ t. same_recs r x t) (among_in xs r) e
+
+pub in_among : (xs : List Rec) (r : Rec) → IsIn xs r → is_among xs r ≡ true
+in_among [] r is = absurd is
+in_among (x ∷ xs) r (inl same) = or_true (is_same_rec r x) (is_among xs r) (ap (is_same_rec r) (sym same) ∙ same_rec-refl r)
+  where
+    or_true : (a b : Bool) → a ≡ true → (a || b) ≡ true
+    or_true true b e = refl
+    or_true false b e = cc
+in_among (x ∷ xs) r (inr later) = or_later (is_same_rec r x) (is_among xs r) (in_among xs r later)
+  where
+    or_later : (a b : Bool) → b ≡ true → (a || b) ≡ true
+    or_later true b e = refl
+    or_later false b e = e
 
 more_in : (x : Rec) (rs all : List Rec) → AreIn rs all → AreIn rs (x ∷ all)
 more_in x [] all are = tt
@@ -73,6 +86,14 @@ with_lacking (r ∷ rs) others all are = (
   ],
   with_lacking rs others all are.1,
 )
+
+-- all records of the next version are among those in the order of their rids
+in_the_order : (rs l all : List Rec) → AreIn rs all → AreIn rs l → AreIn rs (in_order all l)
+in_the_order [] l all are is = tt
+in_the_order (r ∷ rs) l all are is = (in_filter (is_among l) all r (in_among l r is.0) are.0, in_the_order rs l all are.1 is.1)
+
+pub all_ordered : (vs : List Version) (v : Version) → AreIn (records_of v (recs vs [])) (ordered_records vs v)
+all_ordered vs v = in_the_order (records_of v (recs vs [])) (records_of v (recs vs [])) (order_of (vs ++ v ∷ [])) (next_known vs v) (all_in (records_of v (recs vs [])))
 
 -- ---- pieces
 
@@ -134,42 +155,45 @@ last_in done l all are =
     in let last : of_version (done ++ l ∷ []) (length done + 1) ≡ l = ap (λ k. get_or (done ++ l ∷ []) k []) place ∙ at_last done l
     in (((omega arith, omega (arith, length-append done (l ∷ []))), subst (λ rs. AreIn rs all) (sym last) are), tt)
 
-own_held : (done : List (List Rec)) (l : List Rec) (id : ℕ) → PartsHold (done ++ l ∷ []) (own_part id (length done + 1) l ∷ [])
-own_held done l id = (subst (VersionsAreIn (done ++ l ∷ []) ((length done + 1) ∷ [])) (sym (piece_all l)) (last_in done l l (all_in l)), tt)
+-- `l` are the records of the last version, and `rs` those that come to its partition, all of them and maybe others
+module _ (done : List (List Rec)) (l rs : List Rec) (ours : AreIn l rs) where
+  own_held : (id : ℕ) → PartsHold (done ++ l ∷ []) (own_part id (length done + 1) rs ∷ [])
+  own_held id = (subst (VersionsAreIn (done ++ l ∷ []) ((length done + 1) ∷ [])) (sym (piece_all rs)) (last_in done l rs ours), tt)
 
-joined_held : (done : List (List Rec)) (l : List Rec) (part : Part) → VersionsAreIn done part.versions (held part) → VersionsAreIn (done ++ l ∷ []) (with_joined (length done + 1) l part).versions (held (with_joined (length done + 1) l part))
-joined_held done l part are =
-    let all : held part ++ lacking l (held part) ≡ held (with_joined (length done + 1) l part) =
-    ap (λ x. held part ++ x) (sym (piece_all (lacking l (held part)))) ∙ sym (joined-append part.pieces (piece_of (lacking l (held part))))
-    in subst (VersionsAreIn (done ++ l ∷ []) (part.versions ++ (length done + 1) ∷ [])) all
-    (versions-append (done ++ l ∷ []) part.versions ((length done + 1) ∷ []) (held part ++ lacking l (held part))
-    (versions_more done l part.versions (held part) (lacking l (held part)) are)
-    (last_in done l (held part ++ lacking l (held part)) (with_lacking l (held part) l (all_in l))))
+  joined_held : (part : Part) → VersionsAreIn done part.versions (held part) → VersionsAreIn (done ++ l ∷ []) (with_joined (length done + 1) rs part).versions (held (with_joined (length done + 1) rs part))
+  joined_held part are =
+      let all : held part ++ lacking rs (held part) ≡ held (with_joined (length done + 1) rs part) =
+      ap (λ x. held part ++ x) (sym (piece_all (lacking rs (held part)))) ∙ sym (joined-append part.pieces (piece_of (lacking rs (held part))))
+      in subst (VersionsAreIn (done ++ l ∷ []) (part.versions ++ (length done + 1) ∷ [])) all
+      (versions-append (done ++ l ∷ []) part.versions ((length done + 1) ∷ []) (held part ++ lacking rs (held part))
+      (versions_more done l part.versions (held part) (lacking rs (held part)) are)
+      (last_in done l (held part ++ lacking rs (held part)) (with_lacking l (held part) rs ours)))
 
-either_held : (t : Bool) (done : List (List Rec)) (l : List Rec) (part : Part) → VersionsAreIn done part.versions (held part)
-    → VersionsAreIn (done ++ l ∷ []) (if t then with_joined (length done + 1) l part else part).versions (held (if t then with_joined (length done + 1) l part else part))
-either_held true done l part are = joined_held done l part are
-either_held false done l part are =
-    subst (VersionsAreIn (done ++ l ∷ []) part.versions) (append-nil (held part)) (versions_more done l part.versions (held part) [] are)
+  either_held : (t : Bool) (part : Part) → VersionsAreIn done part.versions (held part)
+      → VersionsAreIn (done ++ l ∷ []) (if t then with_joined (length done + 1) rs part else part).versions (held (if t then with_joined (length done + 1) rs part else part))
+  either_held true part are = joined_held part are
+  either_held false part are =
+      subst (VersionsAreIn (done ++ l ∷ []) part.versions) (append-nil (held part)) (versions_more done l part.versions (held part) [] are)
 
-all_joined : (id : ℕ) (done : List (List Rec)) (l : List Rec) (parts : List Part) → PartsHold done parts
-    → PartsHold (done ++ l ∷ []) (map (λ part. if part.id == id then with_joined (length done + 1) l part else part) parts)
-all_joined id done l [] are = tt
-all_joined id done l (part ∷ parts) are = (either_held (part.id == id) done l part are.0, all_joined id done l parts are.1)
+  all_joined : (id : ℕ) (parts : List Part) → PartsHold done parts
+      → PartsHold (done ++ l ∷ []) (map (λ part. if part.id == id then with_joined (length done + 1) rs part else part) parts)
+  all_joined id [] are = tt
+  all_joined id (part ∷ parts) are = (either_held (part.id == id) part are.0, all_joined id parts are.1)
 
-placed_held : (place : Place) (next : ℕ) (done : List (List Rec)) (l : List Rec) (parts : List Part) → PartsHold done parts
-    → PartsHold (done ++ l ∷ []) (parts_with place next (length done + 1) l parts)
-placed_held Own next done l parts are = parts-append (done ++ l ∷ []) parts (own_part next (length done + 1) l ∷ []) (parts_more done l parts are) (own_held done l next)
-placed_held (Join id) next done l parts are = all_joined id done l parts are
+  placed_held : (place : Place) (next : ℕ) (parts : List Part) → PartsHold done parts
+      → PartsHold (done ++ l ∷ []) (parts_with place next (length done + 1) rs parts)
+  placed_held Own next parts are = parts-append (done ++ l ∷ []) parts (own_part next (length done + 1) rs ∷ []) (parts_more done l parts are) (own_held next)
+  placed_held (Join id) next parts are = all_joined id parts are
 
 version_held : (v : Version) (d : Dataset) → IsHeld d → IsHeld (with_version v d)
 version_held v d is =
     let done : List (List Rec) = recs d.cvd.versions []
     in let l : List Rec = records_of v done
+    in let rs : List Rec = ordered_records d.cvd.versions v
     in let number : length done ≡ length d.cvd.versions = length_recs d.cvd.versions [] ∙ omega arith
     in subst (λ rss. PartsHold rss (with_version v d).parts) (sym (recs_more d.cvd.versions v []))
-    (subst (λ n. PartsHold (done ++ l ∷ []) (parts_with (placed_at d v) d.next_part (n + 1) l d.parts)) number
-    (placed_held (placed_at d v) d.next_part done l d.parts is))
+    (subst (λ n. PartsHold (done ++ l ∷ []) (parts_with (placed_at d v) d.next_part (n + 1) rs d.parts)) number
+    (placed_held done l rs (all_ordered d.cvd.versions v) (placed_at d v) d.next_part d.parts is))
 
 -- ---- columns more
 
@@ -218,19 +242,6 @@ some_if false done part parts is are = are
 some_parts : (p : Part → Bool) (done : List (List Rec)) (parts : List Part) → PartsHold done parts → PartsHold done (filter p parts)
 some_parts p done [] are = tt
 some_parts p done (part ∷ parts) are = some_if (p part) done part (filter p parts) are.0 (some_parts p done parts are.1)
-
-in_among : (xs : List Rec) (r : Rec) → IsIn xs r → is_among xs r ≡ true
-in_among [] r is = absurd is
-in_among (x ∷ xs) r (inl same) = or_true (is_same_rec r x) (is_among xs r) (ap (is_same_rec r) (sym same) ∙ same_rec-refl r)
-  where
-    or_true : (a b : Bool) → a ≡ true → (a || b) ≡ true
-    or_true true b e = refl
-    or_true false b e = cc
-in_among (x ∷ xs) r (inr later) = or_later (is_same_rec r x) (is_among xs r) (in_among xs r later)
-  where
-    or_later : (a b : Bool) → b ≡ true → (a || b) ≡ true
-    or_later true b e = refl
-    or_later false b e = e
 
 none_lacking : (rs others : List Rec) (r : Rec) → lacking rs others ≡ [] → IsIn rs r → is_among others r ≡ true
 none_lacking rs others r none is =
@@ -349,7 +360,8 @@ held_flipped cvd (d ∷ sets) placed all are = (
 
 pub moved_held : (m : Move) (w : World) → MayFlip m w → ArePlaced w.sets → AreHeld w.sets → AreHeld (moved m w).sets
 moved_held (Init name schema rows) w may placed are =
-    held-append w.sets (new_set w.next name schema rows ∷ []) are (own_held [] (records_of (version_of [] (codes "init") rows) []) 1, tt)
+    let ours : List Rec = records_of (version_of [] (codes "init") rows) []
+    in held-append w.sets (new_set w.next name schema rows ∷ []) are (own_held [] ours ours (all_in ours) 1, tt)
 moved_held (Commit cvd parents message added rows) w may placed are =
     held_changed cvd (committed parents message added rows) w.sets (λ d is. version_held (version_of parents message rows) (wide added d) (wide_held added d is)) are
 moved_held (BeginPlan cvd p q) w may placed are = held_changed cvd (planned p q) w.sets (λ d is. is) are

@@ -10,7 +10,7 @@ use Rattle.ov_value.specs.Order.{value_cmp-ties}
 use Rattle.ov_model.specs.Book.{Row, Version}
 use Rattle.ov_model.specs.Lists.{IsIn, AreIn, AllAreIn}
 use Rattle.ov_model.specs.Records.{Rec, is_same_row, origin_in, origin_by, of_version, first_of, or_own, record_of, records_of, recs, fresh_in, order, order_of}
-use Rattle.ov_model.proofs.Growing.{order_more}
+use Rattle.ov_model.proofs.Growing.{recs_more, order_more}
 
 left_true : (a b : Bool) → (a && b) ≡ true → a ≡ true
 left_true true b e = refl
@@ -146,3 +146,13 @@ known_more (v ∷ vs) done are =
 
 pub all_known : (vs : List Version) → AllAreIn (recs vs []) (order_of vs)
 all_known vs = known_more vs [] tt
+
+last_are : (done : List (List Rec)) (l all : List Rec) → AllAreIn (done ++ l ∷ []) all → AreIn l all
+last_are [] l all are = are.0
+last_are (x ∷ done) l all are = last_are done l all are.1
+
+-- those of a version that comes are known then
+pub next_known : (vs : List Version) (v : Version) → AreIn (records_of v (recs vs [])) (order_of (vs ++ v ∷ []))
+next_known vs v =
+    last_are (recs vs []) (records_of v (recs vs [])) (order_of (vs ++ v ∷ []))
+    (subst (λ rss. AllAreIn rss (order_of (vs ++ v ∷ []))) (recs_more vs v []) (all_known (vs ++ v ∷ [])))

@@ -15,7 +15,7 @@ use Rattle.ov_model.specs.Book.{Row, Version}
 use Rattle.ov_model.specs.Moves.{Move, Init, Commit, BeginPlan, Copy, Flip, Drop, Checkpoint, moved, change, numbered, committed, with_version, version_of, wide, wide_part, wide_plan, wide_version, facts_of, tree_edge_of, parts_with, next_with, with_joined, own_part, new_set}
 use Rattle.ov_model.specs.Placed.{times, part_times, id_times, AreVersions, TargetsAre, PlanIs, IsPlaced, ArePlaced, AreThere, HasParents, AllHaveParents, NamesParents}
 use Rattle.ov_model.specs.Plans.{graph_of, nodes_of_set, parts_at, targets_of, planned, current, no_target, copied_for, copied_more, left_parts, target_part, flipped_by, flipped}
-use Rattle.ov_model.specs.Records.{Rec, recs, records_of, of_version, weight, weights}
+use Rattle.ov_model.specs.Records.{Rec, recs, records_of, ordered_records, of_version, weight, weights}
 use Rattle.ov_model.specs.World.{Part, Target, Plan, Dataset, World, is_one, part_of, stored, is_unmoved}
 use Rattle.ov_model.proofs.Counting.{one_if, one_most, one_same, one_other, filter_versions, listed, not_listed, range_versions, times-append, parts-append, ids-append, left_ids, left_gone, left_stays}
 
@@ -240,7 +240,7 @@ module _ (v : Version) (d : Dataset) (is : IsPlaced d) where
   count = length d.cvd.versions
 
   abbrev ours : List Rec
-  ours = records_of v (recs d.cvd.versions [])
+  ours = ordered_records d.cvd.versions v
 
   longer : length (d.cvd.versions ++ v ∷ []) ≡ count + 1
   longer = length-append d.cvd.versions (v ∷ [])
@@ -324,9 +324,10 @@ module _ (v : Version) (d : Dataset) (is : IsPlaced d) where
   with_placed : (p : ℕ) (ps : List ℕ) → v.parents ≡ p ∷ ps → AreThere count (p ∷ ps) → IsPlaced (with_version v d)
   with_placed p ps e are =
       let edge : ℕ × ℕ = tree_edge_of d v
+      in let rs : List Rec = records_of v (recs d.cvd.versions [])
       in let there : (1 ≤ edge.0) × (edge.0 ≤ count) =
-      subst (λ parents. (1 ≤ (heaviest (weights parents ours (recs d.cvd.versions []))).0) × ((heaviest (weights parents ours (recs d.cvd.versions []))).0 ≤ count)) (sym e)
-      (heaviest_there count p ps ours (recs d.cvd.versions []) are)
+      subst (λ parents. (1 ≤ (heaviest (weights parents rs (recs d.cvd.versions []))).0) × ((heaviest (weights parents rs (recs d.cvd.versions []))).0 ≤ count)) (sym e)
+      (heaviest_there count p ps rs (recs d.cvd.versions []) are)
       in let some : 1 ≤ part_times d.parts edge.0 = omega (arith, is.each edge.0 there.0 there.1)
       in place_if (is_unmoved d.plan edge.0 || is_budgeted d.threshold edge.1 (facts_of d edge).records (stored d)) (part_of d.parts edge.0) (part_there d.parts edge.0 some)
 

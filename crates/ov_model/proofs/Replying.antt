@@ -1,24 +1,36 @@
 -- No reply is empty.
 use Rattle.std.proofs.Common.{◌≡◌, ◌<◌, ◌+◌, ℕ, zero, suc, Bool, true, false, List, [], ◌∷◌, ◌++◌, length, filter, refl, subst, arith}
-use Rattle.std.specs.Prelude.{◌≢◌, Option, Some, None, Result, Ok, Err, if◌then◌else◌, not, ◌==◌}
+use Rattle.std.specs.Prelude.{◌≢◌, Option, Some, None, Result, Ok, Err, if◌then◌else◌, not, nat_lt, ◌==◌}
 use Rattle.std.specs.List.{concat}
 use Rattle.std.proofs.lemmas.List.{length-append}
 use Rattle.csv.specs.Writing.{default_writer, row_text, row_body, is_blank}
 use Rattle.ov_value.specs.declared.column.Column.{Column}
 use Rattle.ov_value.specs.declared.schema_err.SchemaErr.{SchemaErr}
 use Rattle.ov_value.specs.Shapes.{Shape, names}
-use Rattle.ov_model.specs.Act.{Session, Deed, does, unless, with_rows, with_file, rows_refusal, init_refusal, gives, merge_of, vids_refusal, checkout_deed, records_refusal, fresh_of, commit_rows, schema_with, commit_under, commit_refusal, commit_deed, columns_of, log_deed, log_lines, drop_deed, optimize_refusal, optimize_deed, layout_deed, generated_reply, generate_by, deed}
+use Rattle.ov_model.specs.Act.{Session, Deed, does, refuses, is_threshold, unless, if_so, with_rows, with_file, rows_refusal, init_refusal, gives, merge_of, vids_refusal, checkout_deed, records_refusal, fresh_of, commit_rows, schema_with, commit_under, commit_refusal, commit_deed, columns_of, log_deed, log_lines, drop_deed, optimize_refusal, optimize_deed, layout_deed, generated_reply, generate_by}
+use Rattle.ov_model.specs.Deed.{changes, create_refusal, create_user_deed, config_refusal, config_deed, file_of_table, stage_refusal, staged_refusal, with_staged, stage_of, commit_from, staged_by, unstage_refusal, unstage_deed, permitted, deed}
+use Rattle.ov_model.specs.Asking.{answered, name_read, query_by, query_refusal, run_deed}
 use Rattle.ov_model.specs.Book.{Row, Version, Cvd}
+use Rattle.ov_model.specs.Budget.{advise_by, advise_deed, choice, table, within_by, within_deed, within_refusal}
+use Rattle.ov_model.specs.Joins.{join_answer, join_by, join_kinds, join_over, joined_rows, side_of, told}
+use Rattle.ov_model.specs.Kinds.{kinds}
+use Rattle.ov_model.specs.QueryTexts.{Asked, AsksJoin, AsksQuery, BadByte, NoQuery, asked_of}
+use Rattle.ov_model.specs.declared.query.JoinQuery.{JoinQuery}
+use Rattle.ov_model.specs.declared.query.Query.{Query}
+use Rattle.ov_model.specs.declared.reply.BudgetLine.{BudgetLine}
+use Rattle.ov_value.specs.declared.column.Kind.{Kind}
 use Rattle.ov_model.specs.Course.{Item, Makes, Says, Room, Enough, NoRun, Full, Space, first, rest, Served, SaysSome, after, replied, attempt, attempts, try_step, step_by, steps, steps_then, and_steps, line_served, served, course}
 use Rattle.ov_model.specs.Csv.{text_of, rows_of}
 use Rattle.ov_model.specs.Forms.{Form}
 use Rattle.ov_model.specs.Line.{Line, Comment, Asks, Refused, line_of}
 use Rattle.ov_model.specs.Plans.{planned, copied_more, flipped, flipped_by}
 use Rattle.ov_model.specs.Moves.{Move, Init, Commit, BeginPlan, Copy, Flip, Drop, Checkpoint, moved, change, numbered, committed, with_version, version_of, wide}
+use Rattle.ov_model.specs.Registry.{users_name, users_schema, stage_name, stage_schema, is_foreign, last_rows, with_row, user_row, table_row, table_in, without_row, change_refusal, version_rows}
 use Rattle.ov_model.specs.Replies.{line, reply_text, has_text, log_line, budget_lines}
 use Rattle.ov_model.specs.Generator.{generated}
 use Rattle.ov_model.specs.Steps.{next_step, all_moved}
-use Rattle.ov_model.specs.World.{Plan, Dataset, World, AllBegun, set_named, first_set, named}
+use Rattle.ov_model.specs.Users.{permit, permit_names}
+use Rattle.ov_model.specs.World.{Plan, Dataset, World, AllBegun, cvd_in, set_named, first_set, named}
 use Rattle.ov_model.specs.declared.command.Command.{Command}
 use Rattle.ov_model.specs.declared.command.Command.TheVariants as asks
 use Rattle.ov_model.specs.declared.refusal.Refusal.{Refusal}
@@ -145,32 +157,113 @@ generated_texted : (name : List ℕ) (d : Option Dataset) → has_text (generate
 generated_texted name None = refl
 generated_texted name (Some d) = refl
 
-deed_texted : (w : World) (s : Session) (command : Command) → AllBegun w.sets → Texted (deed w s command)
-deed_texted w s (asks.Init cvd schema file) begun =
+changes_texted : (w : World) (s t : Session) (name : List ℕ) (schema : Shape) (rows : List Row) (reply : Reply) (d : Option Dataset) → has_text reply ≡ true → Texted (changes w s t name schema rows reply d)
+changes_texted w s t name schema rows reply d is = unless_texted s (change_refusal w name (version_rows schema rows) d) _ is
+
+create_texted : (w : World) (s : Session) (name : List ℕ) (users : Option Dataset) → Texted (create_user_deed w s name users)
+create_texted w s name users =
+    unless_texted s (create_refusal name users) _
+    (changes_texted w s s users_name users_schema (with_row (last_rows users) (user_row name)) (says.User name) users refl)
+
+config_texted : (s : Session) (name : List ℕ) (users : Option Dataset) → Texted (config_deed s name users)
+config_texted s name users = unless_texted s (config_refusal name users) _ refl
+
+stage_of_texted : (w : World) (s : Session) (cvd table vids : List ℕ) (stage d : Option Dataset) → Texted (stage_of w s cvd table vids stage d)
+stage_of_texted w s cvd table vids stage None = refl
+stage_of_texted w s cvd table vids stage (Some d) =
+    unless_texted s (staged_refusal s table vids d stage) _
+    (changes_texted w s (with_staged s table vids d) stage_name stage_schema
+    (with_row (last_rows stage) (table_row s.user table d.cvd.name d.cvd.number vids))
+    (says.ToFile d.cvd.name (length (merge_of d.cvd vids)) (file_of_table s.user table)) stage refl)
+
+from_texted : (w : World) (s : Session) (user table message : List ℕ) (from : Option (Dataset × List ℕ)) → Texted (commit_from w s user table message from)
+from_texted w s user table message None = refl
+from_texted w s user table message (Some from) = commit_texted w s from.0.cvd.name from.1 message [] (file_of_table user table) (Some from.0)
+
+unstage_texted : (w : World) (s : Session) (user table : List ℕ) (stage : Option Dataset) → Texted (unstage_deed w s user table stage)
+unstage_texted w s user table stage =
+    unless_texted s (unstage_refusal user table stage) _
+    (changes_texted w s s stage_name stage_schema (without_row (last_rows stage) user table) (says.Unstaged user table) stage refl)
+
+foreign_texted : (s : Session) (stage : Option Dataset) (d : Deed) → Texted d → Texted (unless s (if_so (is_foreign stage_schema stage) no.ForeignRegistry) d)
+foreign_texted s stage d is = unless_texted s (if_so (is_foreign stage_schema stage) no.ForeignRegistry) d is
+
+within_texted : (s : Session) (name : List ℕ) (budget : ℕ) (d : Option Dataset) → Texted (within_deed s name budget d)
+within_texted s name budget None = refl
+within_texted s name budget (Some d) = unless_texted s (within_refusal d) _ (by (choice budget (table d)))
+  where
+    by : (found : Option (ℕ × BudgetLine)) → Texted (within_by s d budget found)
+    by None = refl
+    by (Some best) = refl
+
+advise_texted : (s : Session) (name : List ℕ) (budget a b : ℕ) (d : Option Dataset) → Texted (advise_deed s name budget a b d)
+advise_texted s name budget a b None = refl
+advise_texted s name budget a b (Some d) = unless_texted s (if_so (not (is_threshold b a)) no.BadThreshold) _ (by (choice budget (table d)))
+  where
+    by : (found : Option (ℕ × BudgetLine)) → Texted (advise_by s d budget a b found)
+    by None = refl
+    by (Some best) = refl
+
+answered_texted : (s : Session) (query : Query) (cvd : Cvd) (kinds : Result (List Kind) Refusal) → Texted (answered s query cvd kinds)
+answered_texted s query cvd (Err refusal) = refl
+answered_texted s query cvd (Ok kinds) = refl
+
+query_texted : (s : Session) (query : Query) (found : Option Cvd) → Texted (query_by s query found)
+query_texted s query None = refl
+query_texted s query (Some cvd) = unless_texted s (query_refusal (length cvd.versions) query) _ (answered_texted s query cvd (kinds query cvd.schema))
+
+join_texted : (s : Session) (join : JoinQuery) (left right : Result Cvd Refusal) → Texted (join_over s join left right)
+join_texted s join (Err refusal) right = refl
+join_texted s join (Ok left) (Err refusal) = refl
+join_texted s join (Ok left) (Ok right) = by (join_kinds join left.schema right.schema)
+  where
+    many : (over : Bool) (kinds : List Kind) → Texted (if over then refuses s no.TooManyJoined else told s kinds (join_answer join left.schema right.schema (joined_rows join left right)))
+    many true kinds = refl
+    many false kinds = refl
+
+    by : (of : Result (List Kind) Refusal) → Texted (join_by s join left right of)
+    by (Err refusal) = refl
+    by (Ok kinds) = many (nat_lt 1000000 (length (joined_rows join left right))) kinds
+
+run_texted : (w : World) (s : Session) (asked : Asked) → Texted (run_deed w s asked)
+run_texted w s (BadByte at) = refl
+run_texted w s NoQuery = refl
+run_texted w s (AsksQuery query) = unless_texted s (permit_names s.user (name_read query.source ∷ [])) _ (query_texted s query (cvd_in (set_named w (name_read query.source))))
+run_texted w s (AsksJoin join) =
+    unless_texted s (permit_names s.user (join.left.cvd ∷ join.right.cvd ∷ [])) _ (join_texted s join (side_of w join.left) (side_of w join.right))
+
+permitted_texted : (w : World) (s : Session) (command : Command) → AllBegun w.sets → Texted (permitted w s command)
+permitted_texted w s (asks.Init cvd schema file) begun =
     unless_texted s (init_refusal w cvd) _
     (file_texted w s schema false file (λ rows. does s (Init cvd schema rows) (says.Init cvd (length rows))) (s.files file) (λ rows. refl))
-deed_texted w s (asks.Checkout cvd vids file None) begun = checkout_texted s vids file cvd (set_named w cvd)
-deed_texted w s (asks.Checkout cvd vids file (Some table)) begun = refl
-deed_texted w s (asks.Commit cvd vids file message added) begun = commit_texted w s cvd vids message (columns_of added) file (set_named w cvd)
-deed_texted w s (asks.CommitStaged user table message) begun = refl
-deed_texted w s (asks.Run text) begun = refl
-deed_texted w s (asks.Optimize cvd p q) begun = optimize_texted s cvd p q (set_named w cvd)
-deed_texted w s (asks.OptimizeWithin cvd budget) begun = refl
-deed_texted w s (asks.Advise cvd budget a b) begun = refl
-deed_texted w s (asks.Migrate count) begun = refl
-deed_texted w s (asks.Layout cvd) begun = layout_texted s cvd (set_named w cvd)
-deed_texted w s (asks.Log cvd) begun = log_texted s cvd (set_named w cvd) (λ x e. begun_found (named cvd) w.sets x begun e)
-deed_texted w s asks.Ls begun = refl
-deed_texted w s (asks.DropCvd cvd) begun = drop_texted s cvd (set_named w cvd)
-deed_texted w s asks.Checkpoint begun = refl
-deed_texted w s (asks.Generate cvd seed rows versions) begun =
+permitted_texted w s (asks.Checkout cvd vids file None) begun = checkout_texted s vids file cvd (set_named w cvd)
+permitted_texted w s (asks.Checkout cvd vids file (Some table)) begun =
+    unless_texted s (stage_refusal table vids (set_named w stage_name)) _ (stage_of_texted w s cvd table vids (set_named w stage_name) (set_named w cvd))
+permitted_texted w s (asks.Commit cvd vids file message added) begun = commit_texted w s cvd vids message (columns_of added) file (set_named w cvd)
+permitted_texted w s (asks.CommitStaged user table message) begun =
+    let stage : Option Dataset = set_named w stage_name
+    in foreign_texted s stage _ (from_texted w s user table message (staged_by w (table_in (last_rows stage) user table)))
+permitted_texted w s (asks.Run text) begun = run_texted w s (asked_of text)
+permitted_texted w s (asks.Optimize cvd p q) begun = optimize_texted s cvd p q (set_named w cvd)
+permitted_texted w s (asks.OptimizeWithin cvd budget) begun = within_texted s cvd budget (set_named w cvd)
+permitted_texted w s (asks.Advise cvd budget a b) begun = advise_texted s cvd budget a b (set_named w cvd)
+permitted_texted w s (asks.Migrate count) begun = refl
+permitted_texted w s (asks.Layout cvd) begun = layout_texted s cvd (set_named w cvd)
+permitted_texted w s (asks.Log cvd) begun = log_texted s cvd (set_named w cvd) (λ x e. begun_found (named cvd) w.sets x begun e)
+permitted_texted w s asks.Ls begun = refl
+permitted_texted w s (asks.DropCvd cvd) begun = drop_texted s cvd (set_named w cvd)
+permitted_texted w s asks.Checkpoint begun = refl
+permitted_texted w s (asks.Generate cvd seed rows versions) begun =
     unless_texted s (init_refusal w cvd) (generate_by w s cvd (generated w.next cvd seed rows versions))
     (generated_texted cvd (set_named (all_moved (generated w.next cvd seed rows versions) w) cvd))
-deed_texted w s (asks.CreateUser name) begun = refl
-deed_texted w s (asks.Config name) begun = refl
-deed_texted w s asks.Whoami begun = refl
-deed_texted w s (asks.Unstage user table) begun = refl
-deed_texted w s asks.Tables begun = refl
+permitted_texted w s (asks.CreateUser name) begun = create_texted w s name (set_named w users_name)
+permitted_texted w s (asks.Config name) begun = config_texted s name (set_named w users_name)
+permitted_texted w s asks.Whoami begun = refl
+permitted_texted w s (asks.Unstage user table) begun = unstage_texted w s user table (set_named w stage_name)
+permitted_texted w s asks.Tables begun = foreign_texted s (set_named w stage_name) _ refl
+
+deed_texted : (w : World) (s : Session) (command : Command) → AllBegun w.sets → Texted (deed w s command)
+deed_texted w s command begun = unless_texted s (permit s.user command) (permitted w s command) (permitted_texted w s command begun)
 
 -- a move leaves each dataset a version
 begun_append : (a b : List Dataset) → AllBegun a → AllBegun b → AllBegun (a ++ b)

@@ -14,12 +14,12 @@ use Rattle.ov_model.specs.Records.{Rec, is_same_row, is_same_rec, record_of, rec
 use Rattle.ov_model.proofs.Growing.{same_rec-refl}
 
 -- none of these records is this one
-abbrev Apart : Rec → List Rec → Type 0
+abbrev pub Apart : Rec → List Rec → Type 0
 Apart x [] = Unit {0}
 Apart x (r ∷ rs) = (is_same_rec r x ≡ false) × Apart x rs
 
 -- no record stands twice
-abbrev Once : List Rec → Type 0
+abbrev pub Once : List Rec → Type 0
 Once [] = Unit {0}
 Once (r ∷ rs) = Apart r rs × Once rs
 
@@ -147,7 +147,7 @@ rows_apart schema ps done a (b ∷ rows) below = (
   rows_apart schema ps done a rows below.1,
 )
 
-rows_once : (schema : Shape) (ps : List ℕ) (done : List (List Rec)) (rows : List Row) → Rises (key_cmp schema) rows → Once (map (record_of ps done) rows)
+pub rows_once : (schema : Shape) (ps : List ℕ) (done : List (List Rec)) (rows : List Row) → Rises (key_cmp schema) rows → Once (map (record_of ps done) rows)
 rows_once schema ps done [] rises = tt
 rows_once schema ps done (row ∷ rows) rises = (rows_apart schema ps done row rows rises.0, rows_once schema ps done rows rises.1)
 

@@ -1,10 +1,13 @@
 -- Columns more leave records, their order and their rids as they were, but for the NULLs at their rows' ends.
-use Rattle.std.proofs.Common.{◌≡◌, ℕ, ◌+◌, ◌-◌, Bool, true, false, List, [], ◌∷◌, ◌++◌, map, refl, sym, ◌∙◌, ap, inl, inr}
+use Rattle.std.proofs.Common.{◌≡◌, ℕ, zero, suc, ◌+◌, ◌-◌, Bool, true, false, List, [], ◌∷◌, ◌++◌, map, get_or, refl, sym, ◌∙◌, ap, inl, inr}
 use Rattle.std.specs.Prelude.{Option, Some, replicate, if◌then◌else◌}
 use Rattle.std.proofs.lemmas.List.{length-map, map-append, append_cancel_right}
 use Rattle.std.proofs.lemmas.Slice.Eq.{slice_eq-Decides}
 use Rattle.std.proofs.Math.ListN.{get_or-map}
+use Rattle.std.specs.Cmp.Lexicographic.{slice_cmp}
 use Rattle.ov_value.specs.Order.{value_tie_decides}
+use Rattle.ov_value.specs.Rows.{value_at, value_cmp, key_cmp}
+use Rattle.ov_value.specs.Shapes.{Shape}
 use Rattle.ov_value.specs.declared.value.Value.TheVariants.{Null}
 use Rattle.ov_model.specs.Book.{Row, Version, extended}
 use Rattle.ov_model.specs.Lists.{IsIn, AreIn, joined}
@@ -38,8 +41,28 @@ pub joined_map : {A B : Type 0} (f : A → B) (xss : List (List A)) → joined (
 joined_map f [] = refl
 joined_map f (xs ∷ xss) = ap (λ rest. map f xs ++ rest) (joined_map f xss) ∙ sym (map-append f xs (joined xss))
 
+-- keys stay as they are
+pub value_wide : (row : Row) (n place : ℕ) → value_at (row ++ replicate n Null) place ≡ value_at row place
+value_wide [] n place = nulls n place
+  where
+    nulls : (n place : ℕ) → get_or (replicate n Null) place Null ≡ Null
+    nulls zero place = refl
+    nulls (suc n) zero = refl
+    nulls (suc n) (suc place) = nulls n place
+value_wide (x ∷ row) n zero = refl
+value_wide (x ∷ row) n (suc place) = value_wide row n place
+
+key_wide : (row : Row) (n : ℕ) (places : List ℕ) → map (value_at (row ++ replicate n Null)) places ≡ map (value_at row) places
+key_wide row n [] = refl
+key_wide row n (place ∷ places) = λ i. value_wide row n place i ∷ key_wide row n places i
+
+pub cmp_wide : (schema wider : Shape) (n : ℕ) (a b : Row) → wider.key ≡ schema.key → key_cmp wider (a ++ replicate n Null) (b ++ replicate n Null) ≡ key_cmp schema a b
+cmp_wide schema wider n a b same =
+    ap (λ key. slice_cmp value_cmp (map (value_at (a ++ replicate n Null)) key) (map (value_at (b ++ replicate n Null)) key)) same
+    ∙ (λ i. slice_cmp value_cmp (key_wide a n schema.key i) (key_wide b n schema.key i))
+
 module _ (n : ℕ) where
-  wide_same : (a b : Row) → is_same_row (extended n a) (extended n b) ≡ is_same_row a b
+  pub wide_same : (a b : Row) → is_same_row (extended n a) (extended n b) ≡ is_same_row a b
   wide_same a b =
       same_bool (is_same_row (extended n a) (extended n b)) (is_same_row a b)
       (λ e. ap (is_same_row a) (sym (append_cancel_right a b (replicate n Null) (same_rows (extended n a) (extended n b) e))) ∙ same_row-refl a)

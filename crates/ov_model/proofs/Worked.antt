@@ -12,6 +12,7 @@ use Rattle.ov_value.specs.Making.{name_refusal, column_refusal, key_refusal}
 use Rattle.ov_value.specs.Naming.{is_name, is_vid, is_column_name}
 use Rattle.ov_value.specs.Spelling.{row_spelling}
 use Rattle.ov_model.specs.Examples.{AllPrint, examples, people, plan_examples, printed, printed_behind, served_all}
+use Rattle.ov_model.specs.PlanExamples.{plan_behind, second_plan, two_plans}
 use Rattle.ov_model.specs.Replies.{line}
 
 -- a first version, and the same again
@@ -118,8 +119,16 @@ tiny : printed (codes "generate tiny 0 1 1\ngenerate tiny 0 1 1\ngenerate x 0 0 
 unfolding encode digits is_utf8 chars records_from next_record strip_bom is_name is_vid is_column_name name_refusal column_refusal key_refusal row_spelling line is_under stops may_cut versions_apart records_apart chosen cuts_within cuts_of
 tiny = refl
 
+generated : printed (codes "generate g 7 3 4\nlog g\ncheckout g -v 4\n") ≡ codes "g: 4 versions, 9 records, 16 members\nversion 1: 3 rows, 3 new, parents none, init\nversion 2: 4 rows, 2 new, parents 1, gen\nversion 3: 4 rows, 2 new, parents 1, gen\nversion 4: 5 rows, 2 new, parents 3, gen\nid,a,b\n1,962,t31\n2,793,t73\n3,545,t19\n6,405,t99\n7,654,t98\n"
+unfolding encode digits is_utf8 chars records_from next_record strip_bom escaped fields_text is_blank is_name is_vid is_column_name name_refusal column_refusal key_refusal row_spelling line
+generated = refl
+
+widened : printed (codes "init people -s id:int,name:text,score:int -k id -f a.csv\ncommit people -v 1 -f b.csv -m raise\ncommit people -v 2 -f wide.csv -m wide -a team:text\ncheckout people -v 1\ncheckout people -v 3,1\ncommit people -v 3 -f a.csv -m narrow\n") ≡ codes "people: version 1 (2 rows)\npeople: version 2 (3 rows, 2 new)\npeople: version 3 (3 rows, 2 new)\nid,name,score,team\n1,ann,10,\\N\n2,bob,20,\\N\nid,name,score,team\n1,ann,10,\\N\n2,bob,25,red\n3,cy,30,\nerror 31: the header differs from the schema\n"
+unfolding encode digits is_utf8 chars records_from next_record strip_bom escaped fields_text is_blank is_name is_vid is_column_name name_refusal column_refusal key_refusal row_spelling line
+widened = refl
+
 pub all_plans : AllPrint plan_examples
-all_plans = (one_part, (two_parts, (while_migrating, (own_partition, (kept_segments, (refused_plans, (two_parents, (layouts, (tiny, tt)))))))))
+all_plans = (one_part, (two_parts, (while_migrating, (own_partition, (kept_segments, (refused_plans, (two_parents, (layouts, (tiny, (generated, (widened, tt)))))))))))
 
 pub file_is : (served_all (people ++ codes "checkout people -v 1,2 -f out.csv\n")).session.files (codes "out.csv") ≡ Some (codes "id,name,score\n1,ann,10\n2,bob,20\n3,cy,30\n")
 unfolding encode digits is_utf8 chars records_from next_record strip_bom escaped fields_text is_blank is_name is_vid is_column_name name_refusal column_refusal key_refusal row_spelling line
@@ -132,3 +141,15 @@ wide_is = refl
 pub repeated_is : printed_behind people (codes "commit people -v 2 -f wide.csv -m wide -a id:int") ≡ codes "error 64: column id is repeated\n"
 unfolding encode digits is_utf8 chars records_from next_record strip_bom escaped fields_text is_blank is_name is_vid is_column_name name_refusal column_refusal key_refusal row_spelling line
 repeated_is = refl
+
+pub second_is : plan_behind two_plans ≡ Some second_plan
+unfolding encode digits is_utf8 chars records_from next_record strip_bom is_name is_vid is_column_name name_refusal column_refusal key_refusal row_spelling line is_under stops may_cut versions_apart records_apart chosen cuts_within cuts_of
+second_is = refl
+
+pub checkpoint_records : (served_all (people ++ codes "checkpoint\n")).world.records ≡ 2
+unfolding encode digits is_utf8 chars records_from next_record strip_bom escaped fields_text is_blank is_name is_vid is_column_name name_refusal column_refusal key_refusal row_spelling line
+checkpoint_records = refl
+
+pub checkpoint_epoch : (served_all (people ++ codes "checkpoint\n")).world.epoch ≡ 2
+unfolding encode digits is_utf8 chars records_from next_record strip_bom escaped fields_text is_blank is_name is_vid is_column_name name_refusal column_refusal key_refusal row_spelling line
+checkpoint_epoch = refl

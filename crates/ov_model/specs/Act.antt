@@ -1,5 +1,5 @@
--- What a command means over a World: its moves, its reply, and the files after it.
---     deed w files command      the first refusal in its order, or else what is done and said
+-- What the commands mean over a World, each for itself: its first refusal in its order, or else its moves, its reply, and the
+-- files and the user after it.
 use Rattle.std.specs.Prelude.{ℕ, ◌&&◌, ◌+◌, ◌^◌, Bool, true, false, not, ◌||◌, ◌==◌, nat_le, nat_lt, if◌then◌else◌, List, [], ◌∷◌, ◌++◌, length, map, Option, Some, None, Result, Ok, Err, is_some}
 use Rattle.std.specs.Str.{bytes_eq}
 use Rattle.std.specs.List.{list_any, sum}
@@ -15,14 +15,11 @@ use Rattle.ov_model.specs.Book.{Row, Version, Cvd}
 use Rattle.ov_model.specs.Csv.{rows_of, text_of}
 use Rattle.ov_model.specs.Forms.{schema_refusal}
 use Rattle.ov_model.specs.Merge.{has_key, in_key_order, merged}
-use Rattle.ov_model.specs.Generator.{generated}
 use Rattle.ov_model.specs.Moves.{Move, Init, Commit, BeginPlan, Drop, Checkpoint, version_of, wide}
 use Rattle.ov_model.specs.Plans.{nodes_of_set, parts_at, depth_at, planned, current, missing_of, plan_steps, sizes_of}
-use Rattle.ov_model.specs.Steps.{next_steps, all_moved, steps_left}
+use Rattle.ov_model.specs.Steps.{all_moved, steps_left}
 use Rattle.ov_model.specs.Records.{recs, records_of, fresh_in, order_of, rows_at}
 use Rattle.ov_model.specs.World.{Part, Plan, Dataset, World, held, stored, cost, copied_records, set_named, is_one}
-use Rattle.ov_model.specs.declared.command.Command.{Command}
-use Rattle.ov_model.specs.declared.command.Command.TheVariants as asks
 use Rattle.ov_model.specs.declared.refusal.Refusal.{Refusal}
 use Rattle.ov_model.specs.declared.refusal.Refusal.TheVariants as no
 use Rattle.ov_model.specs.declared.reply.CvdLine.{CvdLine}
@@ -115,12 +112,13 @@ with_file w s schema adds name next (Some bytes) = with_rows w s schema adds nex
 abbrev pub from_file : World → Session → Shape → Bool → List ℕ → (List Row → Deed) → Deed
 from_file w s schema adds name next = with_file w s schema adds name next (s.files name)
 
--- Init: a dataset more. There is none of its name, there are fewer than 1,024, and there is a number for it.
+-- a dataset more: there are fewer than 1,024, and there is a number for it
+abbrev pub more_refusal : World → List ℕ → Option Refusal
+more_refusal w cvd = option_or (if_so (nat_le 1024 (length w.sets)) no.TooManyCvds) (if_so (w.next == 4294967295) (no.NoNumbers cvd))
+
+-- Init: a dataset more, where there is none of its name.
 abbrev pub init_refusal : World → List ℕ → Option Refusal
-init_refusal w cvd =
-    option_or (if_so (is_some (set_named w cvd)) (no.CvdExists cvd))
-    (option_or (if_so (nat_le 1024 (length w.sets)) no.TooManyCvds)
-    (if_so (w.next == 4294967295) (no.NoNumbers cvd)))
+init_refusal w cvd = option_or (if_so (is_some (set_named w cvd)) (no.CvdExists cvd)) (more_refusal w cvd)
 
 abbrev pub init_deed : World → Session → List ℕ → Shape → List ℕ → Deed
 init_deed w s cvd schema file =
@@ -276,19 +274,3 @@ generate_by w s name moves = record {
   counts_steps = false;
   session = s;
 }
-
--- A command that the definitions don't speak of yet is unknown.
-abbrev pub deed : World → Session → Command → Deed
-deed w s (asks.Init cvd schema file) = init_deed w s cvd schema file
-deed w s (asks.Checkout cvd vids file None) = checkout_deed s vids file cvd (set_named w cvd)
-deed w s (asks.Commit cvd vids file message added) = commit_deed w s cvd vids message (columns_of added) file (set_named w cvd)
-deed w s (asks.Optimize cvd p q) = optimize_deed s cvd p q (set_named w cvd)
-deed w s (asks.Migrate count) = migrate_by w s (next_steps count w)
-deed w s (asks.Layout cvd) = layout_deed s cvd (set_named w cvd)
-deed w s (asks.Log cvd) = log_deed s cvd (set_named w cvd)
-deed w s asks.Ls = tells s (says.Ls (map ls_line w.sets))
-deed w s (asks.DropCvd cvd) = drop_deed s cvd (set_named w cvd)
-deed w s asks.Checkpoint = checkpoint_deed w s
-deed w s (asks.Generate cvd seed rows versions) =
-    unless s (init_refusal w cvd) (generate_by w s cvd (generated w.next cvd seed rows versions))
-deed w s _ = refuses s no.UnknownCommand

@@ -1,20 +1,18 @@
--- What the text of a `run` asks, and what comes of it.
---     Asks text asked      this is what the text asks
---     run_deed w s asked      the first refusal in its order, or else the answer
--- Joins aren't spoken of yet.
+-- What comes of what the text of a `run` asks.
+--     run_deed w s asked      the first refusal in its order, or else the answer; rule 71 comes behind what the text is refused for
 use Rattle.std.specs.Prelude.{ℕ, ◌||◌, ◌==◌, nat_lt, List, [], ◌∷◌, ◌++◌, length, Option, Some, None, Result, Ok, Err}
 use Rattle.std.specs.Option.{option_or}
-use Rattle.ov_lex.specs.declared.token.Token.{Token}
-use Rattle.ov_lex.specs.Texts.{AreTokens, IsBad}
 use Rattle.ov_value.specs.declared.column.Kind.{Kind}
 use Rattle.ov_model.specs.Act.{Session, Deed, tells, refuses, unless, if_so, vids_refusal}
 use Rattle.ov_model.specs.Answers.{answer, answer_text, pairs}
 use Rattle.ov_model.specs.Book.{Cvd}
-use Rattle.ov_model.specs.Grammar.{Spells}
 use Rattle.ov_model.specs.Kinds.{kinds}
 use Rattle.ov_model.specs.Lineages.{relatives}
 use Rattle.ov_model.specs.Lists.{joined}
-use Rattle.ov_model.specs.World.{Dataset, World, set_named}
+use Rattle.ov_model.specs.Joins.{join_deed}
+use Rattle.ov_model.specs.QueryTexts.{Asked, BadByte, NoQuery, AsksQuery, AsksJoin}
+use Rattle.ov_model.specs.Users.{permit_names}
+use Rattle.ov_model.specs.World.{World, cvd_in, set_named}
 use Rattle.ov_model.specs.declared.answer.Cell.{Cell}
 use Rattle.ov_model.specs.declared.query.Query.{Query}
 use Rattle.ov_model.specs.declared.query.Src.{Src}
@@ -25,31 +23,6 @@ use Rattle.ov_model.specs.declared.query.Cond.TheFolds.{fold-Cond}
 use Rattle.ov_model.specs.declared.refusal.Refusal.{Refusal}
 use Rattle.ov_model.specs.declared.refusal.Refusal.TheVariants as no
 use Rattle.ov_model.specs.declared.reply.Reply.TheVariants as says
-
--- ---- what a text asks
-
-pub data Asked : Type 0 where
-  -- at this byte no token begins
-  BadByte : (at : ℕ) → Asked
-  -- its tokens spell no query
-  NoQuery : Asked
-  -- its tokens spell this query
-  AsksQuery : (query : Query) → Asked
-
-pub record SpellsNone (text : List ℕ) : Type 0 where
-  pub tokens : List Token
-  pub are : AreTokens text tokens
-  pub none : (query : Query) → Spells text tokens query → ⊥
-
-pub record SpellsOne (text : List ℕ) (query : Query) : Type 0 where
-  pub tokens : List Token
-  pub are : AreTokens text tokens
-  pub spells : Spells text tokens query
-
-abbrev pub Asks : List ℕ → Asked → Type 0
-Asks text (BadByte at) = IsBad text at
-Asks text NoQuery = SpellsNone text
-Asks text (AsksQuery query) = SpellsOne text query
 
 -- ---- what a query is refused for
 
@@ -107,12 +80,9 @@ abbrev pub query_by : Session → Query → Option Cvd → Deed
 query_by s query None = refuses s (no.NoCvd (name_read query.source))
 query_by s query (Some cvd) = unless s (query_refusal (length cvd.versions) query) (answered s query cvd (kinds query cvd.schema))
 
--- the dataset alone, without its partitions
-abbrev pub cvd_in : Option Dataset → Option Cvd
-cvd_in None = None
-cvd_in (Some d) = Some d.cvd
-
 abbrev pub run_deed : World → Session → Asked → Deed
 run_deed w s (BadByte at) = refuses s (no.BadByte at)
 run_deed w s NoQuery = refuses s no.NotAQuery
-run_deed w s (AsksQuery query) = query_by s query (cvd_in (set_named w (name_read query.source)))
+run_deed w s (AsksQuery query) =
+    unless s (permit_names s.user (name_read query.source ∷ [])) (query_by s query (cvd_in (set_named w (name_read query.source))))
+run_deed w s (AsksJoin join) = unless s (permit_names s.user (join.left.cvd ∷ join.right.cvd ∷ [])) (join_deed w s join)

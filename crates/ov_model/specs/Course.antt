@@ -5,7 +5,8 @@
 --     due j items      the moves before the j-th reply
 --     whole items x      how many replies stand whole at the front of x
 use Rattle.std.specs.Prelude.{◌≢◌, ℕ, zero, suc, ◌+◌, Bool, true, false, ◌==◌, if◌then◌else◌, List, [], ◌∷◌, ◌++◌, length, drop, Option, Some, None}
-use Rattle.ov_model.specs.Act.{Session, Deed, deed}
+use Rattle.ov_model.specs.Act.{Session, Deed}
+use Rattle.ov_model.specs.Deed.{deed}
 use Rattle.ov_model.specs.Forms.{Form}
 use Rattle.ov_model.specs.Line.{Line, Comment, Asks, Refused, line_of}
 use Rattle.ov_model.specs.Moves.{Move, moved}

@@ -194,4 +194,14 @@ plan_examples =
       codes "generate tiny 0 1 1\ngenerate tiny 0 1 1\ngenerate x 0 0 1\n",
       codes "tiny: 1 versions, 1 records, 1 members\nerror 11: tiny exists\nerror 54: bad number\n",
     ) ∷
+    -- four versions from a seed
+    (
+      codes "generate g 7 3 4\nlog g\ncheckout g -v 4\n",
+      codes "g: 4 versions, 9 records, 16 members\nversion 1: 3 rows, 3 new, parents none, init\nversion 2: 4 rows, 2 new, parents 1, gen\nversion 3: 4 rows, 2 new, parents 1, gen\nversion 4: 5 rows, 2 new, parents 3, gen\nid,a,b\n1,962,t31\n2,793,t73\n3,545,t19\n6,405,t99\n7,654,t98\n",
+    ) ∷
+    -- a column that is added at the right
+    (
+      codes "init people -s id:int,name:text,score:int -k id -f a.csv\ncommit people -v 1 -f b.csv -m raise\ncommit people -v 2 -f wide.csv -m wide -a team:text\ncheckout people -v 1\ncheckout people -v 3,1\ncommit people -v 3 -f a.csv -m narrow\n",
+      codes "people: version 1 (2 rows)\npeople: version 2 (3 rows, 2 new)\npeople: version 3 (3 rows, 2 new)\nid,name,score,team\n1,ann,10,\\N\n2,bob,20,\\N\nid,name,score,team\n1,ann,10,\\N\n2,bob,25,red\n3,cy,30,\nerror 31: the header differs from the schema\n",
+    ) ∷
     []

@@ -1,7 +1,8 @@
 -- What spells a query: first what each token says, then which symbols spell which query.
 --     Says text token symbol      what a token of the text says
 --     IsCol, IsTerm, IsOperand, IsLineage, IsKey ..      the symbols, all of them, spell this part
---     IsCond aggregates symbols cond      the symbols spell this condition; aggregates may stand in it, or not
+--     IsCondOf test symbols cond      the symbols spell this condition, whose tests are such
+--     IsCond aggregates symbols cond      the same with the tests of a query; aggregates may stand in it, or not
 --     SpellsQuery symbols query      the symbols spell this query
 --     Spells text tokens query      the tokens of the text spell this query
 use Rattle.std.specs.Prelude.{◌≡◌, ℕ, zero, suc, ◌⊎◌, Bool, true, false, if◌then◌else◌, pos, List, [], ◌∷◌, ◌++◌, map, codes, nat_eq, Option, Some, None}
@@ -176,25 +177,28 @@ not_word true = fixed f.Not ∷ []
 not_word false = []
 
 -- operand sign operand
-pub record IsComparison (aggregates : Bool) (symbols : List Symbol) (c : Cond) : Type 0 where
+pub record IsComparison (operand : List Symbol → Operand → Type 0) (symbols : List Symbol) (c : Cond) : Type 0 where
   pub before : List Symbol
   pub after : List Symbol
   pub left : Operand
   pub by : Sign
   pub right : Operand
   pub symbols_are : symbols ≡ before ++ fixed (sign_word by) ∷ after
-  pub left_is : IsOperand aggregates before left
-  pub right_is : IsOperand aggregates after right
+  pub left_is : operand before left
+  pub right_is : operand after right
   pub cond_is : c ≡ cond.Compare left by right
 
 -- operand IS [NOT] NULL
-pub record IsNullTest (aggregates : Bool) (symbols : List Symbol) (c : Cond) : Type 0 where
+pub record IsNullTest (operand : List Symbol → Operand → Type 0) (symbols : List Symbol) (c : Cond) : Type 0 where
   pub before : List Symbol
   pub tested : Operand
   pub negated : Bool
   pub symbols_are : symbols ≡ before ++ fixed f.Is ∷ (not_word negated ++ fixed f.Null ∷ [])
-  pub operand_is : IsOperand aggregates before tested
+  pub operand_is : operand before tested
   pub cond_is : c ≡ cond.IsNull tested negated
+
+abbrev pub IsOperandTest : (List Symbol → Operand → Type 0) → List Symbol → Cond → Type 0
+IsOperandTest operand symbols c = IsComparison operand symbols c ⊎ IsNullTest operand symbols c
 
 -- VID [NOT] IN lineage
 pub record IsLineageTest (symbols : List Symbol) (c : Cond) : Type 0 where
@@ -207,7 +211,7 @@ pub record IsLineageTest (symbols : List Symbol) (c : Cond) : Type 0 where
   pub cond_is : c ≡ cond.InLineage kind vid negated
 
 abbrev pub IsTest : Bool → List Symbol → Cond → Type 0
-IsTest aggregates symbols c = IsComparison aggregates symbols c ⊎ (IsNullTest aggregates symbols c ⊎ IsLineageTest symbols c)
+IsTest aggregates symbols c = IsOperandTest (IsOperand aggregates) symbols c ⊎ IsLineageTest symbols c
 
 -- one stands for itself; more are a node
 abbrev pub every : List Cond → Cond
@@ -246,21 +250,25 @@ pub record IsInParentheses (whole : List Symbol → Cond → Type 0) (symbols : 
   pub symbols_are : symbols ≡ fixed f.Open ∷ (inner ++ fixed f.Close ∷ [])
   pub inner_is : whole inner c
 
--- a unit within which at most so many of `NOT unit` and `( cond )` stand one in another
-unfoldable pub IsUnit : Bool → ℕ → List Symbol → Cond → Type 0
-IsUnit aggregates zero symbols c = IsTest aggregates symbols c
-IsUnit aggregates (suc depth) symbols c =
-    IsTest aggregates symbols c ⊎ (IsNegation (IsUnit aggregates depth) symbols c ⊎ IsInParentheses (IsDisj (IsConj (IsUnit aggregates depth))) symbols c)
+-- a unit, of such tests, within which at most so many of `NOT unit` and `( cond )` stand one in another
+unfoldable pub IsUnit : (List Symbol → Cond → Type 0) → ℕ → List Symbol → Cond → Type 0
+IsUnit test zero symbols c = test symbols c
+IsUnit test (suc depth) symbols c =
+    test symbols c ⊎ (IsNegation (IsUnit test depth) symbols c ⊎ IsInParentheses (IsDisj (IsConj (IsUnit test depth))) symbols c)
 
 -- at no place are more than 100 of them open
+abbrev pub IsCondOf : (List Symbol → Cond → Type 0) → List Symbol → Cond → Type 0
+IsCondOf test symbols c = IsDisj (IsConj (IsUnit test 100)) symbols c
+
 abbrev pub IsCond : Bool → List Symbol → Cond → Type 0
-IsCond aggregates symbols c = IsDisj (IsConj (IsUnit aggregates 100)) symbols c
+IsCond aggregates symbols c = IsCondOf (IsTest aggregates) symbols c
 
 -- ---- the parts of a query
 
-abbrev pub IsItems : List Symbol → Items → Type 0
-IsItems symbols items.Everything = symbols ≡ fixed f.Star ∷ []
-IsItems symbols (items.Terms terms) = Joined f.Comma IsTerm symbols terms
+-- *, or such terms
+abbrev pub IsItems : (List Symbol → Term → Type 0) → List Symbol → Items → Type 0
+IsItems item symbols items.Everything = symbols ≡ fixed f.Star ∷ []
+IsItems item symbols (items.Terms terms) = Joined f.Comma item symbols terms
 
 abbrev pub of_cvd : List ℕ → List Symbol
 of_cvd name = fixed f.Of ∷ fixed f.Cvd ∷ Name name ∷ []
@@ -280,17 +288,17 @@ IsSource symbols (source.Listed vids name) = IsListed symbols vids name
 IsSource symbols (source.Whole name) = symbols ≡ fixed f.Cvd ∷ Name name ∷ []
 IsSource symbols (source.Lineage kind vid name) = IsOfLineage symbols kind vid name
 
--- a keyword before a condition, or nothing
-abbrev pub IsGuard : Fixed → Bool → List Symbol → Option Cond → Type 0
-IsGuard word aggregates symbols None = symbols ≡ []
-IsGuard word aggregates symbols (Some c) = (inner : List Symbol) × (symbols ≡ fixed word ∷ inner) × IsCond aggregates inner c
+-- a keyword before such a condition, or nothing
+abbrev pub IsGuard : Fixed → (List Symbol → Cond → Type 0) → List Symbol → Option Cond → Type 0
+IsGuard word condition symbols None = symbols ≡ []
+IsGuard word condition symbols (Some c) = (inner : List Symbol) × (symbols ≡ fixed word ∷ inner) × condition inner c
 
 pub record IsGrouped (symbols : List Symbol) (groups : List Col) (having : Option Cond) : Type 0 where
   pub listed : List Symbol
   pub guard : List Symbol
   pub symbols_are : symbols ≡ fixed f.Group ∷ fixed f.By ∷ (listed ++ guard)
   pub groups_are : Joined f.Comma IsCol listed groups
-  pub having_is : IsGuard f.Having true guard having
+  pub having_is : IsGuard f.Having (IsCond true) guard having
 
 -- GROUP BY with HAVING or without it, or neither
 abbrev pub IsGrouping : List Symbol → List Col → Option Cond → Type 0
@@ -302,16 +310,18 @@ abbrev pub IsDirection : List Symbol → Bool → Type 0
 IsDirection symbols true = symbols ≡ fixed f.Desc ∷ []
 IsDirection symbols false = (symbols ≡ []) ⊎ (symbols ≡ fixed f.Asc ∷ [])
 
-pub record IsKey (symbols : List Symbol) (key : Key) : Type 0 where
+-- such a term, and its direction
+pub record IsKey (by : List Symbol → Term → Type 0) (symbols : List Symbol) (key : Key) : Type 0 where
   pub before : List Symbol
   pub direction : List Symbol
   pub symbols_are : symbols ≡ before ++ direction
-  pub term_is : IsTerm before key.term
+  pub term_is : by before key.term
   pub direction_is : IsDirection direction key.down
 
-abbrev pub IsOrder : List Symbol → List Key → Type 0
-IsOrder symbols [] = symbols ≡ []
-IsOrder symbols (k ∷ ks) = (listed : List Symbol) × (symbols ≡ fixed f.Order ∷ fixed f.By ∷ listed) × Joined f.Comma IsKey listed (k ∷ ks)
+-- ORDER BY and keys of such terms, or nothing
+abbrev pub IsOrder : (List Symbol → Term → Type 0) → List Symbol → List Key → Type 0
+IsOrder by symbols [] = symbols ≡ []
+IsOrder by symbols (k ∷ ks) = (listed : List Symbol) × (symbols ≡ fixed f.Order ∷ fixed f.By ∷ listed) × Joined f.Comma (IsKey by) listed (k ∷ ks)
 
 abbrev pub IsLimit : List Symbol → Option ℕ → Type 0
 IsLimit symbols None = symbols ≡ []
@@ -331,11 +341,11 @@ pub record SpellsQuery (symbols : List Symbol) (query : Query) : Type 0 where
   pub limited : List Symbol
   pub ended : List Symbol
   pub symbols_are : symbols ≡ fixed f.Select ∷ (shown ++ fixed f.From ∷ (read ++ (kept ++ (grouped ++ (ordered ++ (limited ++ ended))))))
-  pub items_are : IsItems shown query.items
+  pub items_are : IsItems IsTerm shown query.items
   pub source_is : IsSource read query.source
-  pub filter_is : IsGuard f.Where false kept query.filter
+  pub filter_is : IsGuard f.Where (IsCond false) kept query.filter
   pub grouping_is : IsGrouping grouped query.groups query.having
-  pub order_is : IsOrder ordered query.order
+  pub order_is : IsOrder IsTerm ordered query.order
   pub limit_is : IsLimit limited query.limit
   pub end_is : IsEnd ended
 

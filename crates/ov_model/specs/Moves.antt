@@ -14,7 +14,7 @@ use Rattle.ov_value.specs.Making.{widened}
 use Rattle.ov_value.specs.Shapes.{Shape}
 use Rattle.ov_model.specs.Book.{Row, Version, Cvd, extended}
 use Rattle.ov_model.specs.Plans.{planned, copied_more, flipped}
-use Rattle.ov_model.specs.Records.{Rec, recs, records_of, weights, lacking, order_of}
+use Rattle.ov_model.specs.Records.{Rec, recs, records_of, ordered_records, weights, lacking, order_of}
 use Rattle.ov_model.specs.World.{Part, Plan, Dataset, World, held, stored, part_of, is_unmoved}
 
 pub data Move : Type 0 where
@@ -113,11 +113,11 @@ wide (column ∷ added) d = record d {
   plan = wide_plan (length (column ∷ added)) d.plan;
 }
 
--- the dataset with one version more
+-- the dataset with one version more, whose records come to its partition in the order of their rids
 abbrev pub with_version : Version → Dataset → Dataset
 with_version v d = record d {
   cvd = record d.cvd { versions = d.cvd.versions ++ v ∷ [] };
-  parts = parts_with (placed_at d v) d.next_part (length d.cvd.versions + 1) (records_of v (recs d.cvd.versions [])) d.parts;
+  parts = parts_with (placed_at d v) d.next_part (length d.cvd.versions + 1) (ordered_records d.cvd.versions v) d.parts;
   next_part = next_with (placed_at d v) d.next_part;
 }
 
@@ -127,7 +127,7 @@ version_of parents message rows = record { parents = parents; message = message;
 abbrev pub committed : List ℕ → List ℕ → List Column → List Row → Dataset → Dataset
 committed parents message added rows d = with_version (version_of parents message rows) (wide added d)
 
--- a dataset as an Init makes it
+-- a dataset as an Init makes it; its records, all new, have their rids in the order of their keys
 abbrev pub new_set : ℕ → List ℕ → Shape → List Row → Dataset
 new_set number name schema rows = record {
   cvd = record { number = number; name = name; schema = schema; versions = version_of [] (codes "init") rows ∷ [] };

@@ -75,11 +75,21 @@ places_within at wanted [] = []
 places_within at wanted (piece ∷ pieces) =
     if list_all (is_among wanted) piece then at ∷ places_within (at + 1) wanted pieces else places_within (at + 1) wanted pieces
 
+-- the pieces at these places
+abbrev pub pieces_at : List (List Rec) → List ℕ → List (List Rec)
+pieces_at pieces places = map (λ place. slice_index_or pieces place []) places
+
 abbrev pub target_of : Dataset → List ℕ → List (List ℕ) → Target
 target_of d versions later =
     let wanted : List Rec = records_in d.cvd versions
     in let source : ℕ = source_of (length wanted) (cheapest wanted versions later d.parts)
-    in record { versions = versions; source = source; kept = places_within 0 wanted (pieces_of d.parts source) }
+    in let kept : List ℕ = places_within 0 wanted (pieces_of d.parts source)
+    in record {
+      versions = versions;
+      source = source;
+      kept = kept;
+      kept_records = length (joined (pieces_at (pieces_of d.parts source) kept));
+    }
 
 abbrev pub targets_of : Dataset → List (List ℕ) → List Target
 targets_of d [] = []
@@ -93,14 +103,14 @@ planned p q d = record d {
 }
 
 abbrev pub kept_pieces : Dataset → Target → List (List Rec)
-kept_pieces d t = map (λ place. slice_index_or (pieces_of d.parts t.source) place []) t.kept
+kept_pieces d t = pieces_at (pieces_of d.parts t.source) t.kept
 
 -- the records of a target that are in no kept piece and not among those that were copied for it
 abbrev pub missing_of : Dataset → Target → List (List Rec) → List Rec
 missing_of d t copied = lacking (records_in d.cvd t.versions) (joined (kept_pieces d t) ++ joined copied)
 
 abbrev pub no_target : Target
-no_target = record { versions = []; source = 0; kept = [] }
+no_target = record { versions = []; source = 0; kept = []; kept_records = 0 }
 
 abbrev pub current : Plan → Target
 current plan = slice_index_or plan.targets plan.at no_target

@@ -1,7 +1,8 @@
 -- Worked examples of queries, each with what it prints over a few small versions, as it was worked out by hand. That they print
 -- just this is proved by computing it.
 use Rattle.std.specs.Prelude.{◌≡◌, ℕ, ◌∷◌, ◌++◌, [], List, true, false, Some, None, codes}
-use Rattle.ov_model.specs.Asking.{Asked, BadByte, NoQuery, AsksQuery, run_deed}
+use Rattle.ov_model.specs.Asking.{run_deed}
+use Rattle.ov_model.specs.QueryTexts.{Asked, BadByte, NoQuery, AsksQuery}
 use Rattle.ov_model.specs.Examples.{people, served_all}
 use Rattle.ov_model.specs.Replies.{reply_text}
 use Rattle.ov_model.specs.declared.query.Query.{Query}

@@ -87,6 +87,14 @@ is_among rs r = list_any (is_same_rec r) rs
 abbrev pub lacking : List Rec → List Rec → List Rec
 lacking rs others = filter (λ r. not (is_among others r)) rs
 
+-- those of all that are among these, in the order of all
+abbrev pub in_order : List Rec → List Rec → List Rec
+in_order all rs = filter (is_among rs) all
+
+-- the records of the version that comes behind these, in the order of their rids
+abbrev pub ordered_records : List Version → Version → List Rec
+ordered_records versions v = in_order (order_of (versions ++ v ∷ [])) (records_of v (recs versions []))
+
 -- the parents with the weights of their edges, in the order in which they were listed
 abbrev pub weights : List ℕ → List Rec → List (List Rec) → List (ℕ × ℕ)
 weights [] rs done = []

@@ -16,12 +16,13 @@ pub record Part : Type 0 where
   pub holds : List ℕ
   pub pieces : List (List Rec)
 
--- A partition that a plan will make: its versions, the partition whose pieces it keeps, 0 for none, and the places of those
--- pieces, counted from 0.
+-- A partition that a plan will make: its versions, the partition whose pieces it keeps, 0 for none, the places of those
+-- pieces, counted from 0, and how many records these have. It stays as the plan began, also where its source is gone.
 pub record Target : Type 0 where
   pub versions : List ℕ
   pub source : ℕ
   pub kept : List ℕ
+  pub kept_records : ℕ
 
 -- A running plan: its threshold p / q, its targets, which of them is the current one, counted from 0, and the pieces that
 -- were copied for it.
@@ -49,8 +50,13 @@ pub record World : Type 0 where
   pub records : ℕ
   pub format : ℕ
 
+-- of a store of this format number
+abbrev pub empty_world_of : ℕ → World
+empty_world_of format = record { sets = []; next = 1; epoch = 1; records = 0; format = format }
+
+-- that of a new store
 abbrev pub empty_world : World
-empty_world = record { sets = []; next = 1; epoch = 1; records = 0; format = 2 }
+empty_world = empty_world_of 2
 
 abbrev pub book : World → Book
 book w = map (λ d. d.cvd) w.sets
@@ -65,6 +71,11 @@ named name d = bytes_eq d.cvd.name name
 
 abbrev pub set_named : World → List ℕ → Option Dataset
 set_named w name = first_set (named name) w.sets
+
+-- the dataset alone, without its partitions
+abbrev pub cvd_in : Option Dataset → Option Cvd
+cvd_in None = None
+cvd_in (Some d) = Some d.cvd
 
 -- all its pieces together
 abbrev pub held : Part → List Rec

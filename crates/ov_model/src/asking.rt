@@ -1,7 +1,8 @@
 // Laws of what a query asks.
 ghost use Rattle.std.specs.Prelude.{◌≡◌, ℕ, Bool, List, [], ◌∷◌, map};
 ghost use Rattle.ov_model.specs.Act.{Session};
-ghost use Rattle.ov_model.specs.Asking.{Asked, cond_lineages, run_deed};
+ghost use Rattle.ov_model.specs.Asking.{cond_lineages, run_deed};
+ghost use Rattle.ov_model.specs.QueryTexts.{Asked};
 ghost use Rattle.ov_model.specs.Lists.{joined};
 ghost use Rattle.ov_model.specs.World.{World, book};
 ghost use Rattle.ov_model.specs.declared.query.Cond.{Cond};

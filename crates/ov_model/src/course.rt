@@ -1,6 +1,7 @@
 // Laws of a whole run.
 ghost use Rattle.std.specs.Prelude.{◌≡◌, ◌≤◌, ◌+◌, ℕ, List, [], ◌∷◌, ◌++◌, length, slice_get, Option, Some, None};
-ghost use Rattle.ov_model.specs.Act.{Session, deed};
+ghost use Rattle.ov_model.specs.Act.{Session};
+ghost use Rattle.ov_model.specs.Deed.{deed};
 ghost use Rattle.ov_model.specs.Course.{Item, Space, Served, SaysSome, after, course, due, moves_of, play, world_after, world_at};
 ghost use Rattle.ov_model.specs.Forms.{Form};
 ghost use Rattle.ov_model.specs.Moves.{Move, Checkpoint, moved};

@@ -1,7 +1,11 @@
 // Worked examples.
 ghost use Rattle.std.specs.Prelude.{◌≡◌, Some, codes, ◌++◌};
+ghost use Rattle.ov_model.specs.BudgetExamples.{AllWithin};
+ghost use Rattle.ov_model.specs.JoinExamples.{AllJoined};
+ghost use Rattle.ov_model.specs.AskedTexts.{AllAsk, asked_texts, AllPrint as AllTextsPrint, printed_texts};
 ghost use Rattle.ov_model.specs.Questions.{AllAnswered};
 ghost use Rattle.ov_model.specs.Examples.{AllPrint, examples, people, plan_examples, printed_behind, served_all};
+ghost use Rattle.ov_model.specs.UserExamples.{user_examples};
 
 /// The worked examples print what was worked out by hand: init, commit, checkout, log, ls and drop with their refusals, and
 /// optimize, migrate, layout, checkpoint and generate; a
@@ -19,4 +23,27 @@ pub fn worked_examples()
 /// NULL, and lineages.
 pub fn worked_queries()
     ensures { AllAnswered }
+{}
+
+/// The worked examples of joins print what was worked out by hand: NULL is equal to nothing, and refusals come in their order.
+pub fn worked_joins()
+    ensures { AllJoined }
+{}
+
+/// The worked examples of the storage budget give what was worked out by hand: the table of 100 thresholds, the one that is chosen,
+/// and whether a regrouping is worth it.
+pub fn worked_budgets()
+    ensures { AllWithin }
+{}
+
+/// The worked texts of queries and joins ask what was worked out by hand, and queries, with conditions too, print it.
+pub fn worked_texts()
+    ensures ask { AllAsk asked_texts }
+    ensures print { AllTextsPrint printed_texts }
+{}
+
+/// The worked examples of users and staged tables print what was worked out by hand: who is denied what, by the least rule and
+/// before all else, and what is staged, committed from a staged table and taken off.
+pub fn worked_users()
+    ensures { AllPrint user_examples }
 {}

@@ -7,22 +7,30 @@
 
 mod answer;
 mod asking;
+mod budget;
 mod command;
 mod conditions;
 mod course;
 mod examples;
 mod given;
+mod join_laws;
+mod limits;
 mod line;
 mod merge;
+mod plan_examples;
 mod query;
+mod query_texts;
 mod records;
 mod refusal;
 mod replies;
 mod reply;
 mod round_trip;
+mod shapes;
+mod users;
 
 pub use answer::{Answer, Cell};
 pub use asking::{an_answer_is_of_the_book, lineages_by_cases};
+pub use budget::the_choice_is_the_cheapest;
 pub use command::Command;
 pub use conditions::{comparisons_by_cases, truth_by_cases};
 pub use course::{
@@ -31,13 +39,26 @@ pub use course::{
     no_reply_of_a_run_is_empty, partitions_have_their_versions_records, whole_lines_stand_alone,
     worlds_are_one_move_apart,
 };
-pub use examples::{worked_examples, worked_queries};
+pub use examples::{
+    worked_budgets, worked_examples, worked_joins, worked_queries, worked_texts, worked_users,
+};
 pub use given::{Given, Reading};
+pub use join_laws::{a_join_is_of_the_book, join_conditions_by_cases};
+pub use limits::{
+    FILE_BYTES, LINE_BYTES, MESSAGE_BYTES, MOST_CVDS, MOST_RECORDS, MOST_ROWS, MOST_VERSIONS,
+};
 pub use line::a_line_is_one_thing;
 pub use merge::merge_takes_the_first_of_each_key;
+pub use plan_examples::{
+    a_checkpoint_has_its_records, a_copy_brings_256_records_at_most,
+    a_flipped_target_stays_as_it_was,
+};
 pub use query::{
     Col, Cond, Fixed, Items, JoinQuery, Key, LineageKind, Operand, Query, Side, Sign, Src, Symbol,
     Term,
+};
+pub use query_texts::{
+    a_text_asks_one_thing, a_text_asks_what_is_computed, no_query_is_a_join, one_join, one_query,
 };
 pub use records::{
     assignment_gives_the_rids, own_rows_are_no_new_records, rids_have_no_gap,
@@ -47,4 +68,9 @@ pub use refusal::Refusal;
 pub use replies::a_reply_is_not_empty;
 pub use reply::{BudgetLine, CvdLine, LogLine, PartLine, PlanLine, Reply, TableLine};
 pub use round_trip::what_is_written_reads_back;
+pub use shapes::other_shapes_are_no_queries;
 pub use sqlite_items::{Boxed, Items as Seq};
+pub use users::{
+    another_schema_is_foreign, rules_decide_who_may, the_least_rule_denies,
+    the_registry_changes_by_one_move,
+};

@@ -207,8 +207,9 @@ module _ (a : Asked) (w : World) (ds : Dataset) (area : List ℕ) (asked : IsAsk
               (extent_at 0 list) (extent_at 0 segment);
           list = list;
           segment = segment;
-          says = (λ i. events.Commit number vid a.message (zip a.vids made.weights) (length a.rows) made.fresh (place_back place i) (length (left_out made.rids held)) (list_in list) (segments_in segment))
-              ∙ event_asked ds (version_in a) vid made place held a.set.schema (known_of number w ds asked.of_world.reached asked.of_world.among) next may.rows given number
+          says = ap Some (
+              (λ i. events.Commit number vid a.message (zip a.vids made.weights) (length a.rows) made.fresh (place_back place i) (length (left_out made.rids held)) (list_in list) (segments_in segment))
+              ∙ event_asked ds (version_in a) vid made place held a.set.schema (known_of number w ds asked.of_world.reached asked.of_world.among) next may.rows given number)
               ∙ sym (asked_of number a.vids a.message a.rows w ds asked.of_world.among);
           sized = refl;
           runs = tt;

@@ -4,7 +4,7 @@
 --     AsksTooMuch a w ds list_pages segment_pages      what the World asks for is too long
 --     IsSpared why a w ds      a refusal that says nothing of the pages: too many records exactly where the model has them, and too
 --         long a segment only where the World asks for it
-use Rattle.std.specs.Prelude.{◌≡◌, ◌≤◌, ◌<◌, ◌+◌, ◌^◌, ℕ, List, [], ◌∷◌, ◌++◌, length}
+use Rattle.std.specs.Prelude.{◌≡◌, ◌≤◌, ◌<◌, ◌+◌, ◌^◌, ℕ, List, [], ◌∷◌, ◌++◌, length, Some}
 use Rattle.ov_event.specs.declared.event.Event as raw
 use Rattle.ov_model.specs.Assigned.{stored_parents}
 use Rattle.ov_model.specs.Book.{Version}
@@ -33,7 +33,7 @@ abbrev pub records_with : Asked → Dataset → ℕ
 records_with a ds = length (order_of (ds.cvd.versions ++ version_in a ∷ []))
 
 pub record IsAnswered (a : Asked) (w : World) (ds : Dataset) (e : raw.Event) (fresh : ℕ) (list segment : List ℕ) : Type 0 where
-  pub says : content (event_in e) list segment ≡ asked_event (Commit a.set.number a.vids a.message [] a.rows) w
+  pub says : Some (content (event_in e) list segment) ≡ asked_event (Commit a.set.number a.vids a.message [] a.rows) w
   pub fresh_is : fresh ≡ length (fresh_in (records_of (version_in a) (recs ds.cvd.versions [])) (length ds.cvd.versions + 1))
   pub room : records_with a ds ≤ 2 ^ 31
 
@@ -42,7 +42,7 @@ pub record AsksTooMuch (a : Asked) (w : World) (ds : Dataset) (list_pages segmen
   pub event : raw.Event
   pub list : List ℕ
   pub segment : List ℕ
-  pub says : content (event_in event) list segment ≡ asked_event (Commit a.set.number a.vids a.message [] a.rows) w
+  pub says : Some (content (event_in event) list segment) ≡ asked_event (Commit a.set.number a.vids a.message [] a.rows) w
   pub sized : with_extents (extent_at 0 list) (extent_at 0 segment) event ≡ event
   pub runs : BringsRuns event
   pub long : IsLong list_pages segment_pages list segment

@@ -43,7 +43,7 @@ pub(crate) fn held_at(
 {
     let parts = d.layout.parts();
     match place {
-        Place::Own => Ok(no_rids(alloc)?),
+        Place::Own => Ok(Members::empty(alloc)),
         Place::Join(id) => match place_with(parts, id) {
             Some(at) => rids_of(alloc, &parts[at], held[at].as_slice(), d.records),
             None => unreachable!(),
@@ -87,14 +87,5 @@ fn page_of(segments: &[Extent]) -> u32
     match segments {
         [first, ..] => first.page,
         [] => 0,
-    }
-}
-
-fn no_rids(alloc: Global) -> Result<Members, AllocError>
-    ensures { IfOk result (λ none. none ≡ []) }
-{
-    match Members::of(alloc, &[])? {
-        Some(none) => Ok(none),
-        None => unreachable!(),
     }
 }

@@ -7,11 +7,12 @@ use Rattle.ov_event.specs.declared.event.Event.TheVariants as says
 use Rattle.ov_host.specs.declared.area.Extent.{Extent}
 use Rattle.ov_layout.specs.Changes.{extents_of}
 use Rattle.ov_pages.specs.Live.{is_too_high, too_high_page}
-use Rattle.ov_catalog.specs.Applying.{AllApply, is_extent, is_list, is_same, is_segment}
+use Rattle.ov_catalog.specs.Applying.{AllApply, is_built_event, is_extent, is_list, is_same, is_segment}
 use Rattle.ov_catalog.specs.Events.{Init, Commit, each_event, applied, replayed}
 use Rattle.ov_catalog.specs.Extents.{of_plan, of_set, live}
 use Rattle.ov_catalog.specs.Numbers.{VersionNumbers, PartNumbers, PlanNumbers, SetNumbers, Numbers, each_version, each_part, each_plan, each_set, each, nothing_yet}
 use Rattle.ov_catalog.specs.Raw.{event_in, place_in, shape_in}
+use Rattle.ov_catalog.proofs.Covering.{applies_built}
 use Rattle.ov_catalog.proofs.Filling.{applied_each}
 use Rattle.law_events.specs.Fitting.{IsSoundEvent}
 use Rattle.law_events.proofs.Asking.{applies_sound}
@@ -97,20 +98,25 @@ segments_same e low = by (e.bytes == 0)
     by true = refl
     by false = ap (λ x. x ∷ []) (lowered_same e low)
 
-event_same : (e : raw.Event) → IsSoundEvent e → each_event lowered lowered (event_in e) ≡ event_in e
-event_same (says.Init name schema rows list segment) sound = λ i.
+event_same : (e : raw.Event) → is_built_event e ≡ true → IsSoundEvent e → each_event lowered lowered (event_in e) ≡ event_in e
+event_same (says.Init name schema rows list segment) built sound = λ i.
     Init name (shape_in schema) rows (lowered_same list (list_low rows list sound.0) i) (segments_same segment (segment_low rows segment sound.1) i)
-event_same (says.Commit cvd vid message parents rows fresh place added list segment) sound = λ i.
+event_same (says.Commit cvd vid message parents rows fresh place added list segment) built sound = λ i.
     Commit cvd vid message parents rows fresh (place_in place) added (lowered_same list (list_low rows list sound.0) i) (segments_same segment (segment_low added segment sound.1) i)
-event_same (says.Drop cvd) sound = refl
-event_same _ sound = refl
+event_same (says.Drop cvd) built sound = refl
+event_same (says.Plan cvd p q targets) built sound = absurd cc
+event_same (says.Copy cvd count segment) built sound = absurd cc
+event_same (says.Flip cvd) built sound = absurd cc
+event_same (says.Base next) built sound = absurd cc
+event_same (says.Whole said) built sound = absurd cc
+event_same (says.Wide cvd vid message columns parents rows fresh place added list segment) built sound = absurd cc
 
 all_same : (events : List raw.Event) (n : Numbers Extent Extent) → AllApply events n → each lowered lowered n ≡ n
     → each lowered lowered (replayed (map event_in events) n) ≡ replayed (map event_in events) n
 all_same [] n all same = same
 all_same (e ∷ es) n all same =
     all_same es (applied (event_in e) n) all.1
-    (applied_each lowered lowered (event_in e) n ∙ (λ i. applied (event_same e (applies_sound e n all.0) i) (same i)))
+    (applied_each lowered lowered (event_in e) n ∙ (λ i. applied (event_same e (applies_built e n all.0) (applies_sound e n all.0) i) (same i)))
 
 pub never_high : (payloads : List (List ℕ)) (n : Numbers Extent Extent) → IsReplay payloads n → too_high_page (live n) ≡ None
 never_high payloads n is =

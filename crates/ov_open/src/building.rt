@@ -17,7 +17,7 @@ use ov_pages::Pages;
 use std::alloc::Global;
 
 // The bytes of a record beside its payload: its gate, and the payload's length.
-const FRONT_BYTES: u64 = 5;
+const FRONT_BYTES: u64 = ov_journal::FRONT_BYTES;
 
 /// The core of a journal with these payloads, beside so many whole pages.
 pub fn core_of(

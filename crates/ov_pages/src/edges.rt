@@ -4,8 +4,7 @@ ghost use Rattle.std.specs.Prelude.{◌≡◌, ℕ, ◌+◌, ◌*◌, ◌<◌, �
 ghost use Rattle.ov_pages.specs.Sets.{IsFreeRun, IsLowestRun};
 ghost use Rattle.ov_pages.specs.Edges.{Ascend, AreEdges, pages_between, turned};
 
-/// One past the highest page that there can be, 2^22.
-pub const PAGES: u32 = 4_194_304;
+use ov_host::PAGES;
 
 /// Puts an edge in, or takes it out where it is there. The pages from it on turn: those that were in are out.
 fn turn(edges: &mut Vec<u32>, edge: u32)

@@ -6,9 +6,9 @@ ghost use Rattle.ov_pages.specs.Live.{too_high_page};
 ghost use Rattle.ov_pages.specs.Runs.{IsRun, AreRunsOf, AreEdgesOf};
 ghost use Rattle.ov_pages.specs.Answers.{IsCauseIn};
 
-use crate::edges::{PAGES, turn_run};
+use crate::edges::turn_run;
 use crate::errors::PagesErr;
-use ov_host::Extent;
+use ov_host::{Extent, PAGES};
 use std::alloc::{AllocError, Global};
 
 /// A run of pages, up to `past`, which is left out.

@@ -14,15 +14,12 @@ ghost use Rattle.ov_pages.specs.Writes.{Grows, StaysOff, AreFree};
 use crate::edges::{lowest_run, turn_run};
 use crate::errors::{PageErr, PagesErr};
 use crate::live::{edges_of, first_too_high, sorted_runs};
-use ov_host::{Area, Extent, Failed, Host};
+use ov_host::{Area, Extent, Failed, Host, RUN_LIMIT};
 use std::alloc::Global;
 use std::marker::Model;
 
 /// The bytes of a page.
-const PAGE_BYTES: u64 = 4096;
-
-/// A run of so many pages is refused, 2^20: its bytes would not fit an extent.
-const RUN_LIMIT: u32 = 1_048_576;
+const PAGE_BYTES: u64 = ov_host::PAGE_BYTES as u64;
 
 /// Which pages below 2^22 are reserved. It is kept as the runs of successive reserved pages, so that its size
 /// and the time of each call go by the number of runs. Contracts see the reserved pages, ascending, and the

@@ -1,6 +1,6 @@
 -- A dataset's number of records is the sum of what its versions brought.
-use Rattle.std.proofs.Common.{◌≡◌, ◌≤◌, ◌+◌, ℕ, Bool, true, false, List, [], ◌∷◌, ◌++◌, map, take, filter, refl, sym, ◌∙◌, ap, inl, inr, arith}
-use Rattle.std.specs.Prelude.{not, if◌then◌else◌}
+use Rattle.std.proofs.Common.{◌≡◌, ◌+◌, ℕ, Bool, true, false, List, [], ◌∷◌, ◌++◌, map, filter, sym, ◌∙◌, ap, inl, inr, arith}
+use Rattle.std.specs.Prelude.{None, not, if◌then◌else◌}
 use Rattle.std.specs.List.{sum_by}
 use Rattle.std.proofs.lemmas.List.Sums.{sum_by_push, sum_by-take-le}
 use Rattle.ov_event.specs.declared.event.Event as raw
@@ -9,7 +9,7 @@ use Rattle.ov_host.specs.declared.area.Extent.{Extent}
 use Rattle.ov_layout.specs.Changes.{extents_of}
 use Rattle.ov_place.specs.declared.place_facts.Place.{Place}
 use Rattle.ov_model.specs.Lists.{IsIn}
-use Rattle.ov_catalog.specs.Applying.{AllApply}
+use Rattle.ov_catalog.specs.Applying.{AllApply, first_off}
 use Rattle.ov_catalog.specs.Events.{numbered, version_of, with_version, change, applied, replayed}
 use Rattle.ov_catalog.specs.Numbers.{VersionNumbers, nothing_yet}
 use Rattle.ov_catalog.specs.Numbers.{Numbers as Catalog}
@@ -47,17 +47,22 @@ sums_changed cvd f keeps (s ∷ sets) all = by (numbered cvd s) (sums_changed cv
     by true rest = (keeps s all.0, all.1)
     by false rest = (all.0, rest)
 
-event_sums : (e : raw.Event) (n : Catalog Extent Extent) → AreSums n.sets → AreSums (applied (event_in e) n).sets
-event_sums (says.Init name s rows list segment) n all = sums_last n.sets _ all (omega arith)
-event_sums (says.Commit cvd vid message parents rows fresh place added list segment) n all =
+event_sums : (e : raw.Event) (n : Catalog Extent Extent) → first_off e n ≡ None → AreSums n.sets → AreSums (applied (event_in e) n).sets
+event_sums (says.Init name s rows list segment) n applies all = sums_last n.sets _ all (omega arith)
+event_sums (says.Commit cvd vid message parents rows fresh place added list segment) n applies all =
     sums_changed cvd (with_version (version_of parents message rows fresh list) (place_in place) added (extents_of segment))
     (sum_more (version_of parents message rows fresh list) (place_in place) added (extents_of segment)) n.sets all
-event_sums (says.Drop cvd) n all = sums_left (λ s. not (numbered cvd s)) n.sets all
-event_sums _ n all = all
+event_sums (says.Drop cvd) n applies all = sums_left (λ s. not (numbered cvd s)) n.sets all
+event_sums (says.Plan cvd p q targets) n applies all = absurd cc
+event_sums (says.Copy cvd count segment) n applies all = absurd cc
+event_sums (says.Flip cvd) n applies all = absurd cc
+event_sums (says.Base next) n applies all = absurd cc
+event_sums (says.Whole said) n applies all = absurd cc
+event_sums (says.Wide cvd vid message columns parents rows fresh place added list segment) n applies all = absurd cc
 
-all_sums : (events : List raw.Event) (n : Catalog Extent Extent) → AreSums n.sets → AreSums (replayed (map event_in events) n).sets
-all_sums [] n all = all
-all_sums (e ∷ events) n all = all_sums events (applied (event_in e) n) (event_sums e n all)
+all_sums : (events : List raw.Event) (n : Catalog Extent Extent) → AllApply events n → AreSums n.sets → AreSums (replayed (map event_in events) n).sets
+all_sums [] n apply all = all
+all_sums (e ∷ events) n apply all = all_sums events (applied (event_in e) n) apply.1 (event_sums e n apply.0 all)
 
 sum_in : (sets : List Numbers) (s : Numbers) → AreSums sets → IsIn sets s → IsSum s
 sum_in [] s all is = absurd is
@@ -65,4 +70,4 @@ sum_in (x ∷ sets) s all (inl same) = ap (λ (y : Numbers). sum_by (λ v. v.fre
 sum_in (x ∷ sets) s all (inr later) = sum_in sets s all.1 later
 
 pub all_counted : (events : List raw.Event) (s : Numbers) → AllApply events nothing_yet → IsIn (numbers_in events).sets s → IsCounted s
-all_counted events s apply is = λ vid. omega (arith, sum_by-take-le (λ v. v.fresh) s.versions vid, sum_in (numbers_in events).sets s (all_sums events nothing_yet tt) is)
+all_counted events s apply is = λ vid. omega (arith, sum_by-take-le (λ v. v.fresh) s.versions vid, sum_in (numbers_in events).sets s (all_sums events nothing_yet apply tt) is)

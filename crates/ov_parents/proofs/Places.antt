@@ -1,7 +1,6 @@
 -- Records at the positions of a scan.
 use Rattle.std.proofs.Common.{◌≡◌, ◌<◌, ◌+◌, ℕ, zero, suc, Some, List, [], ◌∷◌, ◌++◌, length, map, take, get_or, refl, sym, ◌∙◌, ap, subst, arith}
-use Rattle.std.specs.Prelude.{slice_get, IsErr, IsErrAnd, MatchResult}
-use Rattle.std.specs.List.{All, AllZip}
+use Rattle.std.specs.Prelude.{slice_get}
 use Rattle.std.specs.Ordering.{is_lt}
 use Rattle.std.proofs.lemmas.List.{get_or-map, length-map, map-append, take_more}
 use Rattle.std.proofs.lemmas.List.Elements.{All-nil, All-cons, All-head, All-tail}
@@ -12,8 +11,7 @@ use Rattle.ov_value.specs.Rows.{Fits, key_cmp}
 use Rattle.ov_segment.specs.declared.numbered.Record.{Record}
 use Rattle.ov_catalog.proofs.Members.{heads, tails}
 use Rattle.ov_fetch.specs.Scans.{AllFit, AllStand, InKeyOrder as RowsInOrder, row_at, rows_at, rows_of}
-use Rattle.ov_fetch.proofs.Gathered.{same_default}
-use Rattle.ov_fetch.proofs.Lacking.{get_at, get_below}
+use Rattle.ov_fetch.proofs.Lacking.{get_at}
 use Rattle.ov_records.specs.Records.{InKeyOrder}
 use Rattle.ov_parents.specs.Taking.{StandAt}
 

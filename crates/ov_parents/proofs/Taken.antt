@@ -1,11 +1,9 @@
 -- The records of versions, taken out of a scan one after another.
-use Rattle.std.proofs.Common.{◌≡◌, ◌<◌, ◌≤◌, ◌+◌, ℕ, zero, suc, Bool, true, false, Some, None, Result, Ok, Err, List, [], ◌∷◌, ◌++◌, length, map, take, get_or, refl, sym, ◌∙◌, ap, subst, inl, inr, arith}
+use Rattle.std.proofs.Common.{◌≡◌, ◌<◌, ◌≤◌, ◌+◌, ℕ, Bool, true, Result, Ok, Err, List, [], ◌∷◌, ◌++◌, length, take, get_or, sym, ◌∙◌, ap, subst, inl, inr, arith}
 use Rattle.std.specs.Prelude.{IfOk, MatchResult}
-use Rattle.std.specs.List.{All, AllZip, Contains}
-use Rattle.std.specs.List.Sorted.{IsPermutation}
+use Rattle.std.specs.List.{All, AllZip}
 use Rattle.std.proofs.lemmas.List.{length-map, take_all, take_more}
 use Rattle.std.proofs.lemmas.List.Elements.{All-nil, All-cons, All-head, All-tail, All-push}
-use Rattle.std.proofs.lemmas.List.Sorted.{length_permutation}
 use Rattle.ov_value.specs.Shapes.{Shape}
 use Rattle.ov_segment.specs.declared.numbered.Record.{Record}
 use Rattle.ov_member.proofs.RangeLemmas.{RiseFrom-apart}
@@ -14,20 +12,18 @@ use Rattle.ov_member.specs.Rids.{RiseFrom}
 use Rattle.ov_fetch.specs.declared.errors.FetchErr.{FetchErr}
 use Rattle.ov_fetch.specs.declared.errors.FetchErr.TheVariants.{Host, Memory, Damaged}
 use Rattle.ov_fetch.specs.declared.scan.Scan.{Scan}
-use Rattle.ov_fetch.specs.Extents.{IsList}
 use Rattle.ov_fetch.specs.Scans.{AllFit, IsSound, InKeyOrder as RowsInOrder, rows_at}
 use Rattle.ov_fetch.proofs.Gathered.{is_among, same_default}
-use Rattle.ov_model.specs.Lists.{IsIn}
 use Rattle.ov_catalog.proofs.Members.{all_at}
 use Rattle.ov_records.specs.Records.{InKeyOrder}
 use Rattle.law_commits.specs.Agreeing.{AreRids, EachAgrees}
-use Rattle.law_commits.specs.Differing.{HasNoRidTwice, rids_of}
+use Rattle.law_commits.specs.Differing.{rids_of}
 use Rattle.ov_read.specs.Agreement.{Agrees, Numbers, records_after}
 use Rattle.ov_read.specs.Damages.{RefusesScan}
 use Rattle.ov_read.specs.Found.{HasRows, IsScanned}
 use Rattle.ov_read.proofs.Gatherings.{zip_at}
 use Rattle.ov_parents.specs.Parents.{IsCounted, IsParent}
-use Rattle.ov_parents.specs.Taking.{AreTaken, HasOtherRids, HaveRids, RefusesTaken, StandAt}
+use Rattle.ov_parents.specs.Taking.{AreTaken, HaveRids, RefusesTaken, StandAt}
 use Rattle.ov_parents.proofs.Places.{all_fit, count_is, in_order, same_found}
 use Rattle.ov_parents.proofs.Repeats.{rids_moved, set_is}
 

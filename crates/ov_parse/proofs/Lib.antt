@@ -1,17 +1,6 @@
-pub mod AskedOnce
-pub mod Comparisons
-pub mod Conds
-pub mod Deciding
 pub mod Found
 pub mod Loop
-pub mod Operands
 pub mod Parsed
-pub mod Queries
-pub mod Readers
 pub mod Said
-pub mod Signs
 pub mod Slices
-pub mod Terms
 pub mod Unescape
-pub mod Whole
-pub mod Words

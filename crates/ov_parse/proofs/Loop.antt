@@ -5,7 +5,8 @@ use Rattle.ov_model.specs.declared.query.Fixed.{Fixed}
 use Rattle.ov_model.specs.declared.query.Symbol.{Symbol}
 use Rattle.ov_parse.specs.declared.stop.Stop.{Stop}
 use Rattle.ov_parse.specs.declared.stop.Stop.TheVariants.{Memory, Unspelled}
-use Rattle.ov_parse.specs.Reading.{◌>>=◌, Reading, Fails, eaten, more_at, with_front}
+use Rattle.ov_model.specs.Reading.{◌>>=◌, Reading, eaten, more_at, with_front}
+use Rattle.ov_parse.specs.Returning.{Fails}
 
 regroup : {A : Type 0} (front : List A) (x : A) (read : Option (List A × List Symbol)) → with_front front (read >>= λ y. Some (x ∷ y.0, y.1)) ≡ with_front (front ++ x ∷ []) read
 regroup {A} front x (Some y) = ap (λ (xs : List A). Some (xs, y.1)) (simp append_assoc)

@@ -1,3 +1,3 @@
-pub mod Reading
-pub mod Unquoting
 pub mod Refusing
+pub mod Returning
+pub mod Unquoting

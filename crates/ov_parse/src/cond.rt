@@ -3,7 +3,8 @@
 ghost use Rattle.std.specs.Prelude.{◌≡◌, MatchOption, Some, None, [], ◌∷◌, length};
 ghost use Rattle.ov_model.specs.declared.query.Fixed.TheVariants as f;
 ghost use Rattle.ov_model.specs.Grammar.{every as every_of, any as any_of};
-ghost use Rattle.ov_parse.specs.Reading.{Gives, vid_in as vid_in_of, null_at, comparison_at, operand_test_at, lineage_test_at, test_at, list_at, conj_at, disj_at, closed_at, unit_at, cond_at};
+ghost use Rattle.ov_model.specs.Reading.{operand_at, vid_in as vid_in_of, null_at, comparison_at, operand_test_at, lineage_test_at, test_at, list_at, conj_at, disj_at, closed_at, unit_at, cond_at};
+ghost use Rattle.ov_parse.specs.Returning.{Gives};
 
 use crate::stop::Stop;
 use crate::symbols::{behind, eaten, not_at};
@@ -13,7 +14,7 @@ use sqlite_items::{Boxed, Items};
 use std::alloc::Global;
 
 /// `VID IN` or `VID NOT IN`: whether NOT stands there, and what comes then.
-#[tactic(auto, unfolding(crate::specs::Reading::vid_in))]
+#[tactic(auto, unfolding(ov_model::specs::Reading::vid_in))]
 fn vid_in(symbols: &[Symbol]) -> Option<(bool, &[Symbol])>
     ensures { MatchOption result (vid_in_of symbols.now ≡ None) (λ x. vid_in_of symbols.now ≡ Some (x.0, x.1.now)) }
 {
@@ -24,7 +25,7 @@ fn vid_in(symbols: &[Symbol]) -> Option<(bool, &[Symbol])>
 }
 
 /// What stands behind `operand IS`.
-#[tactic(auto, unfolding(crate::specs::Reading::null_at))]
+#[tactic(auto, unfolding(ov_model::specs::Reading::null_at))]
 fn null(tested: Operand, symbols: &[Symbol]) -> Result<(Cond, &[Symbol]), Stop>
     ensures { Gives (λ x. (x.0, x.1.now)) result (null_at tested symbols.now) }
 {
@@ -34,27 +35,27 @@ fn null(tested: Operand, symbols: &[Symbol]) -> Result<(Cond, &[Symbol]), Stop>
 }
 
 /// What stands behind the left side of a comparison.
-#[tactic(auto, unfolding(crate::specs::Reading::comparison_at))]
+#[tactic(auto, unfolding(ov_model::specs::Reading::comparison_at))]
 fn comparison(
     alloc: Global,
     aggregates: bool,
     left: Operand,
     symbols: &[Symbol],
 ) -> Result<(Cond, &[Symbol]), Stop>
-    ensures { Gives (λ x. (x.0, x.1.now)) result (comparison_at aggregates left symbols.now) }
+    ensures { Gives (λ x. (x.0, x.1.now)) result (comparison_at (operand_at aggregates) left symbols.now) }
 {
     let (by, rest) = sign(symbols)?;
     let (right, rest) = operand(alloc, aggregates, rest)?;
     Ok((Cond::Compare(left, by, right), rest))
 }
 
-#[tactic(auto, unfolding(crate::specs::Reading::operand_test_at))]
+#[tactic(auto, unfolding(ov_model::specs::Reading::operand_test_at))]
 fn operand_test(
     alloc: Global,
     aggregates: bool,
     symbols: &[Symbol],
 ) -> Result<(Cond, &[Symbol]), Stop>
-    ensures { Gives (λ x. (x.0, x.1.now)) result (operand_test_at aggregates symbols.now) }
+    ensures { Gives (λ x. (x.0, x.1.now)) result (operand_test_at (operand_at aggregates) symbols.now) }
 {
     let (left, rest) = operand(alloc, aggregates, symbols)?;
     match eaten(Fixed::Is, rest) {
@@ -63,7 +64,7 @@ fn operand_test(
     }
 }
 
-#[tactic(auto, unfolding(crate::specs::Reading::lineage_test_at))]
+#[tactic(auto, unfolding(ov_model::specs::Reading::lineage_test_at))]
 fn lineage_test(alloc: Global, negated: bool, symbols: &[Symbol]) -> Result<(Cond, &[Symbol]), Stop>
     ensures { Gives (λ x. (x.0, x.1.now)) result (lineage_test_at (negated, symbols.now)) }
 {
@@ -72,7 +73,7 @@ fn lineage_test(alloc: Global, negated: bool, symbols: &[Symbol]) -> Result<(Con
 }
 
 /// A condition without NOT, AND, OR and parentheses of its own.
-#[tactic(auto, unfolding(crate::specs::Reading::test_at))]
+#[tactic(auto, unfolding(ov_model::specs::Reading::test_at))]
 fn test(alloc: Global, aggregates: bool, symbols: &[Symbol]) -> Result<(Cond, &[Symbol]), Stop>
     ensures { Gives (λ x. (x.0, x.1.now)) result (test_at aggregates symbols.now) }
 {
@@ -116,35 +117,35 @@ pub(crate) fn condition(
     aggregates: bool,
     symbols: &[Symbol],
 ) -> Result<(Cond, &[Symbol]), Stop>
-    ensures { Gives (λ x. (x.0, x.1.now)) result (cond_at aggregates 100 symbols.now) }
+    ensures { Gives (λ x. (x.0, x.1.now)) result (cond_at (test_at aggregates) 100 symbols.now) }
 {
     disj(alloc, aggregates, MAX_DEPTH, symbols)
 }
 
 /// Members with OR between each two.
 #[cycle(conditions)]
-#[tactic(auto, unfolding(crate::specs::Reading::cond_at, crate::specs::Reading::disj_at))]
+#[tactic(auto, unfolding(ov_model::specs::Reading::cond_at, ov_model::specs::Reading::disj_at))]
 fn disj(
     alloc: Global,
     aggregates: bool,
     depth: u8,
     symbols: &[Symbol],
 ) -> Result<(Cond, &[Symbol]), Stop>
-    ensures { Gives (λ x. (x.0, x.1.now)) result (cond_at aggregates depth symbols.now) }
+    ensures { Gives (λ x. (x.0, x.1.now)) result (cond_at (test_at aggregates) depth symbols.now) }
 {
     let (members, rest) = conjs(alloc, aggregates, depth, symbols)?;
     Ok((any(members), rest))
 }
 
 #[cycle(conditions)]
-#[tactic(auto, unfolding(crate::specs::Reading::list_at))]
+#[tactic(auto, unfolding(ov_model::specs::Reading::list_at))]
 fn conjs(
     alloc: Global,
     aggregates: bool,
     depth: u8,
     symbols: &[Symbol],
 ) -> Result<(Items<Cond>, &[Symbol]), Stop>
-    ensures { Gives (λ x. (x.0, x.1.now)) result (list_at f.Or (conj_at (unit_at aggregates depth)) symbols.now) }
+    ensures { Gives (λ x. (x.0, x.1.now)) result (list_at f.Or (conj_at (unit_at (test_at aggregates) depth)) symbols.now) }
 {
     let (first, start) = conj(alloc, aggregates, depth, symbols)?;
     let mut members = Items::new(alloc);
@@ -163,28 +164,28 @@ fn conjs(
 
 /// Members with AND between each two.
 #[cycle(conditions)]
-#[tactic(auto, unfolding(crate::specs::Reading::conj_at))]
+#[tactic(auto, unfolding(ov_model::specs::Reading::conj_at))]
 fn conj(
     alloc: Global,
     aggregates: bool,
     depth: u8,
     symbols: &[Symbol],
 ) -> Result<(Cond, &[Symbol]), Stop>
-    ensures { Gives (λ x. (x.0, x.1.now)) result (conj_at (unit_at aggregates depth) symbols.now) }
+    ensures { Gives (λ x. (x.0, x.1.now)) result (conj_at (unit_at (test_at aggregates) depth) symbols.now) }
 {
     let (members, rest) = units(alloc, aggregates, depth, symbols)?;
     Ok((every(members), rest))
 }
 
 #[cycle(conditions)]
-#[tactic(auto, unfolding(crate::specs::Reading::list_at))]
+#[tactic(auto, unfolding(ov_model::specs::Reading::list_at))]
 fn units(
     alloc: Global,
     aggregates: bool,
     depth: u8,
     symbols: &[Symbol],
 ) -> Result<(Items<Cond>, &[Symbol]), Stop>
-    ensures { Gives (λ x. (x.0, x.1.now)) result (list_at f.And (unit_at aggregates depth) symbols.now) }
+    ensures { Gives (λ x. (x.0, x.1.now)) result (list_at f.And (unit_at (test_at aggregates) depth) symbols.now) }
 {
     let (first, start) = unit(alloc, aggregates, depth, symbols)?;
     let mut members = Items::new(alloc);
@@ -203,14 +204,14 @@ fn units(
 
 /// A test, or NOT and a unit, or a condition in parentheses.
 #[cycle(conditions)]
-#[tactic(auto, unfolding(crate::specs::Reading::unit_at))]
+#[tactic(auto, unfolding(ov_model::specs::Reading::unit_at))]
 fn unit(
     alloc: Global,
     aggregates: bool,
     depth: u8,
     symbols: &[Symbol],
 ) -> Result<(Cond, &[Symbol]), Stop>
-    ensures { Gives (λ x. (x.0, x.1.now)) result (unit_at aggregates depth symbols.now) }
+    ensures { Gives (λ x. (x.0, x.1.now)) result (unit_at (test_at aggregates) depth symbols.now) }
 {
     if depth == 0 {
         return test(alloc, aggregates, symbols);
@@ -227,14 +228,14 @@ fn unit(
 
 /// A condition and the parenthesis behind it.
 #[cycle(conditions)]
-#[tactic(auto, unfolding(crate::specs::Reading::closed_at, crate::specs::Reading::cond_at))]
+#[tactic(auto, unfolding(ov_model::specs::Reading::closed_at, ov_model::specs::Reading::cond_at))]
 fn closed(
     alloc: Global,
     aggregates: bool,
     depth: u8,
     symbols: &[Symbol],
 ) -> Result<(Cond, &[Symbol]), Stop>
-    ensures { Gives (λ x. (x.0, x.1.now)) result (closed_at (disj_at (conj_at (unit_at aggregates depth))) symbols.now) }
+    ensures { Gives (λ x. (x.0, x.1.now)) result (closed_at (disj_at (conj_at (unit_at (test_at aggregates) depth))) symbols.now) }
 {
     let (cond, rest) = disj(alloc, aggregates, depth, symbols)?;
     let rest = behind(Fixed::Close, rest)?;

@@ -1,12 +1,11 @@
 //! From the tokens of a text to the query that they spell.
 //!
 //! The grammar is a relation between queries and symbols, which says nothing of how they are read: `Grammar` of `ov_model`. Here
-//! each token is turned into the symbol that it says, and the symbols are read from left to right (`Reading` in `specs/`).
+//! each token is turned into the symbol that it says, and the symbols are read from left to right, as `Reading` of `ov_model` does.
 #![tactic(auto)]
 
 mod cond;
 mod keywords;
-mod laws;
 mod list;
 mod parsing;
 mod part;
@@ -16,5 +15,4 @@ mod stop;
 mod symbols;
 mod term;
 
-pub use laws::{a_text_asks_one_thing, one_query};
 pub use parsing::{ParseErr, parse};

@@ -3,7 +3,8 @@
 ghost use Rattle.std.specs.Prelude.{[], ◌∷◌, length};
 ghost use Rattle.std.specs.Prelude.{length};
 ghost use Rattle.ov_model.specs.declared.query.Fixed.TheVariants as f;
-ghost use Rattle.ov_parse.specs.Reading.{Gives, more_at, list_at, with_front};
+ghost use Rattle.ov_model.specs.Reading.{more_at, list_at, with_front};
+ghost use Rattle.ov_parse.specs.Returning.{Gives};
 
 use crate::part::Part;
 use crate::stop::Stop;
@@ -13,7 +14,7 @@ use sqlite_items::Items;
 use std::alloc::Global;
 
 /// Items with a comma between each two, at least one, and what stands behind them.
-#[tactic(auto, unfolding(crate::specs::Reading::list_at))]
+#[tactic(auto, unfolding(ov_model::specs::Reading::list_at))]
 pub(crate) fn listed<T: Part>(
     alloc: Global,
     symbols: &[Symbol],

@@ -2,7 +2,7 @@
 
 ghost use Rattle.std.specs.Prelude.{List, Option};
 ghost use Rattle.ov_model.specs.declared.query.Symbol.{Symbol as ASymbol};
-ghost use Rattle.ov_parse.specs.Reading.{Gives};
+ghost use Rattle.ov_parse.specs.Returning.{Gives};
 
 use crate::stop::Stop;
 use ov_model::Symbol;

@@ -2,7 +2,8 @@
 
 ghost use Rattle.std.specs.Prelude.{◌≡◌, Some, None, true, false};
 ghost use Rattle.ov_model.specs.declared.query.Fixed.TheVariants as f;
-ghost use Rattle.ov_parse.specs.Reading.{Gives, items_at, of_cvd_at, listed_at, of_lineage_at, source_at, guard_at, grouped_at, grouping_at, direction_at, key_at, ordered_at, order_at, limit_at, is_nothing, is_end as is_the_end, tail_at, head_at, kept_at, made_of, query_of};
+ghost use Rattle.ov_model.specs.Reading.{term_at, test_at, cond_at, items_at, of_cvd_at, listed_at, of_lineage_at, source_at, guard_at, grouped_at, grouping_at, direction_at, key_at, ordered_at, order_at, limit_at, is_nothing, is_end as is_the_end, tail_at, head_at, kept_at, made_of, query_of};
+ghost use Rattle.ov_parse.specs.Returning.{Gives};
 
 use crate::cond::condition;
 use crate::list::listed;
@@ -14,9 +15,9 @@ use ov_model::{Col, Cond, Fixed, Items, Key, Query, Seq, Src, Symbol, Term};
 use ov_value::Txt;
 use std::alloc::Global;
 
-#[tactic(auto, unfolding(crate::specs::Reading::items_at))]
+#[tactic(auto, unfolding(ov_model::specs::Reading::items_at))]
 fn items(alloc: Global, symbols: &[Symbol]) -> Result<(Items, &[Symbol]), Stop>
-    ensures { Gives (λ x. (x.0, x.1.now)) result (items_at symbols.now) }
+    ensures { Gives (λ x. (x.0, x.1.now)) result (items_at term_at symbols.now) }
 {
     if let Some(rest) = eaten(Fixed::Star, symbols) {
         return Ok((Items::Everything, rest));
@@ -25,7 +26,7 @@ fn items(alloc: Global, symbols: &[Symbol]) -> Result<(Items, &[Symbol]), Stop>
     Ok((Items::Terms(terms), rest))
 }
 
-#[tactic(auto, unfolding(crate::specs::Reading::of_cvd_at))]
+#[tactic(auto, unfolding(ov_model::specs::Reading::of_cvd_at))]
 fn of_cvd(alloc: Global, symbols: &[Symbol]) -> Result<(Txt, &[Symbol]), Stop>
     ensures { Gives (λ x. (x.0, x.1.now)) result (of_cvd_at symbols.now) }
 {
@@ -34,7 +35,7 @@ fn of_cvd(alloc: Global, symbols: &[Symbol]) -> Result<(Txt, &[Symbol]), Stop>
     name(alloc, rest)
 }
 
-#[tactic(auto, unfolding(crate::specs::Reading::listed_at))]
+#[tactic(auto, unfolding(ov_model::specs::Reading::listed_at))]
 fn listed_versions(alloc: Global, symbols: &[Symbol]) -> Result<(Src, &[Symbol]), Stop>
     ensures { Gives (λ x. (x.0, x.1.now)) result (listed_at symbols.now) }
 {
@@ -43,7 +44,7 @@ fn listed_versions(alloc: Global, symbols: &[Symbol]) -> Result<(Src, &[Symbol])
     Ok((Src::Listed { vids, cvd }, rest))
 }
 
-#[tactic(auto, unfolding(crate::specs::Reading::of_lineage_at))]
+#[tactic(auto, unfolding(ov_model::specs::Reading::of_lineage_at))]
 fn of_lineage(alloc: Global, symbols: &[Symbol]) -> Result<(Src, &[Symbol]), Stop>
     ensures { Gives (λ x. (x.0, x.1.now)) result (of_lineage_at symbols.now) }
 {
@@ -52,7 +53,7 @@ fn of_lineage(alloc: Global, symbols: &[Symbol]) -> Result<(Src, &[Symbol]), Sto
     Ok((Src::Lineage { kind, vid, cvd }, rest))
 }
 
-#[tactic(auto, unfolding(crate::specs::Reading::source_at))]
+#[tactic(auto, unfolding(ov_model::specs::Reading::source_at))]
 fn source(alloc: Global, symbols: &[Symbol]) -> Result<(Src, &[Symbol]), Stop>
     ensures { Gives (λ x. (x.0, x.1.now)) result (source_at symbols.now) }
 {
@@ -67,14 +68,14 @@ fn source(alloc: Global, symbols: &[Symbol]) -> Result<(Src, &[Symbol]), Stop>
 }
 
 /// A condition behind this keyword, if it stands here.
-#[tactic(auto, unfolding(crate::specs::Reading::guard_at))]
+#[tactic(auto, unfolding(ov_model::specs::Reading::guard_at))]
 fn guard(
     alloc: Global,
     word: Fixed,
     aggregates: bool,
     symbols: &[Symbol],
 ) -> Result<(Option<Cond>, &[Symbol]), Stop>
-    ensures { Gives (λ x. (x.0, x.1.now)) result (guard_at word aggregates symbols.now) }
+    ensures { Gives (λ x. (x.0, x.1.now)) result (guard_at word (cond_at (test_at aggregates) 100) symbols.now) }
 {
     match eaten(word, symbols) {
         Some(rest) => {
@@ -92,7 +93,7 @@ struct Groups {
     having: Option<Cond>,
 }
 
-#[tactic(auto, unfolding(crate::specs::Reading::grouped_at))]
+#[tactic(auto, unfolding(ov_model::specs::Reading::grouped_at))]
 fn grouped(alloc: Global, symbols: &[Symbol]) -> Result<(Groups, &[Symbol]), Stop>
     ensures { Gives (λ x. ((x.0.groups, x.0.having), x.1.now)) result (grouped_at symbols.now) }
 {
@@ -102,7 +103,7 @@ fn grouped(alloc: Global, symbols: &[Symbol]) -> Result<(Groups, &[Symbol]), Sto
     Ok((Groups { groups, having }, rest))
 }
 
-#[tactic(auto, unfolding(crate::specs::Reading::grouping_at))]
+#[tactic(auto, unfolding(ov_model::specs::Reading::grouping_at))]
 fn grouping(alloc: Global, symbols: &[Symbol]) -> Result<(Groups, &[Symbol]), Stop>
     ensures { Gives (λ x. ((x.0.groups, x.0.having), x.1.now)) result (grouping_at symbols.now) }
 {
@@ -118,7 +119,7 @@ fn grouping(alloc: Global, symbols: &[Symbol]) -> Result<(Groups, &[Symbol]), St
     }
 }
 
-#[tactic(auto, unfolding(crate::specs::Reading::direction_at))]
+#[tactic(auto, unfolding(ov_model::specs::Reading::direction_at))]
 fn direction(symbols: &[Symbol]) -> (bool, &[Symbol])
     ensures { (result.0, result.1.now) ≡ direction_at symbols.now }
 {
@@ -132,9 +133,9 @@ fn direction(symbols: &[Symbol]) -> (bool, &[Symbol])
 }
 
 impl Part for Key {
-    ghost at = { key_at };
+    ghost at = { key_at term_at };
 
-    #[tactic(auto, unfolding(crate::specs::Reading::key_at))]
+    #[tactic(auto, unfolding(ov_model::specs::Reading::key_at))]
     fn read(alloc: Global, symbols: &[Symbol]) -> Result<(Key, &[Symbol]), Stop> {
         let (term, rest) = Term::read(alloc, symbols)?;
         let (down, rest) = direction(rest);
@@ -142,9 +143,9 @@ impl Part for Key {
     }
 }
 
-#[tactic(auto, unfolding(crate::specs::Reading::order_at, crate::specs::Reading::ordered_at))]
+#[tactic(auto, unfolding(ov_model::specs::Reading::order_at, ov_model::specs::Reading::ordered_at))]
 fn order(alloc: Global, symbols: &[Symbol]) -> Result<(Seq<Key>, &[Symbol]), Stop>
-    ensures { Gives (λ x. (x.0, x.1.now)) result (order_at symbols.now) }
+    ensures { Gives (λ x. (x.0, x.1.now)) result (order_at term_at symbols.now) }
 {
     match eaten(Fixed::Order, symbols) {
         Some(rest) => {
@@ -155,7 +156,7 @@ fn order(alloc: Global, symbols: &[Symbol]) -> Result<(Seq<Key>, &[Symbol]), Sto
     }
 }
 
-#[tactic(auto, unfolding(crate::specs::Reading::limit_at))]
+#[tactic(auto, unfolding(ov_model::specs::Reading::limit_at))]
 fn limit(alloc: Global, symbols: &[Symbol]) -> Result<(Option<u64>, &[Symbol]), Stop>
     ensures { Gives (λ x. (x.0, x.1.now)) result (limit_at symbols.now) }
 {
@@ -169,7 +170,7 @@ fn limit(alloc: Global, symbols: &[Symbol]) -> Result<(Option<u64>, &[Symbol]), 
 }
 
 /// Whether nothing is left but a semicolon.
-#[tactic(auto, unfolding(crate::specs::Reading::is_end))]
+#[tactic(auto, unfolding(ov_model::specs::Reading::is_end))]
 fn is_end(symbols: &[Symbol]) -> bool
     ensures { result ≡ is_the_end symbols.now }
 {
@@ -180,9 +181,9 @@ fn is_end(symbols: &[Symbol]) -> bool
 }
 
 /// ORDER BY, LIMIT and the end.
-#[tactic(auto, unfolding(crate::specs::Reading::tail_at))]
+#[tactic(auto, unfolding(ov_model::specs::Reading::tail_at))]
 fn tail(alloc: Global, symbols: &[Symbol]) -> Result<(Seq<Key>, Option<u64>), Stop>
-    ensures { Gives (λ x. x) result (tail_at symbols.now) }
+    ensures { Gives (λ x. x) result (tail_at term_at symbols.now) }
 {
     let (keys, rest) = order(alloc, symbols)?;
     let (limit, rest) = limit(alloc, rest)?;
@@ -193,7 +194,7 @@ fn tail(alloc: Global, symbols: &[Symbol]) -> Result<(Seq<Key>, Option<u64>), St
 }
 
 /// SELECT and FROM.
-#[tactic(auto, unfolding(crate::specs::Reading::head_at))]
+#[tactic(auto, unfolding(ov_model::specs::Reading::head_at))]
 fn head(alloc: Global, symbols: &[Symbol]) -> Result<((Items, Src), &[Symbol]), Stop>
     ensures { Gives (λ x. (x.0, x.1.now)) result (head_at symbols.now) }
 {
@@ -205,7 +206,7 @@ fn head(alloc: Global, symbols: &[Symbol]) -> Result<((Items, Src), &[Symbol]), 
 }
 
 /// WHERE, and GROUP BY with HAVING.
-#[tactic(auto, unfolding(crate::specs::Reading::kept_at))]
+#[tactic(auto, unfolding(ov_model::specs::Reading::kept_at))]
 fn kept(alloc: Global, symbols: &[Symbol]) -> Result<((Option<Cond>, Groups), &[Symbol]), Stop>
     ensures { Gives (λ x. ((x.0.0, (x.0.1.groups, x.0.1.having)), x.1.now)) result (kept_at symbols.now) }
 {
@@ -232,7 +233,7 @@ fn made(head: (Items, Src), kept: (Option<Cond>, Groups), tail: (Seq<Key>, Optio
 }
 
 /// The query that the symbols spell, all of the symbols.
-#[tactic(auto, unfolding(crate::specs::Reading::query_of))]
+#[tactic(auto, unfolding(ov_model::specs::Reading::query_of))]
 pub(crate) fn query(alloc: Global, symbols: &[Symbol]) -> Result<Query, Stop>
     ensures { Gives (λ q. q) result (query_of symbols.now) }
 {

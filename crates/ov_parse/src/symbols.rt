@@ -2,13 +2,14 @@
 
 ghost use Rattle.std.specs.Prelude.{◌≡◌, IfOk, IfSome, IfNone, None, MatchOption, Some};
 ghost use Rattle.std.specs.Option.{option_map};
-ghost use Rattle.ov_parse.specs.Reading.{Gives, same_word, is_fixed, eaten as eaten_of, not_at as not_of};
+ghost use Rattle.ov_model.specs.Reading.{same_word, is_fixed, eaten as eaten_of, not_at as not_of};
+ghost use Rattle.ov_parse.specs.Returning.{Gives};
 
 use crate::stop::Stop;
 use ov_model::{Fixed, Symbol};
 
 /// Whether two keywords or signs are the same.
-#[tactic(auto, unfolding(crate::specs::Reading::same_word))]
+#[tactic(auto, unfolding(ov_model::specs::Reading::same_word))]
 pub(crate) fn same(a: Fixed, b: Fixed) -> bool
     ensures { result ≡ same_word a b }
 {
@@ -25,7 +26,7 @@ fn is(word: Fixed, symbol: &Symbol) -> bool
 }
 
 /// What stands behind this keyword or sign, if it stands here.
-#[tactic(auto, unfolding(crate::specs::Reading::eaten))]
+#[tactic(auto, unfolding(ov_model::specs::Reading::eaten))]
 pub(crate) fn eaten(word: Fixed, symbols: &[Symbol]) -> Option<&[Symbol]>
     ensures { MatchOption result (eaten_of word symbols.now ≡ None) (λ rest. eaten_of word symbols.now ≡ Some rest.now) }
 {
@@ -46,7 +47,7 @@ pub(crate) fn behind(word: Fixed, symbols: &[Symbol]) -> Result<&[Symbol], Stop>
 }
 
 /// Whether NOT stands here, and what comes then.
-#[tactic(auto, unfolding(crate::specs::Reading::not_at))]
+#[tactic(auto, unfolding(ov_model::specs::Reading::not_at))]
 pub(crate) fn not_at(symbols: &[Symbol]) -> (bool, &[Symbol])
     ensures { (result.0, result.1.now) ≡ not_of symbols.now }
 {

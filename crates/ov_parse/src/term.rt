@@ -1,7 +1,8 @@
 //! Columns, terms, operands and counts.
 
 ghost use Rattle.std.specs.Prelude.{◌≡◌, Some, None, ℤ};
-ghost use Rattle.ov_parse.specs.Reading.{Gives, col_of as the_col, col_at, inner_at, all_at, counted_at, term_at, is_literal as is_a_literal, literal_of as the_literal, may_stand as may, standing_at, operand_at, count_of as the_count, count_at, name_of as the_name, name_at, kind_at, lineage_at, sign_of as the_sign, sign_by, sign_at};
+ghost use Rattle.ov_model.specs.Reading.{col_of as the_col, col_at, inner_at, all_at, counted_at, term_at, is_literal as is_a_literal, literal_of as the_literal, may_stand as may, standing_at, operand_at, count_of as the_count, count_at, name_of as the_name, name_at, kind_at, lineage_at, sign_of as the_sign, sign_by, sign_at};
+ghost use Rattle.ov_parse.specs.Returning.{Gives};
 
 use crate::part::Part;
 use crate::stop::Stop;
@@ -10,7 +11,7 @@ use ov_model::{Col, Fixed, LineageKind, Operand, Sign, Symbol, Term};
 use ov_value::{Txt, Value};
 use std::alloc::Global;
 
-#[tactic(auto, unfolding(crate::specs::Reading::col_of))]
+#[tactic(auto, unfolding(ov_model::specs::Reading::col_of))]
 fn col_of(alloc: Global, symbol: &Symbol) -> Result<Col, Stop>
     ensures { Gives (λ c. c) result (the_col symbol.now) }
 {
@@ -30,7 +31,7 @@ fn col_of(alloc: Global, symbol: &Symbol) -> Result<Col, Stop>
 impl Part for Col {
     ghost at = { col_at };
 
-    #[tactic(auto, unfolding(crate::specs::Reading::col_at))]
+    #[tactic(auto, unfolding(ov_model::specs::Reading::col_at))]
     fn read(alloc: Global, symbols: &[Symbol]) -> Result<(Col, &[Symbol]), Stop> {
         match symbols {
             [] => Err(Stop::Unspelled),
@@ -40,7 +41,7 @@ impl Part for Col {
 }
 
 /// A column in parentheses.
-#[tactic(auto, unfolding(crate::specs::Reading::inner_at))]
+#[tactic(auto, unfolding(ov_model::specs::Reading::inner_at))]
 fn inner(alloc: Global, symbols: &[Symbol]) -> Result<(Col, &[Symbol]), Stop>
     ensures { Gives (λ x. (x.0, x.1.now)) result (inner_at symbols.now) }
 {
@@ -51,7 +52,7 @@ fn inner(alloc: Global, symbols: &[Symbol]) -> Result<(Col, &[Symbol]), Stop>
 }
 
 /// What COUNT counts, in parentheses.
-#[tactic(auto, unfolding(crate::specs::Reading::counted_at, crate::specs::Reading::all_at))]
+#[tactic(auto, unfolding(ov_model::specs::Reading::counted_at, ov_model::specs::Reading::all_at))]
 fn counted(alloc: Global, symbols: &[Symbol]) -> Result<(Term, &[Symbol]), Stop>
     ensures { Gives (λ x. (x.0, x.1.now)) result (counted_at symbols.now) }
 {
@@ -71,7 +72,7 @@ fn counted(alloc: Global, symbols: &[Symbol]) -> Result<(Term, &[Symbol]), Stop>
 impl Part for Term {
     ghost at = { term_at };
 
-    #[tactic(auto, unfolding(crate::specs::Reading::term_at))]
+    #[tactic(auto, unfolding(ov_model::specs::Reading::term_at))]
     fn read(alloc: Global, symbols: &[Symbol]) -> Result<(Term, &[Symbol]), Stop> {
         if let Some(rest) = eaten(Fixed::Count, symbols) {
             return counted(alloc, rest);
@@ -103,7 +104,7 @@ fn is_literal(symbol: &Symbol) -> bool
     }
 }
 
-#[tactic(auto, unfolding(crate::specs::Reading::literal_of))]
+#[tactic(auto, unfolding(ov_model::specs::Reading::literal_of))]
 fn literal_of(alloc: Global, symbol: &Symbol) -> Result<Value, Stop>
     ensures { Gives (λ v. v) result (the_literal symbol.now) }
 {
@@ -133,7 +134,7 @@ fn may_stand(aggregates: bool, term: &Term) -> bool
     }
 }
 
-#[tactic(auto, unfolding(crate::specs::Reading::standing_at))]
+#[tactic(auto, unfolding(ov_model::specs::Reading::standing_at))]
 fn standing(
     alloc: Global,
     aggregates: bool,
@@ -149,7 +150,7 @@ fn standing(
 }
 
 /// A side of a comparison, in which aggregates may stand or not.
-#[tactic(auto, unfolding(crate::specs::Reading::operand_at))]
+#[tactic(auto, unfolding(ov_model::specs::Reading::operand_by))]
 pub(crate) fn operand(
     alloc: Global,
     aggregates: bool,
@@ -168,7 +169,7 @@ pub(crate) fn operand(
     }
 }
 
-#[tactic(auto, unfolding(crate::specs::Reading::count_of))]
+#[tactic(auto, unfolding(ov_model::specs::Reading::count_of))]
 fn count_of(symbol: &Symbol) -> Result<u64, Stop>
     ensures { Gives (λ n. n) result (the_count symbol.now) }
 {
@@ -186,7 +187,7 @@ fn count_of(symbol: &Symbol) -> Result<u64, Stop>
 impl Part for u64 {
     ghost at = { count_at };
 
-    #[tactic(auto, unfolding(crate::specs::Reading::count_at))]
+    #[tactic(auto, unfolding(ov_model::specs::Reading::count_at))]
     fn read(_alloc: Global, symbols: &[Symbol]) -> Result<(u64, &[Symbol]), Stop> {
         match symbols {
             [] => Err(Stop::Unspelled),
@@ -195,7 +196,7 @@ impl Part for u64 {
     }
 }
 
-#[tactic(auto, unfolding(crate::specs::Reading::name_of, crate::specs::Reading::name_at))]
+#[tactic(auto, unfolding(ov_model::specs::Reading::name_of, ov_model::specs::Reading::name_at))]
 pub(crate) fn name(alloc: Global, symbols: &[Symbol]) -> Result<(Txt, &[Symbol]), Stop>
     ensures { Gives (λ x. (x.0, x.1.now)) result (name_at symbols.now) }
 {
@@ -205,7 +206,7 @@ pub(crate) fn name(alloc: Global, symbols: &[Symbol]) -> Result<(Txt, &[Symbol])
     }
 }
 
-#[tactic(auto, unfolding(crate::specs::Reading::kind_at))]
+#[tactic(auto, unfolding(ov_model::specs::Reading::kind_at))]
 fn kind(symbols: &[Symbol]) -> Result<(LineageKind, &[Symbol]), Stop>
     ensures { Gives (λ x. (x.0, x.1.now)) result (kind_at symbols.now) }
 {
@@ -221,7 +222,7 @@ fn kind(symbols: &[Symbol]) -> Result<(LineageKind, &[Symbol]), Stop>
 }
 
 /// A lineage: its kind and the number of its version.
-#[tactic(auto, unfolding(crate::specs::Reading::lineage_at))]
+#[tactic(auto, unfolding(ov_model::specs::Reading::lineage_at))]
 pub(crate) fn lineage(
     alloc: Global,
     symbols: &[Symbol],
@@ -235,7 +236,7 @@ pub(crate) fn lineage(
     Ok(((kind, vid), rest))
 }
 
-#[tactic(auto, unfolding(crate::specs::Reading::sign_of))]
+#[tactic(auto, unfolding(ov_model::specs::Reading::sign_of))]
 fn sign_of(word: Fixed) -> Result<Sign, Stop>
     ensures { Gives (λ s. s) result (the_sign word) }
 {
@@ -256,7 +257,7 @@ fn sign_of(word: Fixed) -> Result<Sign, Stop>
     }
 }
 
-#[tactic(auto, unfolding(crate::specs::Reading::sign_at))]
+#[tactic(auto, unfolding(ov_model::specs::Reading::sign_at))]
 pub(crate) fn sign(symbols: &[Symbol]) -> Result<(Sign, &[Symbol]), Stop>
     ensures { Gives (λ x. (x.0, x.1.now)) result (sign_at symbols.now) }
 {

@@ -162,13 +162,14 @@ impl Part {
     }
 }
 
-/// A partition that a plan will make: its versions, the partition whose pieces it keeps, 0 for none, and the places of
-/// those pieces, counted from 0.
+/// A partition that a plan will make: its versions, the partition whose pieces it keeps, 0 for none, the places of those
+/// pieces, counted from 0, and how many records these have.
 #[derive(Debug, Drop)]
 pub struct Target {
     versions: Items<u32>,
     source: u32,
     kept: Items<u64>,
+    kept_records: u64,
 }
 
 impl Model for Target {
@@ -176,18 +177,19 @@ impl Model for Target {
 
     ghost Value = { Known };
 
-    ghost view = { λ t. record { versions = t.versions; source = t.source; kept = t.kept } };
+    ghost view = { λ t. record { versions = t.versions; source = t.source; kept = t.kept; kept_records = t.kept_records } };
 }
 
 impl Target {
     /// A target of these versions.
-    pub fn new(versions: Items<u32>, source: u32, kept: Items<u64>) -> Target
-        ensures { result ≡ record { versions = versions; source = source; kept = kept } }
+    pub fn new(versions: Items<u32>, source: u32, kept: Items<u64>, kept_records: u64) -> Target
+        ensures { result ≡ record { versions = versions; source = source; kept = kept; kept_records = kept_records } }
     {
         Target {
             versions,
             source,
             kept,
+            kept_records,
         }
     }
 
@@ -212,6 +214,13 @@ impl Target {
         self.kept.as_slice()
     }
 
+    /// How many records they have.
+    pub fn kept_records(&self) -> u64
+        ensures { result ≡ self.now.kept_records }
+    {
+        self.kept_records
+    }
+
     /// A copy of it.
     pub fn copy(&self, alloc: Global) -> Result<Target, AllocError>
         ensures { IfOk result (λ made. made ≡ self.now) }
@@ -222,6 +231,7 @@ impl Target {
             versions,
             source: self.source,
             kept,
+            kept_records: self.kept_records,
         })
     }
 }

@@ -3,14 +3,16 @@
 ghost use Rattle.std.specs.Prelude.{◌≡◌, ◌+◌, ◌++◌, ◌^◌, ◌≤◌, ◌<◌, ◌==◌, [], ◌∷◌, length, map, if◌then◌else◌, codes, IfOk, OnOk};
 ghost use Rattle.std.specs.List.{list_any};
 ghost use Rattle.ov_model.specs.Moves.{tree_edge_of, facts_of, placed_at, piece_of, with_joined, own_part, parts_with, next_with, with_version, new_set};
-ghost use Rattle.ov_model.specs.Records.{recs, records_of, lacking};
+ghost use Rattle.ov_model.specs.Records.{lacking, ordered_records};
 ghost use Rattle.ov_model.specs.World.{held, is_one, part_of, is_unmoved, stored};
 
 use crate::dataset::{Cvd, Dataset, Part, Pieces, Plan, Target};
 use crate::placement::{heaviest, plain_place};
 use crate::plans::{held, is_one};
 use crate::rec::{Rec, Version};
-use crate::records::{copies_of, copies_of_pieces, lacking, order_of, records_of, recs, weights};
+use crate::records::{
+    copies_of, copies_of_pieces, lacking, order_of, ordered_records, records_of, recs, weights,
+};
 use crate::sizes::stored;
 use crate::steps::targets_from;
 use ov_place::{Place, PlaceFacts};
@@ -226,10 +228,9 @@ fn parts_after(
     place: Place,
 ) -> Result<Items<Part>, AllocError>
     requires { length set.now.cvd.versions < 65535 }
-    ensures { IfOk result (λ after. after ≡ parts_with place set.now.next_part (length set.now.cvd.versions + 1) (records_of version.now (recs set.now.cvd.versions [])) set.now.parts) }
+    ensures { IfOk result (λ after. after ≡ parts_with place set.now.next_part (length set.now.cvd.versions + 1) (ordered_records set.now.cvd.versions version.now) set.now.parts) }
 {
-    let done = recs(alloc, set.cvd().versions(), Items::new(alloc))?;
-    let own = records_of(alloc, version, done.as_slice())?;
+    let own = ordered_records(alloc, set.cvd().versions(), version)?;
     let vid = set.cvd().versions().len() as u32 + 1;
     parts_with(
         alloc,

@@ -1,8 +1,9 @@
 //! Plans: which targets a dataset's versions are divided into, and what each keeps of an old partition.
 
-ghost use Rattle.std.specs.Prelude.{◌≡◌, ◌+◌, ◌++◌, ◌≤◌, ◌<◌, ◌*◌, ◌^◌, filter, length, IfOk, OnOk, Some, None};
+ghost use Rattle.std.specs.Prelude.{◌≡◌, ◌+◌, ◌++◌, ◌≤◌, ◌<◌, ◌*◌, ◌^◌, [], filter, length, map, slice_index_or, IfOk, OnOk, Some, None};
 ghost use Rattle.std.specs.List.{list_all, list_any};
-ghost use Rattle.ov_model.specs.Plans.{records_in, meets, empties, modification, cheaper, cheapest, source_of, pieces_of, places_within, target_of, targets_of, planned, parts_at};
+ghost use Rattle.ov_model.specs.Lists.{joined};
+ghost use Rattle.ov_model.specs.Plans.{records_in, meets, empties, modification, cheaper, cheapest, source_of, pieces_of, places_within, pieces_at, target_of, targets_of, planned, parts_at};
 ghost use Rattle.ov_model.specs.Records.{of_version, is_among};
 ghost use Rattle.ov_model.specs.World.{is_one, held};
 ghost use Rattle.ov_plain.specs.Choosing.{is_of_one};
@@ -10,7 +11,7 @@ ghost use Rattle.ov_plain.specs.Small.{IsSmall};
 
 use crate::dataset::{Cvd, Dataset, Part, Pieces, Plan, Target};
 use crate::rec::Rec;
-use crate::records::{add_pieces, is_among, lacking, of_version, order_of, recs};
+use crate::records::{add_pieces, copies_of, is_among, lacking, of_version, order_of, recs};
 use crate::trees::parts_at;
 use sqlite_items::Items;
 use std::alloc::{AllocError, Global};
@@ -234,6 +235,57 @@ fn places_within(
     Ok(found)
 }
 
+/// Adds copies of the pieces at these places; of none where there is no piece.
+fn add_pieces_at(
+    alloc: Global,
+    pieces: &[Items<Rec>],
+    places: &[u64],
+    found: &mut Items<Items<Rec>>,
+) -> Result<(), AllocError>
+    ensures { OnOk result (found.new ≡ found.old ++ map (λ place. slice_index_or pieces.now place []) places.now) }
+{
+    match places {
+        [] => Ok(()),
+        [place, rest @ ..] => {
+            found.push(copies_of(alloc, piece_at(pieces, *place))?)?;
+            add_pieces_at(alloc, pieces, rest, found)
+        }
+    }
+}
+
+/// The piece at a place; an empty one where there is none.
+fn piece_at(pieces: &[Items<Rec>], place: u64) -> &[Rec]
+    ensures { result.now ≡ slice_index_or pieces.now place [] }
+{
+    match pieces.get(place as usize) {
+        None => &[],
+        Some(piece) => piece.as_slice(),
+    }
+}
+
+/// The pieces at these places.
+pub fn pieces_at(
+    alloc: Global,
+    pieces: &[Items<Rec>],
+    places: &[u64],
+) -> Result<Items<Items<Rec>>, AllocError>
+    ensures { IfOk result (λ found. found ≡ pieces_at pieces.now places.now) }
+{
+    let mut found = Items::new(alloc);
+    add_pieces_at(alloc, pieces, places, &mut found)?;
+    Ok(found)
+}
+
+/// How many records the pieces at these places have.
+fn records_at(alloc: Global, pieces: &[Items<Rec>], places: &[u64]) -> Result<u64, AllocError>
+    ensures { IfOk result (λ count. count ≡ length (joined (pieces_at pieces.now places.now))) }
+{
+    let found = pieces_at(alloc, pieces, places)?;
+    let mut all = Items::new(alloc);
+    add_pieces(alloc, found.as_slice(), &mut all)?;
+    Ok(all.len() as u64)
+}
+
 /// The target of these versions; `later` are those behind it.
 fn target_of(
     alloc: Global,
@@ -247,8 +299,10 @@ fn target_of(
     let wanted = records_in(alloc, set.cvd(), versions)?;
     let best = cheapest(alloc, wanted.as_slice(), versions, later, set.parts())?;
     let source = source_of(wanted.len() as u128, best);
-    let kept = places_within(alloc, wanted.as_slice(), pieces_of(set.parts(), source))?;
-    Ok(Target::new(Items::from_slice(alloc, versions)?, source, kept))
+    let pieces = pieces_of(set.parts(), source);
+    let kept = places_within(alloc, wanted.as_slice(), pieces)?;
+    let count = records_at(alloc, pieces, kept.as_slice())?;
+    Ok(Target::new(Items::from_slice(alloc, versions)?, source, kept, count))
 }
 
 /// Adds the targets of these lists of versions.

@@ -2,7 +2,7 @@
 
 ghost use Rattle.std.specs.Prelude.{◌≡◌, ◌+◌, ◌++◌, ◌≤◌, ◌<◌, [], ◌∷◌, length, map, IfOk, OnOk};
 ghost use Rattle.ov_model.specs.Lists.{joined};
-ghost use Rattle.ov_model.specs.Records.{origin_in, of_version, origin_by, record_of, records_of, recs, fresh_in, order, order_of, rid_in, weight, is_among, lacking, weights};
+ghost use Rattle.ov_model.specs.Records.{origin_in, of_version, origin_by, record_of, records_of, recs, fresh_in, order, order_of, rid_in, weight, is_among, in_order, ordered_records, lacking, weights};
 
 use crate::rec::{Rec, Version};
 use ov_value::Row;
@@ -168,6 +168,44 @@ pub fn order_of(alloc: Global, versions: &[Version]) -> Result<Items<Rec>, Alloc
     let each = recs(alloc, versions, Items::new(alloc))?;
     let mut found = Items::new(alloc);
     add_order(alloc, each.as_slice(), 1, &mut found)?;
+    Ok(found)
+}
+
+/// Adds those of all that are among these, in the order of all.
+fn add_in_order(
+    alloc: Global,
+    all: &[Rec],
+    recs: &[Rec],
+    found: &mut Items<Rec>,
+) -> Result<(), AllocError>
+    ensures { OnOk result (found.new ≡ found.old ++ in_order all.now recs.now) }
+{
+    match all {
+        [] => Ok(()),
+        [first, rest @ ..] if is_among(recs, first) => {
+            found.push(first.copy(alloc)?)?;
+            add_in_order(alloc, rest, recs, found)
+        }
+        [_, rest @ ..] => add_in_order(alloc, rest, recs, found),
+    }
+}
+
+/// The records of the version that comes behind these, in the order of their rids.
+pub fn ordered_records(
+    alloc: Global,
+    versions: &[Version],
+    version: &Version,
+) -> Result<Items<Rec>, AllocError>
+    requires { length versions.now < 65535 }
+    ensures { IfOk result (λ found. found ≡ ordered_records versions.now version.now) }
+{
+    let mut done = recs(alloc, versions, Items::new(alloc))?;
+    let own = records_of(alloc, version, done.as_slice())?;
+    done.push(copies_of(alloc, own.as_slice())?)?;
+    let mut all = Items::new(alloc);
+    add_order(alloc, done.as_slice(), 1, &mut all)?;
+    let mut found = Items::new(alloc);
+    add_in_order(alloc, all.as_slice(), own.as_slice(), &mut found)?;
     Ok(found)
 }
 

@@ -6,39 +6,11 @@ ghost use Rattle.ov_model.specs.Plans.{pieces_of, kept_pieces, missing_of, curre
 ghost use Rattle.ov_model.specs.World.{is_one, targets_from};
 
 use crate::dataset::{Dataset, Part, Pieces, Plan, Target};
-use crate::plans::{is_one, pieces_of, records_in};
+use crate::plans::{is_one, pieces_at, pieces_of, records_in};
 use crate::rec::Rec;
-use crate::records::{add_copies_of_pieces, add_pieces, copies_of, copies_of_pieces, lacking};
+use crate::records::{add_copies_of_pieces, add_pieces, copies_of_pieces, lacking};
 use sqlite_items::Items;
 use std::alloc::{AllocError, Global};
-
-/// Adds copies of the pieces at these places; of none where there is no piece.
-fn add_kept(
-    alloc: Global,
-    pieces: &[Items<Rec>],
-    places: &[u64],
-    found: &mut Items<Items<Rec>>,
-) -> Result<(), AllocError>
-    ensures { OnOk result (found.new ≡ found.old ++ map (λ place. slice_index_or pieces.now place []) places.now) }
-{
-    match places {
-        [] => Ok(()),
-        [place, rest @ ..] => {
-            found.push(copies_of(alloc, piece_at(pieces, *place))?)?;
-            add_kept(alloc, pieces, rest, found)
-        }
-    }
-}
-
-/// The piece at a place; an empty one where there is none.
-fn piece_at(pieces: &[Items<Rec>], place: u64) -> &[Rec]
-    ensures { result.now ≡ slice_index_or pieces.now place [] }
-{
-    match pieces.get(place as usize) {
-        None => &[],
-        Some(piece) => piece.as_slice(),
-    }
-}
 
 /// The pieces that a target keeps.
 pub fn kept_pieces(
@@ -48,10 +20,11 @@ pub fn kept_pieces(
 ) -> Result<Items<Items<Rec>>, AllocError>
     ensures { IfOk result (λ pieces. pieces ≡ kept_pieces set.now target.now) }
 {
-    let mut found = Items::new(alloc);
-    let pieces = pieces_of(set.parts(), target.source());
-    add_kept(alloc, pieces, target.kept(), &mut found)?;
-    Ok(found)
+    pieces_at(
+        alloc,
+        pieces_of(set.parts(), target.source()),
+        target.kept(),
+    )
 }
 
 /// The records of the pieces that a target keeps, and of those that were copied for it.
@@ -90,7 +63,7 @@ pub fn current(alloc: Global, plan: &Plan) -> Result<Target, AllocError>
     ensures { IfOk result (λ target. target ≡ current plan.now) }
 {
     match plan.targets().get(plan.at() as usize) {
-        None => Ok(Target::new(Items::new(alloc), 0, Items::new(alloc))),
+        None => Ok(Target::new(Items::new(alloc), 0, Items::new(alloc), 0)),
         Some(target) => target.copy(alloc),
     }
 }

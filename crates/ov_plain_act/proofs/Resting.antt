@@ -3,7 +3,8 @@ use Rattle.std.proofs.Common.{◌≡◌, ℕ, zero, suc, List, [], ◌∷◌, �
 use Rattle.std.specs.Prelude.{filter, Option, Some, None}
 use Rattle.std.proofs.lemmas.Bool.{cases_Bool}
 use Rattle.std.proofs.lemmas.List.{append-nil}
-use Rattle.ov_model.specs.Act.{Session, Deed, deed}
+use Rattle.ov_model.specs.Act.{Session, Deed}
+use Rattle.ov_model.specs.Deed.{deed}
 use Rattle.ov_model.specs.Course.{Item, Makes, Says, Served, after, steps, and_steps, attempts, line_served}
 use Rattle.ov_model.specs.Line.{Asks}
 use Rattle.ov_model.specs.Moves.{Move, moved, change, committed, numbered, new_set}

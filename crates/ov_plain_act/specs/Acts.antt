@@ -40,15 +40,30 @@ abbrev pub came : KnownSession → (List Row → KnownDeed) → Result (List Row
 came s next (Err refusal) = refuses s refusal
 came s next (Ok rows) = next rows
 
--- Whether a command's act is computed here: it is none of plans, and it adds no columns.
+-- Whether a command's act is computed here.
 abbrev pub is_plain : Command → Bool
+is_plain (asks.Init cvd schema file) = true
+is_plain (asks.Checkout cvd vids file None) = true
+is_plain (asks.Checkout cvd vids file (Some table)) = false
+is_plain (asks.Commit cvd vids file message None) = true
 is_plain (asks.Commit cvd vids file message (Some added)) = false
+is_plain (asks.CommitStaged user table message) = false
+is_plain (asks.Run text) = false
 is_plain (asks.Optimize cvd p q) = false
+is_plain (asks.OptimizeWithin cvd budget) = false
+is_plain (asks.Advise cvd budget a b) = false
 is_plain (asks.Migrate count) = false
 is_plain (asks.Layout cvd) = false
+is_plain (asks.Log cvd) = true
+is_plain asks.Ls = true
+is_plain (asks.DropCvd cvd) = true
 is_plain asks.Checkpoint = false
 is_plain (asks.Generate cvd seed rows versions) = false
-is_plain _ = true
+is_plain (asks.CreateUser name) = false
+is_plain (asks.Config name) = false
+is_plain asks.Whoami = false
+is_plain (asks.Unstage user table) = false
+is_plain asks.Tables = false
 
 -- the lines of a log, by the records of the versions before
 abbrev pub lines_after : List (List Rec) → List Version → List LogLine

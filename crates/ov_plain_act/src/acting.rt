@@ -1,7 +1,8 @@
 //! What a command does: a dataset more, a version more, a dataset less, and whichever command it is.
 
 ghost use Rattle.std.specs.Prelude.{◌≡◌, ◌+◌, ◌++◌, ◌≤◌, ◌<◌, ◌^◌, [], length, Some, None, is_some, IfOk, IfSome, OnOk};
-ghost use Rattle.ov_model.specs.Act.{deed, does, init_refusal, init_deed, commit_refusal, commit_rows, commit_deed, drop_deed, fresh_of, refuses};
+ghost use Rattle.ov_model.specs.Act.{does, init_refusal, init_deed, commit_refusal, commit_rows, commit_deed, drop_deed, fresh_of, refuses};
+ghost use Rattle.ov_model.specs.Deed.{deed, permitted};
 ghost use Rattle.ov_model.specs.Moves.{version_of, Init};
 ghost use Rattle.ov_model.specs.World.{set_named};
 ghost use Rattle.ov_model.specs.declared.refusal.Refusal.TheVariants as no;
@@ -18,6 +19,7 @@ use crate::world::{World, first_named};
 use ov_answers::{commit_refusal, records_refusal};
 use ov_model::{Command, Refusal, Reply};
 use ov_plain::{Dataset, Version, records_of, recs};
+use ov_users::permit;
 use ov_value::{Row, Schema, Txt};
 use sqlite_items::Items;
 use std::alloc::{AllocError, Global};
@@ -270,8 +272,8 @@ fn drop_deed(
     }
 }
 
-/// What a command does over a World and a session. None where it is one of plans, or adds columns.
-pub fn plain_deed(
+/// What a command that no rule denies does over a World and a session. None where it isn't computed here.
+fn permitted_deed(
     alloc: Global,
     world: &World,
     session: &Session,
@@ -279,7 +281,7 @@ pub fn plain_deed(
 ) -> Result<Option<Deed>, AllocError>
     requires world { AreSmall world.now.sets }
     requires command { IsSmallCommand command.now }
-    ensures is { IfOk result (λ found. IfSome found (λ d. deed_of d ≡ deed world.now (session_of session.now) command.now)) }
+    ensures is { IfOk result (λ found. IfSome found (λ d. deed_of d ≡ permitted world.now (session_of session.now) command.now)) }
     ensures plain { IfOk result (λ found. is_some found ≡ is_plain command.now) }
     ensures small { IfOk result (λ found. IfSome found (λ d. AreSmallMoves d.moves)) }
 {
@@ -300,15 +302,50 @@ pub fn plain_deed(
             message,
             added: None,
         } => Ok(Some(commit_deed(alloc, world, session, cvd, vids.as_slice(), message, file)?)),
-        Command::Commit { added: Some(_), .. } => Ok(None),
         Command::Log { cvd } => Ok(Some(log_deed(alloc, world, session, cvd)?)),
         Command::Ls => Ok(Some(ls_deed(alloc, world, session)?)),
         Command::DropCvd { cvd } => Ok(Some(drop_deed(alloc, world, session, cvd)?)),
+        Command::Checkout { table: Some(_), .. } => Ok(None),
+        Command::Commit { added: Some(_), .. } => Ok(None),
+        Command::CommitStaged { .. } => Ok(None),
+        Command::Run { .. } => Ok(None),
         Command::Optimize { .. } => Ok(None),
+        Command::OptimizeWithin { .. } => Ok(None),
+        Command::Advise { .. } => Ok(None),
         Command::Migrate { .. } => Ok(None),
         Command::Layout { .. } => Ok(None),
         Command::Checkpoint => Ok(None),
         Command::Generate { .. } => Ok(None),
-        _ => Ok(Some(refuses(alloc, session, Refusal::UnknownCommand)?)),
+        Command::CreateUser { .. } => Ok(None),
+        Command::Config { .. } => Ok(None),
+        Command::Whoami => Ok(None),
+        Command::Unstage { .. } => Ok(None),
+        Command::Tables => Ok(None),
+    }
+}
+
+/// What a command does over a World and a session: it is denied by the least rule that denies it, or does what it means by
+/// itself. None where it isn't computed here.
+pub fn plain_deed(
+    alloc: Global,
+    world: &World,
+    session: &Session,
+    command: &Command,
+) -> Result<Option<Deed>, AllocError>
+    requires world { AreSmall world.now.sets }
+    requires command { IsSmallCommand command.now }
+    ensures is { IfOk result (λ found. IfSome found (λ d. deed_of d ≡ deed world.now (session_of session.now) command.now)) }
+    ensures plain { IfOk result (λ found. is_some found ≡ is_plain command.now) }
+    ensures small { IfOk result (λ found. IfSome found (λ d. AreSmallMoves d.moves)) }
+{
+    match permitted_deed(alloc, world, session, command)? {
+        None => Ok(None),
+        Some(deed) => match permit(session.user.as_str(), command) {
+            Ok(()) => Ok(Some(deed)),
+            Err(denied) => {
+                let rule = u64::from(denied.rule);
+                Ok(Some(refuses(alloc, session, Refusal::Denied { rule })?))
+            }
+        },
     }
 }

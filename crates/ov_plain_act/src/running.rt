@@ -96,7 +96,7 @@ fn attempts(alloc: Global, deed: Deed, world: World) -> Result<Run, AllocError>
     }
 }
 
-/// What comes of a command; None where it is one of plans, or adds columns.
+/// What comes of a command; None where it isn't computed here.
 pub fn plain_served(
     alloc: Global,
     world: World,

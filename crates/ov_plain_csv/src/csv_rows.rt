@@ -12,7 +12,7 @@ ghost use Rattle.ov_plain_csv.specs.Reading.{or_refusal, value_refusal, text_ref
 use crate::csv_records::records_in;
 use crate::fields::field_value;
 use ov_model::Refusal;
-use ov_value::{Column, Row, Schema, Txt, Value, row_len};
+use ov_value::{Column, LONGEST_ROW, Row, Schema, Txt, Value, row_len};
 use sqlite_items::Items;
 use std::alloc::{AllocError, Global};
 use std::str;
@@ -162,7 +162,7 @@ fn null_key(
 fn long_row(nth: u64, row: &Row) -> Option<Refusal>
     ensures { result ≡ long_row nth row.now }
 {
-    if row_len(row) > 65_536 {
+    if row_len(row) > LONGEST_ROW {
         Some(Refusal::LongRow { row: nth })
     } else {
         None

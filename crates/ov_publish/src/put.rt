@@ -12,7 +12,7 @@ ghost use Rattle.ov_publish.specs.Steps.{with_runs, ranges_of};
 use crate::run::Run;
 use ov_host::{Area, Failed, Host};
 
-const PAGE: usize = 4096;
+const PAGE: usize = ov_host::PAGE_BYTES as usize;
 
 // Writes zeros, at most a page of them.
 fn write_zeros<H: Host>(host: &mut H, at: u64, count: usize) -> Result<(), Failed>

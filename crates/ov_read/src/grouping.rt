@@ -84,17 +84,9 @@ pub(crate) fn copies_at(
 {
     let mut found = Vec::with_capacity(alloc, group.len())?;
     for place in group {
-        found.push(copy_of(alloc, &lists[*place])?)?;
+        found.push(lists[*place].copy(alloc)?)?;
     }
     Ok(found)
-}
-
-// The same rids as a set of its own.
-fn copy_of(alloc: Global, rids: &Members) -> Result<Members, AllocError>
-    ensures { IfOk result (λ copy. copy ≡ rids.now) }
-{
-    let _count = rids.len();
-    rids.union(alloc, rids)
 }
 
 /// Where the lists of these versions are.

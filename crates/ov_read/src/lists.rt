@@ -116,7 +116,7 @@ fn tested_list<H: Host>(
         (λ e. RefusesTested e (page_bytes (H.state host.old)) list rows last) }
 {
     let rids = list_of(alloc, host, list)?;
-    if is_borne_out(alloc, &rids, rows, last)? {
+    if is_borne_out(&rids, rows, last) {
         Ok(rids)
     } else {
         Err(FetchErr::Damaged { page: list.page })

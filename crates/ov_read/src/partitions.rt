@@ -22,7 +22,7 @@ pub fn rids_together(
 {
     match together(alloc, sets)? {
         Some(all) => {
-            if is_borne_out(alloc, &all, count, last)? {
+            if is_borne_out(&all, count, last) {
                 Ok(Some(all))
             } else {
                 Ok(None)
@@ -38,8 +38,8 @@ fn together(alloc: Global, sets: &[Members]) -> Result<Option<Members>, AllocErr
     ensures { IfOk result (λ found. MatchOption found ((all : List ℕ) → AreTogether sets.now all → ⊥) (AreTogether sets.now)) }
 {
     match sets {
-        [] => Members::of(alloc, &[]),
-        [one] => Ok(Some(one.union(alloc, one)?)),
+        [] => Ok(Some(Members::empty(alloc))),
+        [one] => Ok(Some(one.copy(alloc)?)),
         _ => {
             let (left, right) = sets.split_at(sets.len() / 2);
             match together(alloc, left)? {

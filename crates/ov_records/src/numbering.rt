@@ -7,7 +7,7 @@ ghost use Rattle.ov_records.specs.Found.{numbered, new_among};
 use std::alloc::{AllocError, Global};
 
 /// The greatest rid.
-const GREATEST: u64 = 0x8000_0000;
+const GREATEST: u64 = ov_model::MOST_RECORDS;
 
 /// How many rows no parent gave a rid.
 pub(crate) fn count_new(found: &[Option<u32>]) -> u32

@@ -17,7 +17,7 @@ use ov_value::{Row, Schema};
 use std::alloc::Global;
 
 // The most rows of a version.
-const MOST_ROWS: usize = 1_000_000;
+const MOST_ROWS: usize = ov_model::MOST_ROWS as usize;
 
 /// The rows in key order, for a store of this format; `adds` tells whether columns are added with them.
 ///

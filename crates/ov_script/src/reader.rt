@@ -7,6 +7,7 @@ ghost use Rattle.std.specs.Bool.{OnTrue};
 ghost use Rattle.ov_script.specs.declared.reader.ReadErr.TheVariants as reading;
 
 use ov_host::{Failed, Source};
+use ov_model::LINE_BYTES;
 use std::alloc::{AllocError, Global};
 use std::marker::Model;
 
@@ -17,7 +18,7 @@ const PIECE: usize = 65_536;
 const SCRIPT_BYTES: u64 = 1 << 32;
 
 // The bytes of a line that are kept: one more than a line may have, so that a longer one is known.
-pub const KEPT: usize = 65_537;
+pub const KEPT: usize = LINE_BYTES + 1;
 
 // Why a line wasn't read.
 #[derive(Clone, Copy, Debug, PartialEq, Eq)]

@@ -12,10 +12,10 @@ use std::alloc::{AllocError, Global};
 const MARK: u32 = 0x8000_0000;
 
 // The greatest record id.
-const GREATEST: u32 = 0x8000_0000;
+const GREATEST: u32 = ov_member::LAST_RID;
 
 // The most bytes of a row.
-const LONGEST: u32 = 65_536;
+const LONGEST: u32 = ov_value::LONGEST_ROW as u32;
 
 /// The record at the front of the bytes, whose rid is above the last one, and how many bytes it takes.
 pub(crate) fn record_at(

@@ -13,7 +13,8 @@ use Rattle.ov_new_version.specs.Joined.{RefusesJoined, joined_of}
 use Rattle.ov_value.specs.declared.column.Column.{Column}
 use Rattle.ov_core.specs.AtWorld.{IsAtWorld}
 use Rattle.ov_core.specs.Held.{Held}
-use Rattle.ov_model.specs.Act.{Session, checkout_deed, commit_deed, deed}
+use Rattle.ov_model.specs.Act.{Session, checkout_deed, commit_deed}
+use Rattle.ov_model.specs.Deed.{permitted}
 use Rattle.ov_model.specs.Book.{Row}
 use Rattle.ov_read.specs.Damages.{IsDamage as IsDamageRead}
 use Rattle.ov_model.specs.World.{Dataset, World, set_named}
@@ -263,14 +264,14 @@ module _ (w : World) (held : Held) (s : State) (at : IsAtWorld w held s) (name :
 module _ (w : World) (s t : Session) (cvd : List ℕ) (result : Result Reply EndErr) (before now : Held) (old new : State) where
   pub commit_asked : (vids given file message : List ℕ) (added : Option (List Column)) → given ≡ vids → added ≡ None
       → Acts (commit_deed w s cvd given message [] file (set_named w cvd)) s t w result before now old new
-      → Acts (deed w s (asks.Commit cvd vids file message added)) s t w result before now old new
+      → Acts (permitted w s (asks.Commit cvd vids file message added)) s t w result before now old new
   commit_asked vids given file message added same none acts =
-      subst (λ (a : Option (List Column)). Acts (deed w s (asks.Commit cvd vids file message a)) s t w result before now old new) (sym none)
+      subst (λ (a : Option (List Column)). Acts (permitted w s (asks.Commit cvd vids file message a)) s t w result before now old new) (sym none)
       (subst (λ (v : List ℕ). Acts (commit_deed w s cvd v message [] file (set_named w cvd)) s t w result before now old new) same acts)
 
   pub checkout_asked : (vids given : List ℕ) (file table : Option (List ℕ)) → given ≡ vids → table ≡ None
       → Acts (checkout_deed s given file cvd (set_named w cvd)) s t w result before now old new
-      → Acts (deed w s (asks.Checkout cvd vids file table)) s t w result before now old new
+      → Acts (permitted w s (asks.Checkout cvd vids file table)) s t w result before now old new
   checkout_asked vids given file table same none acts =
-      subst (λ (x : Option (List ℕ)). Acts (deed w s (asks.Checkout cvd vids file x)) s t w result before now old new) (sym none)
+      subst (λ (x : Option (List ℕ)). Acts (permitted w s (asks.Checkout cvd vids file x)) s t w result before now old new) (sym none)
       (subst (λ (v : List ℕ). Acts (checkout_deed s v file cvd (set_named w cvd)) s t w result before now old new) same acts)

@@ -15,6 +15,9 @@ use Rattle.ov_model.specs.declared.refusal.Refusal.TheVariants as no
 use Rattle.ov_model.specs.declared.reply.Reply.{Reply}
 use Rattle.ov_model.specs.declared.reply.Reply.TheVariants as says
 use Rattle.ov_session.proofs.Saying.{Says}
+use Rattle.ov_session.specs.Asking.{refusal_to}
+use Rattle.ov_session.specs.declared.lines.Unasked.{Unasked}
+use Rattle.ov_session.specs.declared.lines.Unasked.TheVariants as unasked
 use Rattle.ov_session.specs.Commands.{IfNoFile}
 use Rattle.ov_session.specs.Errors.{reply_of}
 use Rattle.ov_session.specs.Replying.{IsReplied, IsReplyTo}
@@ -71,6 +74,11 @@ line_seen line.NoKey name is = cc
 line_seen (line.UnknownKey bad) name is = cc
 line_seen (line.RepeatedKey bad) name is = cc
 line_seen line.Memory name is = cc
+
+-- nor of a rule
+pub asked_seen : (off : Unasked) (name : List ℕ) → refusal_to off ≡ no.NoFile name → ⊥
+asked_seen (unasked.Line e) name is = line_seen e name is
+asked_seen (unasked.Denied denied) name is = cc
 
 -- what speaks of none needs no miss
 pub seen_missed : (P : Type 0) (result : Result Reply EndErr) → IfOk result (IfNoFile ⊥) → IfOk result (IfNoFile P)

@@ -1,4 +1,5 @@
 pub mod Errors
+pub mod Asking
 pub mod Commands
 pub mod Bounds
 pub mod Standing

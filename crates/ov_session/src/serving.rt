@@ -3,9 +3,8 @@ ghost use Rattle.std.specs.Prelude.{◌≡◌, ◌≢◌, ◌≤◌, ◌+◌, �
 ghost use Rattle.ov_host.specs.Host.{Calls, Rose, State};
 ghost use Rattle.ov_host.specs.Tape.{Prints};
 ghost use Rattle.ov_cmd.specs.Asked.{IsAsked};
-ghost use Rattle.ov_model.specs.Act.{deed};
-ghost use Rattle.ov_model.specs.Forms.{built_forms};
-ghost use Rattle.ov_model.specs.Line.{Asks, line_of};
+ghost use Rattle.ov_model.specs.Deed.{permitted};
+ghost use Rattle.ov_model.specs.Line.{Asks};
 ghost use Rattle.ov_model.specs.declared.command.Command.{Command as CommandValue};
 ghost use Rattle.ov_model.specs.Replies.{reply_text};
 ghost use Rattle.ov_model.specs.World.{World};
@@ -15,6 +14,7 @@ ghost use Rattle.ov_core.specs.Held.{IsByJournal};
 ghost use Rattle.law_runs.specs.Serving.{Serves, is_error as is_error_of, session_of};
 ghost use Rattle.ov_store.specs.Kept.{Kept, MayCall};
 ghost use Rattle.ov_store.specs.declared.errors.StoreErr.{StoreErr};
+ghost use Rattle.ov_session.specs.Asking.{line_asked};
 ghost use Rattle.ov_session.specs.Bounds.{IsReading, IsReadingCommand, command_fetch, command_off, line_off, may_fetch};
 ghost use Rattle.ov_session.specs.Replying.{IsReplied};
 ghost use Rattle.ov_session.specs.Standing.{IsAtSilently, IsAtSome, IsIdle};
@@ -22,9 +22,8 @@ ghost use Rattle.ov_session.specs.Commands.{Acts, Attended, Goes, IfNoFile, IsDa
 
 use crate::changing::{commit, drop_cvd, init};
 use crate::errors::EndErr;
-use crate::lines::refusal;
+use crate::lines::{asked, refusal};
 use crate::reading::{checkout, log, ls};
-use ov_cmd::read_built_line;
 use ov_host::{Host, Stage};
 use ov_model::{Command, Reply};
 use ov_reply::{is_error, reply as reply_text};
@@ -43,7 +42,7 @@ pub enum Served {
     Refused,
 }
 
-// Does what a command asks. Its reply isn't printed yet.
+// Does what a command asks that no rule denies. Its reply isn't printed yet.
 fn answer<H: Host, T: Stage>(
     alloc: Global,
     store: &mut Store,
@@ -71,7 +70,7 @@ fn answer<H: Host, T: Stage>(
     ensures idle { IfErr result (λ why. IsIdle why store.old store.new (T.staged stage.old) (T.staged stage.new) (H.state host.old) (H.state host.new)) }
     ensures undamaged { (w : World) → IsAtWorld w store.old.held (H.state host.old) → IfErr result IsNoDamage }
     ensures acts { (w : World) (user : List ℕ) → (T.staged stage.old).tells ≡ true → IsAtWorld w store.old.held (H.state host.old)
-        → Acts (deed w (session_of (T.staged stage.old).files user) command) (session_of (T.staged stage.old).files user)
+        → Acts (permitted w (session_of (T.staged stage.old).files user) command) (session_of (T.staged stage.old).files user)
         (session_of (T.staged stage.new).files user) w result store.old.held store.new.held (H.state host.old) (H.state host.new) }
 {
     match command {
@@ -158,16 +157,16 @@ pub fn serve<H: Host, T: Stage>(
     requires user { IsTrue (is_name user.old) }
     ensures goes { Goes (H.state host.old) (H.state host.new) }
     ensures attended { Attended (T.staged stage.old) (T.staged stage.new) }
-    ensures still { IsReading (line_of built_forms line.now) → store.new.held ≡ store.old.held }
+    ensures still { IsReading (line_asked user.old line.now) → store.new.held ≡ store.old.held }
     ensures fetched { (H.state host.new).fetched
-        ≤ (H.state host.old).fetched + may_fetch store.old.held.numbers (line_of built_forms line.now) }
-    ensures unread { (off : StoreErr) → line_off store.old.held.numbers (line_of built_forms line.now) ≡ Some off
+        ≤ (H.state host.old).fetched + may_fetch store.old.held.numbers (line_asked user.old line.now) }
+    ensures unread { (off : StoreErr) → line_off store.old.held.numbers (line_asked user.old line.now) ≡ Some off
         → (H.state host.new).fetched ≡ (H.state host.old).fetched }
     ensures cause { IsErrOf result EndErr.Host → Rose (H.state host.old).faults (H.state host.new).faults }
     ensures stage { IsErrOf result EndErr.Stage → Rose (T.staged stage.old).faults (T.staged stage.new).faults }
-    ensures damaged { IfErr result (IsDamageOf (λ page. (command : CommandValue) × (line_of built_forms line.now ≡ Asks command)
+    ensures damaged { IfErr result (IsDamageOf (λ page. (command : CommandValue) × (line_asked user.old line.now ≡ Asks command)
         × IsDamaged command (T.staged stage.old) store.old.held (H.state host.new) page)) }
-    ensures whole { (command : CommandValue) (page : ℕ) → line_of built_forms line.now ≡ Asks command → (H.state host.old).tells ≡ true
+    ensures whole { (command : CommandValue) (page : ℕ) → line_asked user.old line.now ≡ Asks command → (H.state host.old).tells ≡ true
         → OnOk result (MeetsDamage command (T.staged stage.old) store.old.held (H.state host.old) page → ⊥) }
     ensures idle { IfErr result (λ why. IsIdle why store.old store.new (T.staged stage.old) (T.staged stage.new) (H.state host.old) (H.state host.new)) }
     ensures undamaged { (w : World) → IsAtWorld w store.old.held (H.state host.old) → IfErr result IsNoDamage }
@@ -175,8 +174,9 @@ pub fn serve<H: Host, T: Stage>(
     ensures by_journal { IsByJournal store.old.held (H.state host.old) → (IsErrOf result EndErr.Host → ⊥) → IsByJournal store.new.held (H.state host.new) }
     ensures at { (w : World) → IsAtWorld w store.old.held (H.state host.old) → OnOk result (IsAtSome store.new.held (H.state host.new)) }
     ensures user { user.new ≡ user.old }
-    ensures comment { IfOk result (λ served. is_comment_of served ≡ is_comment_in (line_of built_forms line.now)) }
-    ensures replied { IfOk result (λ served. IsReplied (line_of built_forms line.now) served store.old.held
+    ensures named { IsTrue (is_name user.new) }
+    ensures comment { IfOk result (λ served. is_comment_of served ≡ is_comment_in (line_asked user.old line.now)) }
+    ensures replied { IfOk result (λ served. IsReplied (line_asked user.old line.now) served store.old.held
         (T.staged stage.old) (T.staged stage.new) (H.state host.old) (H.state host.new)) }
     ensures serves { (w : World) → (T.staged stage.old).tells ≡ true → IsAtWorld w store.old.held (H.state host.old)
         → Serves steps w (session_of (T.staged stage.old).files user.old) (session_of (T.staged stage.new).files user.new) line.now
@@ -184,8 +184,7 @@ pub fn serve<H: Host, T: Stage>(
 {
     // No plan can run yet, so no step is taken, and the user stays.
     let _ = steps;
-    let _ = user.as_str();
-    match read_built_line(alloc, line) {
+    match asked(alloc, line, user) {
         Ok(None) => Ok(Served::Comment),
         Ok(Some(command)) => {
             let reply = answer(alloc, store, host, stage, command)?;

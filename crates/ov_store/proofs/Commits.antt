@@ -16,7 +16,7 @@ use Rattle.ov_model.specs.Placed.{AreThere}
 use Rattle.ov_model.specs.Records.{fresh_in, of_version, order_of, records_of, recs}
 use Rattle.ov_model.specs.World.{Dataset, World, first_set}
 use Rattle.ov_catalog.specs.Raw.{event_in}
-use Rattle.ov_catalog.specs.Reached.{AreParents, AreRows, CommitFits, Fits, IfThere}
+use Rattle.ov_catalog.specs.Reached.{AreParents, ArePlain, AreRows, CommitFits, Fits, IfThere}
 use Rattle.ov_catalog.specs.Stands.{asked_event}
 use Rattle.ov_model.proofs.Growing.{order_of_more, length_recs}
 use Rattle.ov_records.specs.Records.{lists_of, pairs_of}
@@ -46,11 +46,13 @@ use Rattle.ov_core.specs.Held.{Held}
 use Rattle.ov_core.specs.Rooms.{pages_for}
 use Rattle.ov_store.specs.declared.errors.StoreErr.{StoreErr}
 use Rattle.ov_store.specs.declared.errors.StoreErr.TheVariants as why
-use Rattle.ov_store.specs.Committing.{AreRead, HasTooMany, IfSet, IsDamagedAt, IsSparedBy, IsSparedYet, IsTooLongFor, IsUncommitted, IsUnready, Set, Wish, asked_of, commit_move, commit_off, fresh_in_world, to_off}
+use Rattle.law_room.proofs.Room.{runs_of}
+use Rattle.ov_store.specs.Committing.{AreRead, HasTooMany, IfSet, IsDamagedAt, IsSparedBy, IsSparedYet, IsTooLongFor, IsUncommitted, IsUnready, Set, Wish, asked_of, commit_move, commit_off, fresh_in_world, parents_off, to_off}
 use Rattle.ov_store.specs.Errors.{of_commit, of_fetch, of_rows}
 use Rattle.ov_store.specs.Refusals.{off_if, vids_off}
 use Rattle.ov_store.specs.Scanning.{IsUndamaged, set_in}
 use Rattle.ov_store.specs.Unready.{IsRefused}
+use Rattle.ov_store.proofs.Fitting.{plain_rows}
 use Rattle.ov_store.proofs.Unreadying.{list_short}
 use Rattle.ov_store.proofs.Versions.{vids_many}
 
@@ -187,8 +189,25 @@ pub fits_few : (w : World) (area : List ℕ) (s : Numbers) (d : Dataset) (of_wor
 fits_few w area s d of_world wish fits =
     let v : Version = version_of wish.vids wish.message (in_key_order d.cvd.schema wish.rows)
     in let among : first_set (numbered d.cvd.number) w.sets ≡ Some d = ap (λ n. first_set (numbered n) w.sets) (sym (numbers w area s d of_world).number) ∙ of_world.among
-    in let there : CommitFits d v = subst (λ o. IfThere (λ x. CommitFits x v) o) among fits
+    in let there : CommitFits w d v = subst (λ o. IfThere (λ x. CommitFits w x v) o) among fits
     in omega (arith, there.records, records_more d v)
+
+of_rows_none : (o : Option RowsErr) → option_map of_rows o ≡ None → o ≡ None
+of_rows_none None e = refl
+of_rows_none (Some off) e = absurd cc
+
+rest_none : (first rest : Option StoreErr) → option_or first rest ≡ None → rest ≡ None
+rest_none None rest e = e
+rest_none (Some off) rest e = absurd cc
+
+-- the rows of a commit that isn't refused have no NULL in a store of format 1
+pub plain_commit : (w : World) (held : Held) (name : List ℕ) (s : Numbers) (wish : Wish) → w.format ≡ held.journal.format → set_in held.numbers name ≡ Some s
+    → commit_off held name wish.vids wish.rows ≡ None → ArePlain w (in_key_order s.schema wish.rows)
+plain_commit w held name s wish same found off =
+    let there : to_off held.journal.format (Some s) wish.vids wish.rows ≡ None = subst (λ o. to_off held.journal.format o wish.vids wish.rows ≡ None) found off
+    in plain_rows w held.journal.format s.schema wish.rows same
+    (of_rows_none (rows_off held.journal.format s.schema false wish.rows)
+    (rest_none (parents_off s wish.vids) (option_map of_rows (rows_off held.journal.format s.schema false wish.rows)) there))
 
 module _ (w : World) (area : List ℕ) (s : Numbers) (d : Dataset) (of_world : IsSetOf w d area s) (wish : Wish) (made : List Row) (parents : List (List Record))
     (sorted : made ≡ in_key_order s.schema wish.rows) where
@@ -205,10 +224,10 @@ module _ (w : World) (area : List ℕ) (s : Numbers) (d : Dataset) (of_world : I
   move_is = λ i. Commit (numbered_as.number i) wish.vids wish.message [] (made_is i)
 
   pub commit_fits : records_with asked d ≤ 2 ^ 31 → AreParents (length s.versions) wish.vids → IsUtf8 wish.message → length wish.message ≤ 1024 → length s.versions < 65535
-      → AreRows s.schema made → Fits (commit_move d wish.vids wish.message wish.rows) w
-  commit_fits room are text short few rows =
+      → AreRows s.schema made → ArePlain w made → Fits (commit_move d wish.vids wish.message wish.rows) w
+  commit_fits room are text short few rows plain =
       subst (λ m. Fits m w) move_is
-      (subst (IfThere (λ x. CommitFits x (version_of wish.vids wish.message made))) (sym of_world.among)
+      (subst (IfThere (λ x. CommitFits w x (version_of wish.vids wish.message made))) (sym of_world.among)
       (record {
         parents = subst (λ n. AreParents n wish.vids) numbered_as.versions are;
         text = text;
@@ -216,10 +235,11 @@ module _ (w : World) (area : List ℕ) (s : Numbers) (d : Dataset) (of_world : I
         few = subst (λ (n : ℕ). n < 65535) numbered_as.versions few;
         rows = subst (λ schema. AreRows schema made) numbered_as.schema rows;
         records = room;
+        plain = plain;
       }))
 
   module _ (e : raw.Event) (fresh : ℕ) (list segment : List ℕ) (answered : IsAnswered asked w d e fresh list segment) where
-    pub commit_says : content (event_in e) list segment ≡ asked_event (commit_move d wish.vids wish.message wish.rows) w
+    pub commit_says : Some (content (event_in e) list segment) ≡ asked_event (commit_move d wish.vids wish.message wish.rows) w
     commit_says = answered.says ∙ ap (λ m. asked_event m w) move_is
 
     pub commit_fresh : fresh ≡ fresh_in_world d wish
@@ -237,7 +257,7 @@ module _ (w : World) (area : List ℕ) (s : Numbers) (d : Dataset) (of_world : I
   spared_by fits (commit.TooLong list_pages segment_pages) is = (
     fits is.room,
     record {
-      written = record { event = is.event; list = is.list; segment = is.segment; says = is.says ∙ ap (λ m. asked_event m w) move_is; sized = is.sized; runs = inl is.runs };
+      written = record { event = is.event; list = is.list; segment = is.segment; says = is.says ∙ ap (λ m. asked_event m w) move_is; sized = is.sized; runs = runs_of is.event is.list is.segment is.runs };
       long = is.long;
     },
   )

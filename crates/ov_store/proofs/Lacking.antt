@@ -4,13 +4,15 @@ use Rattle.std.specs.Prelude.{Option, Some, None}
 use Rattle.ov_host.specs.Host.{State}
 use Rattle.ov_host.specs.declared.area.Extent.{Extent}
 use Rattle.ov_event.specs.Spelling.{spelling}
-use Rattle.ov_model.specs.Moves.{Move, Drop}
+use Rattle.ov_model.specs.Moves.{Move, Drop, moved}
 use Rattle.ov_model.specs.World.{Dataset, World, set_named}
 use Rattle.ov_model.specs.declared.refusal.Refusal.{Refusal}
 use Rattle.ov_model.specs.declared.refusal.Refusal.TheVariants as no
 use Rattle.ov_catalog.specs.Extents.{live}
 use Rattle.ov_core.specs.declared.brought.Brought.{Brought}
-use Rattle.ov_core.specs.AtWorld.{IsAtWorld}
+use Rattle.ov_catalog.specs.Reached.{Fits}
+use Rattle.law_image.proofs.Standing.{counted}
+use Rattle.ov_core.specs.AtWorld.{IsAtNext, IsAtWorld}
 use Rattle.ov_core.specs.Brought.{Brings, IsUnplaced}
 use Rattle.ov_core.specs.Held.{Held}
 use Rattle.ov_core.specs.Rooms.{IsWhyKept}
@@ -129,6 +131,10 @@ module _ (w : World) (held : Held) (s : State) (at : IsAtWorld w held s) (name :
       (version_fits w held s at name d named wish is.0 spared.0)
       (by_long list_pages segment_pages spared.1.written.list spared.1.written.segment refl spared.1.long)
 
+-- a move that fits keeps the epoch
+pub same_epoch : (w : World) (m : Move) (old new : Held) (s t : State) → Fits m w → IsAtWorld w old s → IsAtNext (moved m w) new s t → new.journal.epoch ≡ old.journal.epoch
+same_epoch w m old new s t fits at next = sym next.at.stands.epoch ∙ (counted m w fits).0 ∙ at.stands.epoch
+
 -- ---- where room may be wanting
 
 module _ (entry : Entry) (past : List Made) (held : Held) (m : Move) (w : World) (within : IsWithin entry past held) where
@@ -216,9 +222,9 @@ module _ (entry : Entry) (past : List Made) (held : Held) (m : Move) (w : World)
       in no_room_lacks long.written e (by_long list_pages segment_pages long.written.list long.written.segment refl long.long)
 
   pub done_within : (b : Brought) (new : Held) → IsUnplaced b → Brings m w b → IsDone (bringing_of b) held new
-      → new.journal.end ≤ held.journal.end + 6 + length (spelling b.event) → IsWithin entry (and_made past m w) new
-  done_within b new unplaced brings done grows =
-      within_made entry past held new m w b within unplaced brings (record { l = done.l; s = done.s; placed = done.placed; fits = done.fits; applied_is = done.applied_is }) grows
+      → new.journal.end ≤ held.journal.end + 6 + length (spelling b.event) → new.journal.epoch ≡ held.journal.epoch → IsWithin entry (and_made past m w) new
+  done_within b new unplaced brings done grows same =
+      within_made entry past held new m w b within unplaced brings (record { l = done.l; s = done.s; placed = done.placed; fits = done.fits; applied_is = done.applied_is }) grows same
 
 -- ---- a drop
 

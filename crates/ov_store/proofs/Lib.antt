@@ -6,6 +6,7 @@ pub mod Answering
 pub mod Unreadying
 pub mod Dropping
 pub mod Versions
+pub mod Whole
 pub mod Seeing
 pub mod Numbers
 pub mod Looking

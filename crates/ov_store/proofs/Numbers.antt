@@ -4,11 +4,13 @@ use Rattle.std.specs.Prelude.{Some, None, find, filter, if◌then◌else◌}
 use Rattle.std.proofs.lemmas.Bool.{eq-eqb, ne_eqb}
 use Rattle.ov_host.specs.declared.area.Extent.{Extent}
 use Rattle.ov_event.specs.declared.event.Event as raw
+use Rattle.ov_event.specs.declared.event.Event.TheVariants as says
+use Rattle.ov_layout.specs.Changes.{extents_of}
 use Rattle.ov_model.specs.Lists.{IsIn}
-use Rattle.ov_catalog.specs.Applying.{is_named}
-use Rattle.ov_catalog.specs.Events.{Event, Init, Commit, Drop, Other, applied, change, new_set, numbered, replayed, version_of, with_version}
+use Rattle.ov_catalog.specs.Applying.{AllApply, first_off, is_named}
+use Rattle.ov_catalog.specs.Events.{applied, change, new_set, numbered, replayed, version_of, with_version}
 use Rattle.ov_catalog.specs.Numbers.{SetNumbers, Numbers, nothing_yet}
-use Rattle.ov_catalog.specs.Raw.{event_in, numbers_in}
+use Rattle.ov_catalog.specs.Raw.{event_in, numbers_in, place_in, shape_in}
 
 abbrev Set : Type 0
 Set = SetNumbers Extent Extent
@@ -99,22 +101,28 @@ module _ (test : Set → Bool) where
 
 -- ---- all events
 
-one_numbered : (e : Event Extent Extent) (n : Numbers Extent Extent) → AreNumbered n → AreNumbered (applied e n)
-one_numbered (Init name schema rows list segments) n are =
-    (below_more n.next (new_set n.next name schema rows list segments) n.sets refl are.0, distinct_more n.next (new_set n.next name schema rows list segments) n.sets refl are.0 are.1)
-one_numbered (Commit cvd vid message parents rows fresh place added list segments) n are = (
-  below_changed cvd (with_version (version_of parents message rows fresh list) place added segments) (λ d. refl) n.next n.sets are.0,
-  distinct_changed cvd (with_version (version_of parents message rows fresh list) place added segments) (λ d. refl) n.sets are.1,
+one_numbered : (e : raw.Event) (n : Numbers Extent Extent) → first_off e n ≡ None → AreNumbered n → AreNumbered (applied (event_in e) n)
+one_numbered (says.Init name schema rows list segment) n applies are =
+    let new : Set = new_set n.next name (shape_in schema) rows list (extents_of segment)
+    in (below_more n.next new n.sets refl are.0, distinct_more n.next new n.sets refl are.0 are.1)
+one_numbered (says.Commit cvd vid message parents rows fresh place added list segment) n applies are = (
+  below_changed cvd (with_version (version_of parents message rows fresh list) (place_in place) added (extents_of segment)) (λ d. refl) n.next n.sets are.0,
+  distinct_changed cvd (with_version (version_of parents message rows fresh list) (place_in place) added (extents_of segment)) (λ d. refl) n.sets are.1,
 )
-one_numbered (Drop cvd) n are = (below_kept (λ d. not (numbered cvd d)) n.next n.sets are.0, distinct_kept (λ d. not (numbered cvd d)) n.sets are.1)
-one_numbered Other n are = are
+one_numbered (says.Drop cvd) n applies are = (below_kept (λ d. not (numbered cvd d)) n.next n.sets are.0, distinct_kept (λ d. not (numbered cvd d)) n.sets are.1)
+one_numbered (says.Plan cvd p q targets) n applies are = absurd cc
+one_numbered (says.Copy cvd count segment) n applies are = absurd cc
+one_numbered (says.Flip cvd) n applies are = absurd cc
+one_numbered (says.Base next) n applies are = absurd cc
+one_numbered (says.Whole said) n applies are = absurd cc
+one_numbered (says.Wide cvd vid message columns parents rows fresh place added list segment) n applies are = absurd cc
 
-all_numbered : (es : List (Event Extent Extent)) (n : Numbers Extent Extent) → AreNumbered n → AreNumbered (replayed es n)
-all_numbered [] n are = are
-all_numbered (e ∷ es) n are = all_numbered es (applied e n) (one_numbered e n are)
+all_numbered : (es : List raw.Event) (n : Numbers Extent Extent) → AllApply es n → AreNumbered n → AreNumbered (replayed (map event_in es) n)
+all_numbered [] n apply are = are
+all_numbered (e ∷ es) n apply are = all_numbered es (applied (event_in e) n) apply.1 (one_numbered e n apply.0 are)
 
-pub events_numbered : (events : List raw.Event) → AreNumbered (numbers_in events)
-events_numbered events = all_numbered (map event_in events) nothing_yet (tt, tt)
+pub events_numbered : (events : List raw.Event) → AllApply events nothing_yet → AreNumbered (numbers_in events)
+events_numbered events apply = all_numbered events nothing_yet apply (tt, tt)
 
 -- ---- a dataset that is found by its name
 
@@ -140,6 +148,6 @@ in_numbered (d ∷ sets) s apart (inr is) =
     let other : (d.number == s.number) ≡ false = ne_eqb d.number s.number (λ same. none_in d.number sets s apart.0 is (sym same))
     in ap (λ b. if b then Some d else find (numbered s.number) sets) other ∙ in_numbered sets s apart.1 is
 
-pub named_numbered : (events : List raw.Event) (name : List ℕ) (s : Set) → find (is_named name) (numbers_in events).sets ≡ Some s
+pub named_numbered : (events : List raw.Event) → AllApply events nothing_yet → (name : List ℕ) (s : Set) → find (is_named name) (numbers_in events).sets ≡ Some s
     → find (numbered s.number) (numbers_in events).sets ≡ Some s
-named_numbered events name s found = in_numbered (numbers_in events).sets s (events_numbered events).1 (found_in name (numbers_in events).sets s found)
+named_numbered events apply name s found = in_numbered (numbers_in events).sets s (events_numbered events apply).1 (found_in name (numbers_in events).sets s found)

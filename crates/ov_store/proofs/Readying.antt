@@ -1,5 +1,5 @@
 -- A version is made ready from what was read of its parents.
-use Rattle.std.proofs.Common.{◌≡◌, ◌∙◌, ◌≤◌, ◌<◌, ◌^◌, ℕ, true, List, length, ap, subst, arith}
+use Rattle.std.proofs.Common.{◌≡◌, ◌∙◌, ◌≤◌, ◌<◌, ◌^◌, ℕ, true, List, length, sym, ap, subst, arith}
 use Rattle.std.specs.Prelude.{IsUtf8, Some, None}
 use Rattle.std.specs.List.{All, AllZip}
 use Rattle.ov_event.specs.declared.event.Event as raw
@@ -9,7 +9,7 @@ use Rattle.ov_model.specs.Book.{Row}
 use Rattle.ov_model.specs.Merge.{in_key_order}
 use Rattle.ov_model.specs.World.{Dataset, World, set_named}
 use Rattle.ov_catalog.specs.Raw.{event_in}
-use Rattle.ov_catalog.specs.Reached.{AreParents, AreRows, Fits}
+use Rattle.ov_catalog.specs.Reached.{AreParents, ArePlain, AreRows, Fits}
 use Rattle.ov_catalog.specs.Stands.{asked_event}
 use Rattle.ov_fetch.specs.declared.errors.FetchErr.{FetchErr}
 use Rattle.ov_fetch.specs.declared.errors.FetchErr.TheVariants as fetch
@@ -29,7 +29,7 @@ use Rattle.ov_store.specs.Changes.{Bringing}
 use Rattle.ov_store.specs.Committing.{AreRead, IsCommitBy, IsSparedBy, IsSparedYet, IsUnready, Set, Wish, asked_of, commit_move, commit_off, fresh_in_world}
 use Rattle.ov_store.specs.Errors.{of_commit, of_fetch}
 use Rattle.ov_store.specs.Scanning.{IsUndamaged, set_in}
-use Rattle.ov_store.proofs.Commits.{commit_fits, commit_fresh, commit_says, parents_spared, parents_stored, refuses_unready, spared_by}
+use Rattle.ov_store.proofs.Commits.{commit_fits, commit_fresh, commit_says, parents_spared, parents_stored, plain_commit, refuses_unready, spared_by}
 use Rattle.ov_store.proofs.Seeing.{found_set}
 
 -- the host failed in the second of two calls
@@ -94,10 +94,13 @@ module _ (set : Set) (wish : Wish) (vids : List ℕ) (parents : List (List Recor
       }
 
       module _ (are : AreParents (length set.versions) vids) (text : IsUtf8 wish.message) (short : length wish.message ≤ 1024) (few : length set.versions < 65535)
-          (rows : AreRows set.schema made) where
+          (rows : AreRows set.schema made) (off : commit_off held name wish.vids wish.rows ≡ None) where
+        plain : ArePlain w made
+        plain = subst (ArePlain w) (sym sorted) (plain_commit w held name set wish at.stands.format found off)
+
         fits_asked : records_with as_wished d ≤ 2 ^ 31 → Fits (commit_move d wish.vids wish.message wish.rows) w
         fits_asked room =
-            commit_fits w (page_bytes s) set d of_world wish made parents sorted room (subst (λ (xs : List ℕ). AreParents (length set.versions) xs) vids_are are) text short few rows
+            commit_fits w (page_bytes s) set d of_world wish made parents sorted room (subst (λ (xs : List ℕ). AreParents (length set.versions) xs) vids_are are) text short few rows plain
 
         pub spared_there : (e : CommitErr) → IsSpared e as_asked w d → IsSparedBy w d wish (of_commit e)
         spared_there e is = spared_by w (page_bytes s) set d of_world wish made parents sorted fits_asked e (subst (λ (a : Asked). IsSpared e a w d) wished_is is)
@@ -112,5 +115,5 @@ module _ (set : Set) (wish : Wish) (vids : List ℕ) (parents : List (List Recor
         pub fresh_there : fresh ≡ fresh_in_world d wish
         fresh_there = commit_fresh w (page_bytes s) set d of_world wish made parents sorted e fresh list segment as_answered
 
-        pub says_there : content (event_in e) list segment ≡ asked_event (commit_move d wish.vids wish.message wish.rows) w
+        pub says_there : Some (content (event_in e) list segment) ≡ asked_event (commit_move d wish.vids wish.message wish.rows) w
         says_there = commit_says w (page_bytes s) set d of_world wish made parents sorted e fresh list segment as_answered

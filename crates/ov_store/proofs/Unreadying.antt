@@ -1,6 +1,6 @@
 -- Why a call isn't done whose version isn't ready.
 use Rattle.std.proofs.Common.{inl, ◌≡◌, ◌<◌, ◌≤◌, ◌^◌, ◌+◌, ℕ, List, [], length, sym, ◌∙◌, ap, subst, refl, arith}
-use Rattle.std.specs.Prelude.{◌/◌, Option, None}
+use Rattle.std.specs.Prelude.{◌/◌, Option, Some, None}
 use Rattle.ov_host.specs.Host.{State}
 use Rattle.ov_host.specs.declared.area.Extent.{Extent}
 use Rattle.ov_value.specs.Shapes.{Shape}
@@ -58,9 +58,9 @@ first_long w name schema rows made (write.TooLong list_pages segment_pages) is a
         event = first_event name schema made list segment;
         list = list;
         segment = segment;
-        says = (λ i. events.Init name schema (length made) (first_list schema made are i) (first_segments schema made are i)) ∙ ap (λ all. asked_event (Init name schema all) w) is;
+        says = (λ i. Some (events.Init name schema (length made) (first_list schema made are i) (first_segments schema made are i))) ∙ ap (λ all. asked_event (Init name schema all) w) is;
         sized = refl;
-        runs = inl tt;
+        runs = tt;
       };
       long = cause;
     }

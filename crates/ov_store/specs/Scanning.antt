@@ -1,5 +1,6 @@
--- What `scan` does.
---     scan_off n name vids      why it is refused by numbers
+-- What `scan` and `scan_all` do.
+--     scan_off n name vids      why a scan is refused by numbers
+--     all_off set, all_vids set      why one of all versions is, and which versions these are
 --     IsUnscanned off s old new vids why      why it isn't done, where the dataset's numbers are these
 use Rattle.std.specs.Prelude.{◌≡◌, ℕ, true, List, [], length, Option, Some, None, find}
 use Rattle.ov_host.specs.declared.area.Area.TheVariants.{Pages}
@@ -8,6 +9,7 @@ use Rattle.ov_host.specs.Host.{Rose, State}
 use Rattle.ov_catalog.specs.Applying.{is_named}
 use Rattle.ov_catalog.specs.Numbers.{SetNumbers, Numbers}
 use Rattle.ov_fetch.specs.Extents.{page_bytes}
+use Rattle.ov_model.specs.Records.{counted}
 use Rattle.ov_read.specs.Damages.{IsDamage}
 use Rattle.ov_store.specs.declared.errors.StoreErr.{StoreErr}
 use Rattle.ov_store.specs.declared.errors.StoreErr.TheVariants as why
@@ -24,6 +26,19 @@ versions_off (Some s) vids = vids_off (length s.versions) [] vids
 -- 10, then per version from the left 12, 13
 abbrev pub scan_off : Numbers Extent Extent → List ℕ → List ℕ → Option StoreErr
 scan_off n name vids = versions_off (set_in n name) vids
+
+-- all versions that a dataset has, ascending
+abbrev pub vids_in : SetNumbers Extent Extent → List ℕ
+vids_in s = counted 1 (length s.versions)
+
+abbrev pub all_vids : Option (SetNumbers Extent Extent) → List ℕ
+all_vids None = []
+all_vids (Some s) = vids_in s
+
+-- 10, and none of a dataset's own versions is refused
+abbrev pub all_off : Option (SetNumbers Extent Extent) → Option StoreErr
+all_off None = Some why.NoCvd
+all_off (Some s) = None
 
 -- a damage of a scan, where the host tells its bytes
 abbrev pub IsDamagedIn : Option (SetNumbers Extent Extent) → List ℕ → State → ℕ → Type 0

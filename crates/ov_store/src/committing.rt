@@ -48,7 +48,7 @@ use ov_rows::version_rows;
 use ov_value::{Row, Txt};
 
 /// How many versions a dataset may have.
-const MOST_VERSIONS: usize = 65_535;
+const MOST_VERSIONS: usize = ov_model::MOST_VERSIONS as usize;
 
 /// A dataset, and those of its versions that are to be the parents of its next one.
 #[derive(Drop)]

@@ -1,4 +1,4 @@
-// Laws of refusals and of what a commit reads, each the contract of a function that does nothing.
+// Laws of refusals, of scans and of what a commit reads, each the contract of a function that does nothing.
 ghost use Rattle.std.specs.Prelude.{◌≡◌, ℕ, List, [], true, Option, Some, None, map, length, find};
 ghost use Rattle.ov_host.specs.declared.area.Extent.{Extent};
 ghost use Rattle.ov_model.specs.Act.{init_refusal, vids_refusal};
@@ -15,6 +15,7 @@ ghost use Rattle.ov_new_version.specs.Joined.{RefusesJoined, joined_of};
 ghost use Rattle.ov_store.specs.Changes.{Bringing};
 ghost use Rattle.ov_store.specs.Committing.{AreRead, IsCommitBy, Set, Wish, asked_of};
 ghost use Rattle.ov_store.specs.Refusals.{refused, new_off, vids_off};
+ghost use Rattle.ov_store.specs.Scanning.{all_off, all_vids, scan_off, set_in};
 
 /// What is refused by the catalog's numbers is refused by the World that they are of, and for the same.
 pub fn refusals_are_the_worlds()
@@ -32,4 +33,9 @@ pub fn what_a_commit_reads_is_whole()
         → RefusesParents (fetch.Damaged page) (page_bytes t) s wish.vids → ⊥ }
     ensures joined { (s : Set) (wish : Wish) (t : State) (b : Bringing) (fresh page : ℕ) (by : IsCommitBy s wish t b fresh) → t.tells ≡ true
         → RefusesJoined (fetch.Damaged page) s (page_bytes t) (joined_of (asked_of s wish by.parents)) → ⊥ }
+{}
+
+/// A scan of all versions that a dataset has is refused for none of them: it is refused only where the dataset isn't there.
+pub fn all_versions_are_there()
+    ensures { (n : Numbers Extent Extent) (name : List ℕ) → scan_off n name (all_vids (set_in n name)) ≡ all_off (set_in n name) }
 {}

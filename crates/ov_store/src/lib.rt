@@ -4,6 +4,7 @@
 //! leaves stands for the World before the call or the one after it. A refusal changes nothing.
 #![tactic(auto)]
 
+mod allowing;
 mod committing;
 mod errors;
 mod laws;
@@ -13,5 +14,5 @@ mod store;
 mod unready;
 
 pub use errors::StoreErr;
-pub use laws::{refusals_are_the_worlds, what_a_commit_reads_is_whole};
+pub use laws::{all_versions_are_there, refusals_are_the_worlds, what_a_commit_reads_is_whole};
 pub use store::{Committed, Store};

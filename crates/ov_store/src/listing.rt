@@ -1,6 +1,7 @@
 // Versions as they are listed.
 
 ghost use Rattle.std.specs.Prelude.{◌≡◌, ◌≤◌, ◌<◌, ◌∷◌, ◌+◌, ◌^◌, ℕ, List, [], Some, IfOk, IfErr, MatchResult, OnOk, vec_len};
+ghost use Rattle.ov_model.specs.Records.{counted};
 ghost use Rattle.ov_store.specs.declared.errors.StoreErr.TheVariants as why;
 ghost use Rattle.ov_store.specs.Listing.{IsListed, Sees};
 ghost use Rattle.ov_store.specs.Refusals.{IsVidOff, vids_off};
@@ -18,6 +19,18 @@ pub(crate) fn listed(alloc: Global, count: usize, vids: &[u64]) -> Result<Vec<u3
     for vid in vids {
         see(&mut seen, count, *vid)?;
         made.push(*vid as u32)?;
+    }
+    Ok(made)
+}
+
+/// The numbers of all versions of a dataset that has so many, ascending.
+pub(crate) fn all_listed(alloc: Global, count: usize) -> Result<Vec<u32>, AllocError>
+    requires few { count ≤ 65535 }
+    ensures { IfOk result (λ made. made.items ≡ counted 1 count) }
+{
+    let mut made = Vec::with_capacity(alloc, count)?;
+    for place in 0..count as u32 {
+        made.push(place + 1)?;
     }
     Ok(made)
 }

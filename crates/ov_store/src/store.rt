@@ -41,15 +41,13 @@ use crate::unready::Unready;
 use ov_catalog::Catalog;
 use ov_core::{Brought, ChangeErr, Core};
 use ov_host::Host;
+use ov_model::MOST_CVDS;
 use ov_open::{OpenErr, open as open_core};
 use ov_rows::version_rows;
 use ov_value::{Row, Schema, Txt};
 use ov_version_bytes::first_version;
 use std::alloc::Global;
 use std::marker::Model;
-
-/// How many datasets may be live.
-const MOST_CVDS: usize = 1024;
 
 /// A version that was made.
 #[derive(Clone, Copy, Debug, PartialEq, Eq)]

@@ -119,6 +119,9 @@ module _ (w : World) (d : Disk) (held : Held) (mid : State) (opened : IsOpened d
             within =
                 let bound = is.end_ (kept_by held.journal at.payloads) at.events w stands
                 in omega (arith, at.at.place, bound);
+            epoch =
+                let same = is.epoch (kept_by held.journal at.payloads) at.events w stands
+                in omega (arith, same);
           }
       by (inr made) =
           let bound = is.unmade made.unmade
@@ -132,6 +135,10 @@ module _ (w : World) (d : Disk) (held : Held) (mid : State) (opened : IsOpened d
                 (nothing_spelled opened.replays.events (sym made.no_records ∙ opened.replays.written)) opened.replays.end covered
                 in omega (arith, none);
             within = omega (arith, place, bound);
+            epoch =
+                let one : held.journal.epoch ≡ 1 = ap (λ n. n.epoch) made.numbers_new
+                in let first = is.first_epoch made.unmade
+                in omega (arith, one, first);
           }
 
   pub printed_still : printed_of mid ≡ d.printed

@@ -1,6 +1,6 @@
 -- What a run reads of the pages, and the damage that it meets.
 use Rattle.std.proofs.Common.{◌≡◌, ◌≤◌, ◌+◌, inl, inr, ℕ, Bool, true, List, [], ◌∷◌, ◌++◌, length, take, refl, sym, ◌∙◌, ap, subst, append_assoc, arith}
-use Rattle.std.specs.Prelude.{None, Ok, Option, Some}
+use Rattle.std.specs.Prelude.{None, Ok, Option, Some, codes}
 use Rattle.std.specs.FinMap.{get}
 use Rattle.std.proofs.lemmas.List.{length-take, take_all}
 use Rattle.std.proofs.lemmas.Bool.{cases_lt}
@@ -19,12 +19,14 @@ use Rattle.ov_core.specs.Held.{Held, IsByJournal}
 use Rattle.ov_model.specs.Book.{Row}
 use Rattle.ov_model.specs.Forms.{built_forms}
 use Rattle.ov_model.specs.Line.{Asks, Refused, line_of}
+use Rattle.ov_model.specs.Users.{line_by}
 use Rattle.ov_model.specs.Words.{lines_of}
 use Rattle.ov_model.specs.declared.command.Command.{Command}
 use Rattle.ov_model.specs.declared.command.Command.TheVariants as asks
 use Rattle.ov_model.specs.declared.refusal.Refusal.TheVariants.{LongLine}
 use Rattle.ov_store.specs.Committing.{IfSet, Set}
 use Rattle.ov_store.specs.Kept.{Kept}
+use Rattle.ov_session.specs.Asking.{line_asked}
 use Rattle.ov_session.specs.Bounds.{IsReading, may_fetch}
 use Rattle.ov_session.specs.Commands.{AreRowsOf, IsDamageOf, IsDamaged, IsNoDamage}
 use Rattle.ov_session.specs.Standing.{IsIdle}
@@ -35,21 +37,23 @@ use Rattle.ov_script.specs.declared.reader.ReadErr.{ReadErr}
 use Rattle.ov_script.specs.declared.reader.ReadErr.TheVariants as reading
 use Rattle.ov_script.proofs.Readers.{next_lines}
 use Rattle.ov_top.specs.Errors.{by_reading, by_serving}
-use Rattle.ov_top.specs.Running.{AreReading, IsLineOf, IsRunDamage, IsUnharmed, reads}
+use Rattle.ov_top.specs.Running.{AreReading, IsLineOf, IsRunDamage, IsUnharmed, line_of_run, reads}
 use Rattle.ov_top.proofs.Lined.{kept_line, long_line}
 
 -- ---- lines, as they were kept
 
-pub line_kept : (x kept line : List ℕ) → x ≡ kept → kept ≡ take 65537 line → line_of built_forms x ≡ line_of built_forms line
-line_kept x kept line value keeps = ap (line_of built_forms) (value ∙ keeps) ∙ kept_line line
+pub line_kept : (user x kept line : List ℕ) → user ≡ codes "admin" → x ≡ kept → kept ≡ take 65537 line → line_asked user x ≡ line_of_run line
+line_kept user x kept line first value keeps =
+    ap (λ (u : List ℕ). line_asked u x) first
+    ∙ ap (line_by (codes "admin")) (ap (line_of built_forms) (value ∙ keeps) ∙ kept_line line)
 
 -- a line that asks for something was kept whole
-asked_whole : (x line : List ℕ) (command : Command) → x ≡ take 65537 line → line_of built_forms x ≡ Asks command → x ≡ line
+asked_whole : (x line : List ℕ) (command : Command) → x ≡ take 65537 line → line_of_run x ≡ Asks command → x ≡ line
 asked_whole x line command keeps asks_ =
     elim (cases_lt 65536 (length line)) [
       | inl long ↦
           let size : length x ≡ length (take 65537 line) = ap length keeps
-          in let too_long : line_of built_forms x ≡ Refused LongLine = long_line x (omega (arith, long, size, length-take 65537 line))
+          in let too_long : line_of_run x ≡ Refused LongLine = ap (line_by (codes "admin")) (long_line x (omega (arith, long, size, length-take 65537 line)))
           in let same : Refused LongLine ≡ Asks command = sym too_long ∙ asks_ in absurd cc
       | inr short ↦ keeps ∙ take_all 65537 line (omega (arith, short))
     ]
@@ -81,21 +85,21 @@ pub fetches_all : (before now : Held) (all left : List (List ℕ)) (old new : St
     → new.fetched ≤ old.fetched + reads before.numbers all
 fetches_all before now all left old new is = omega (arith, is.bound)
 
-module _ (before now : Held) (all left later : List (List ℕ)) (x line : List ℕ) (old mid new : State) (so : Fetches before now all left old mid)
-    (next : left ≡ line ∷ later) (kept : line_of built_forms x ≡ line_of built_forms line)
-    (fetched : new.fetched ≤ mid.fetched + may_fetch now.numbers (line_of built_forms x)) where
+module _ (before now : Held) (all left later : List (List ℕ)) (user x line : List ℕ) (old mid new : State) (so : Fetches before now all left old mid)
+    (next : left ≡ line ∷ later) (kept : line_asked user x ≡ line_of_run line)
+    (fetched : new.fetched ≤ mid.fetched + may_fetch now.numbers (line_asked user x)) where
   there : Fetches before now all (line ∷ later) old mid
   there = subst (λ (ls : List (List ℕ)). Fetches before now all ls old mid) next so
 
-  same_bound : may_fetch now.numbers (line_of built_forms x) ≡ may_fetch before.numbers (line_of built_forms line)
-  same_bound = ap (λ (h : Held). may_fetch h.numbers (line_of built_forms x)) so.same ∙ ap (may_fetch before.numbers) kept
+  same_bound : may_fetch now.numbers (line_asked user x) ≡ may_fetch before.numbers (line_of_run line)
+  same_bound = ap (λ (h : Held). may_fetch h.numbers (line_asked user x)) so.same ∙ ap (may_fetch before.numbers) kept
 
   still_bound : new.fetched + reads before.numbers later ≤ old.fetched + reads before.numbers all
   still_bound =
-      let split : reads before.numbers (line ∷ later) ≡ may_fetch before.numbers (line_of built_forms line) + reads before.numbers later = refl
+      let split : reads before.numbers (line ∷ later) ≡ may_fetch before.numbers (line_of_run line) + reads before.numbers later = refl
       in omega (arith, fetched, same_bound, split, there.bound)
 
-  pub fetches_more : (held : Held) → (IsReading (line_of built_forms x) → held ≡ now) → Fetches before held all later old new
+  pub fetches_more : (held : Held) → (IsReading (line_asked user x) → held ≡ now) → Fetches before held all later old new
   fetches_more held still = record {
     same = still (subst IsReading (sym kept) there.reading.0) ∙ so.same;
     reading = there.reading.1;
@@ -154,11 +158,11 @@ module _ (stage staged : Staged) (files : staged.files ≡ stage.files) (told : 
   damaged_as (asks.Unstage user table) is = absurd is
   damaged_as asks.Tables is = absurd is
 
-module _ (x : List ℕ) (before now : Kept) (script : Script) (stage staged : Staged) (old new : State) (told : staged.tells ≡ stage.tells)
+module _ (user x : List ℕ) (first : user ≡ codes "admin") (before now : Kept) (script : Script) (stage staged : Staged) (old new : State) (told : staged.tells ≡ stage.tells)
     (numbers : old.tells ≡ true → IsByJournal before.held old)
-    (among : (command : Command) → line_of built_forms x ≡ Asks command → script.tells ≡ true → IsLineOf script.left x) where
+    (among : (command : Command) → line_asked user x ≡ Asks command → script.tells ≡ true → IsLineOf script.left x) where
   pub run_damage : (e : EndErr)
-      → IsDamageOf (λ page. (command : Command) × (line_of built_forms x ≡ Asks command) × IsDamaged command stage before.held new page) e
+      → IsDamageOf (λ page. (command : Command) × (line_asked user x ≡ Asks command) × IsDamaged command stage before.held new page) e
       → IsIdle e before now stage staged old new → IsRunDamage script staged new (by_serving e)
   run_damage ending.Host is idle = tt
   run_damage ending.Stage is idle = tt
@@ -169,7 +173,7 @@ module _ (x : List ℕ) (before now : Kept) (script : Script) (stage staged : St
       line = x;
       among = among is.1.0 is.1.1;
       command = is.1.0;
-      asks = is.1.1;
+      asks = ap (λ (u : List ℕ). line_asked u x) (sym first) ∙ is.1.1;
       held = before.held;
       numbers = λ tells. let tells_old : old.tells ≡ true = sym idle.0.looked.told ∙ tells in by_looked before.held old new idle.0.looked tells_old (numbers tells_old);
       damaged = damaged_as stage staged idle.1 told before.held new at is.1.0 is.1.2;
@@ -177,11 +181,11 @@ module _ (x : List ℕ) (before now : Kept) (script : Script) (stage staged : St
   )
 
 -- a line of the script, where it asks for something
-pub asked_among : (ended : Bool) (x kept line all left later : List ℕ) → x ≡ kept → kept ≡ take 65537 line
+pub asked_among : (ended : Bool) (user x kept line all left later : List ℕ) → user ≡ codes "admin" → x ≡ kept → kept ≡ take 65537 line
     → (gone : List (List ℕ)) × (lines_of all ≡ gone ++ lines_of left) → IsNext ended line left later
-    → (command : Command) → line_of built_forms x ≡ Asks command → IsLineOf all x
-asked_among ended x kept line all left later value keeps lined next command is =
-    subst (IsLineOf all) (sym (asked_whole x line command (value ∙ keeps) is)) (line_among ended all line left later lined next)
+    → (command : Command) → line_asked user x ≡ Asks command → IsLineOf all x
+asked_among ended user x kept line all left later first value keeps lined next command is =
+    subst (IsLineOf all) (sym (asked_whole x line command (value ∙ keeps) (ap (λ (u : List ℕ). line_asked u x) (sym first) ∙ is))) (line_among ended all line left later lined next)
 
 pub reading_harmless : (e : ReadErr) (script : Script) (stage : Staged) (s : State) → IsRunDamage script stage s (by_reading e)
 reading_harmless reading.Input script stage s = tt

@@ -96,13 +96,15 @@ pub record IsTold (w : World) (old : Ends) : Type 0 where
   pub script : old.script.tells ≡ true
   pub stage : old.stage.tells ≡ true
 
--- No page of a live extent is at or past `pages`, and the journal's first closed gate isn't past `end`; it will be at 38 where
--- no journal was made yet.
+-- No page of a live extent is at or past `pages`, the journal's first closed gate isn't past `end`, and its epoch is `epoch`. Where
+-- no journal was made yet, the gate will be at 38, and the epoch 1.
 pub record IsEntry (entry : Entry) (c : Image) : Type 0 where
   pub pages : (kept : Kept) (events : List Event) (w : World) → StandsBy kept events w c
       → (page : ℕ) → 1 ≤ covers (live (numbers_in events)) page → page < entry.pages
   pub end_ : (kept : Kept) (events : List Event) (w : World) → StandsBy kept events w c → end_of kept ≤ entry.end
   pub unmade : IsUnmade c.journal → 38 ≤ entry.end
+  pub epoch : (kept : Kept) (events : List Event) (w : World) → StandsBy kept events w c → kept.epoch ≡ entry.epoch
+  pub first_epoch : IsUnmade c.journal → entry.epoch ≡ 1
 
 -- a run begins as this user
 abbrev pub session_at : Ends → Session

@@ -4,7 +4,7 @@
 --     ReadsDamage script stage s page      a line of the script asked for what is damaged at this page
 --     reads n lines      how many bytes of pages these lines may fetch
 --     status_by ran, status_by_opening off      the status
-use Rattle.std.specs.Prelude.{◌≡◌, ◌≤◌, ◌<◌, ◌+◌, ◌^◌, ℕ, Bool, true, false, List, [], ◌∷◌, ◌++◌, length, Result, Ok, Err}
+use Rattle.std.specs.Prelude.{◌≡◌, ◌≤◌, ◌<◌, ◌+◌, ◌^◌, ℕ, Bool, true, false, List, [], ◌∷◌, ◌++◌, length, Result, Ok, Err, codes}
 use Rattle.ov_host.specs.declared.area.Area.TheVariants.{Pages}
 use Rattle.ov_host.specs.declared.area.Extent.{Extent}
 use Rattle.ov_host.specs.Host.{State}
@@ -14,13 +14,13 @@ use Rattle.ov_catalog.specs.Numbers.{Numbers}
 use Rattle.ov_core.specs.Held.{Held, IsByJournal}
 use Rattle.law_runs.specs.Serving.{Ends, Halts, Runs}
 use Rattle.ov_model.specs.Act.{Session}
-use Rattle.ov_model.specs.Forms.{built_forms}
-use Rattle.ov_model.specs.Line.{Asks, line_of}
+use Rattle.ov_model.specs.Line.{Line, Asks}
 use Rattle.ov_model.specs.Words.{lines_of}
 use Rattle.ov_model.specs.World.{World}
 use Rattle.ov_model.specs.declared.command.Command.{Command}
 use Rattle.ov_open.specs.declared.errors.OpenErr.{OpenErr}
 use Rattle.ov_open.specs.declared.errors.OpenErr.TheVariants as opening
+use Rattle.ov_session.specs.Asking.{line_asked}
 use Rattle.ov_session.specs.Bounds.{IsReading, may_fetch}
 use Rattle.ov_session.specs.Commands.{IsDamaged}
 use Rattle.ov_top.specs.declared.errors.RunErr.{RunErr}
@@ -53,6 +53,10 @@ AllServed steps w s t lines taken still (Err running.Input) before old new =
 AllServed steps w s t lines taken still (Err running.TooLong) before old new = IsHalted steps w s t taken lines before old new
 AllServed steps w s t lines taken still (Err _) before old new = Runs steps w s lines before old new
 
+-- what a line of a run says: a run begins as this user, and no command that the program has changes the user
+abbrev pub line_of_run : List ℕ → Line
+line_of_run text = line_asked (codes "admin") text
+
 -- ---- damage
 
 -- one of the lines of a text
@@ -65,7 +69,7 @@ pub record ReadsDamage (script : Script) (stage : Staged) (s : State) (page : �
   pub line : List ℕ
   pub among : script.tells ≡ true → IsLineOf script.left line
   pub command : Command
-  pub asks : line_of built_forms line ≡ Asks command
+  pub asks : line_of_run line ≡ Asks command
   pub held : Held
   pub numbers : s.tells ≡ true → IsByJournal held s
   pub damaged : IsDamaged command stage held s page
@@ -83,11 +87,11 @@ IsUnharmed _ = Unit {0}
 -- lines that change no store
 abbrev pub AreReading : List (List ℕ) → Type 0
 AreReading [] = Unit {0}
-AreReading (line ∷ lines) = IsReading (line_of built_forms line) × AreReading lines
+AreReading (line ∷ lines) = IsReading (line_of_run line) × AreReading lines
 
 abbrev pub reads : Numbers Extent Extent → List (List ℕ) → ℕ
 reads n [] = 0
-reads n (line ∷ lines) = may_fetch n (line_of built_forms line) + reads n lines
+reads n (line ∷ lines) = may_fetch n (line_of_run line) + reads n lines
 
 abbrev pub status_by : Result Bool RunErr → Status
 status_by (Ok false) = Done

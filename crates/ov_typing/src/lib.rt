@@ -7,10 +7,12 @@
 mod counting;
 mod fitting;
 mod grouping;
+mod lineages;
 mod place;
 mod type_err;
 mod typing;
 
 pub use fitting::Typed;
+pub use lineages::names_lineage;
 pub use type_err::TypeErr;
 pub use typing::typed;

@@ -1,6 +1,6 @@
 //! From a query and a schema to a query that fits it.
 
-ghost use Rattle.std.specs.Prelude.{◌≡◌, Ok, IfOk, IfErr, IfSome, Err, map};
+ghost use Rattle.std.specs.Prelude.{◌≡◌, Ok, IfOk, IfErr, IfSome, IsOk, OnOk, Err, map};
 ghost use Rattle.ov_model.specs.Kinds.{terms_kinds, items_kinds, cols_kinds, kinds};
 ghost use Rattle.ov_model.specs.declared.query.Items.TheVariants.{Everything};
 ghost use Rattle.ov_typing.specs.Refusing.{Gives, Takes, refusal_of};
@@ -19,6 +19,7 @@ use std::alloc::{AllocError, Global};
 /// the schema and those of GROUP BY.
 pub fn typed<'a>(alloc: Global, query: &'a Query, schema: &'a Schema) -> Result<Typed<'a>, TypeErr>
     ensures ok { IfOk result (λ made. (made.query ≡ query.now) × (made.schema ≡ schema.now)) }
+    ensures fits { OnOk result (IsOk (kinds query.now schema.now)) }
     // Each error but want of memory is the refusal that it stands for.
     ensures err { IfErr result (λ why. IfSome (refusal_of why) (λ refusal. kinds query.now schema.now ≡ Err refusal)) }
 {

@@ -35,4 +35,4 @@ pub use sorting::sort_by_key;
 pub use spelled::{Bytes, RowBytes};
 pub use txt::Txt;
 pub use value::Value;
-pub use writing::{append_row, is_marked, row_bytes, row_len};
+pub use writing::{LONGEST_ROW, append_row, is_marked, row_bytes, row_len};

@@ -12,6 +12,9 @@ use crate::spelled::{Bytes, RowBytes};
 use crate::value::Value;
 use std::alloc::{AllocError, Global};
 
+/// A row has so many bytes at most.
+pub const LONGEST_ROW: usize = 65_536;
+
 /// The one spelling of a row that fits the schema. It takes memory once, as much as it has bytes.
 pub fn row_bytes(alloc: Global, schema: &Schema, row: &Row) -> Result<RowBytes, AllocError>
     requires fits { Fits schema.now row.now }

@@ -1,6 +1,7 @@
 -- One more version: what is written of it is what the World asks for.
 use Rattle.std.proofs.Common.{◌≡◌, ◌⊎◌, ◌≤◌, ◌+◌, ◌==◌, ◌||◌, ℕ, suc, Bool, true, false, List, [], ◌∷◌, ◌++◌, length, map, refl, sym, ◌∙◌, ap, subst, inl, inr, arith}
 use Rattle.std.specs.Prelude.{Some, not, if◌then◌else◌}
+use Rattle.std.specs.Option.{option_map}
 use Rattle.std.specs.List.{zip}
 use Rattle.std.proofs.lemmas.Bool.{eq-eqb, eqb-true}
 use Rattle.ov_event.specs.declared.event.Event.TheVariants as says
@@ -26,7 +27,7 @@ use Rattle.ov_catalog.specs.Events.{Event}
 use Rattle.ov_catalog.specs.Raw.{place_in}
 use Rattle.ov_catalog.specs.Reached.{AreRows, Reached}
 use Rattle.ov_catalog.specs.Shown.{Records, sorted_by, list_of, segment_of, held_by, added_to, commit_event, commit_in}
-use Rattle.ov_catalog.specs.Stands.{asked_event}
+use Rattle.ov_catalog.specs.Stands.{asked_as, asked_event}
 use Rattle.ov_catalog.proofs.Good.{IsKnown, found_known, good}
 use Rattle.ov_catalog.proofs.Showing.{PiecesAreIn}
 use Rattle.ov_core.specs.Brought.{segments_in}
@@ -208,12 +209,12 @@ module _ (d : Dataset) (v : Version) (vid : ℕ) (made : Assigned) (place : Plac
 
   pub event_asked : (cvd : ℕ) → events.Commit cvd vid v.message (zip v.parents made.weights) (length v.rows) made.fresh place (length (left_out made.rids given))
       (list_in (list_written made.rids)) (segments_in (segment_written given made.rids v.rows))
-      ≡ events.each_event Some Some (commit_event cvd d v)
+      ≡ asked_as (commit_event cvd d v)
   event_asked cvd = λ i. events.Commit cvd (next.vid_is i) v.message (weights_are i) (length v.rows) (fresh_is i) (next.place_is i) (count_is i) (list_is i) (segments_are i)
 
 pub asked_of : (cvd : ℕ) (parents message : List ℕ) (rows : List Row) (w : World) (d : Dataset) → first_set (is_numbered cvd) w.sets ≡ Some d
-    → asked_event (Commit cvd parents message [] rows) w ≡ events.each_event Some Some (commit_event cvd d (version_of parents message rows))
-asked_of cvd parents message rows w d found = ap (λ o. events.each_event Some Some (commit_in cvd (version_of parents message rows) o)) found
+    → asked_event (Commit cvd parents message [] rows) w ≡ Some (asked_as (commit_event cvd d (version_of parents message rows)))
+asked_of cvd parents message rows w d found = ap (λ o. option_map asked_as (commit_in cvd (version_of parents message rows) o)) found
 
 pub known_of : (cvd : ℕ) (w : World) (d : Dataset) → Reached w → first_set (is_numbered cvd) w.sets ≡ Some d → IsKnown d
 known_of cvd w d reached found = found_known cvd d w.sets (good w reached).known found

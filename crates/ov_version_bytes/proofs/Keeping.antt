@@ -17,9 +17,10 @@ use Rattle.ov_segment.specs.Segments.{AreRecords, IsNext, Ascend, record_bytes, 
 use Rattle.ov_catalog.specs.Reached.{AreRows}
 use Rattle.ov_catalog.specs.Shown.{sorted_by}
 use Rattle.ov_catalog.proofs.Members.{all_at, of_sorted}
+use Rattle.ov_catalog.proofs.Rising.{by, less_of}
 use Rattle.ov_version_bytes.specs.Written.{AreGiven, numbered, not_held, segment_written}
 use Rattle.ov_version_bytes.proofs.Listing.{sorted_long}
-use Rattle.ov_version_bytes.proofs.Sorting.{by, all_from, below_at, less_of, sorted_ascends}
+use Rattle.ov_version_bytes.proofs.Sorting.{all_from, below_at, sorted_ascends}
 
 -- ---- what filters leave
 

@@ -14,8 +14,9 @@ use Rattle.ov_member.specs.Lists.{Range, range_bytes, bytes_of, in_front, ranges
 use Rattle.ov_member.specs.Rids.{AreRids, RiseFrom}
 use Rattle.ov_catalog.specs.Shown.{put_by, sorted_by}
 use Rattle.ov_catalog.proofs.Members.{all_at, of_sorted}
+use Rattle.ov_catalog.proofs.Rising.{by, less_of}
 use Rattle.ov_version_bytes.specs.Written.{AreGiven, list_written}
-use Rattle.ov_version_bytes.proofs.Sorting.{by, below_at, less_of, all_same, sorted_ascends}
+use Rattle.ov_version_bytes.proofs.Sorting.{below_at, all_same, sorted_ascends}
 
 rise_from : (least : ℕ) (xs : List ℕ) → ((x : ℕ) → IsIn xs x → (least ≤ x) × (x ≤ 2 ^ 31)) → Rises (by (λ x. x)) xs → RiseFrom least xs
 rise_from least [] each rises = tt

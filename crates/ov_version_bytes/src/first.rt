@@ -1,6 +1,6 @@
 //! The first version of a dataset.
 
-ghost use Rattle.std.specs.Prelude.{◌≡◌, ◌<◌, ◌≤◌, IsTrue, IfOk, IfErr, false, length, None, [], map};
+ghost use Rattle.std.specs.Prelude.{◌≡◌, ◌<◌, ◌≤◌, IsTrue, IfOk, IfErr, false, length, None, Some, [], map};
 ghost use Rattle.std.specs.List.{list_any};
 ghost use Rattle.ov_event.specs.Spelling.{IsEvent};
 ghost use Rattle.ov_host.specs.declared.area.Extent.{Extent as AnExtent};
@@ -39,7 +39,7 @@ pub fn first_version(
     requires name { IsTrue (is_name_of name.now) }
     ensures unplaced { IfOk result IsUnplaced }
     ensures event { IfOk result (λ b. IsEvent b.event) }
-    ensures says { IfOk result (λ b. (w : World) → content (event_in b.event) b.list.items b.segment.items ≡ asked_event (Init name.now schema.now rows.items) w) }
+    ensures says { IfOk result (λ b. (w : World) → Some (content (event_in b.event) b.list.items b.segment.items) ≡ asked_event (Init name.now schema.now rows.items) w) }
     ensures applies { IfOk result (λ b. (n : Numbers AnExtent AnExtent) → n.next < 4294967295 → list_any (is_named name.now) n.sets ≡ false → length n.sets < 1024
         → first_off b.event n ≡ None) }
     ensures event_is { IfOk result (λ b. b.event ≡ first_event name.now schema.now rows.items b.list.items b.segment.items) }
@@ -49,7 +49,7 @@ pub fn first_version(
 {
     let count = rows.len() as u32;
     let rids = first_rids(alloc, count)?;
-    let none = no_rids(alloc)?;
+    let none = Members::empty(alloc);
     let runs = runs_of(alloc, schema, rids.as_slice(), rows, &none)?;
     let event = Event::Init {
         name: name.copy(alloc)?,
@@ -75,15 +75,6 @@ fn first_rids(alloc: Global, count: u32) -> Result<Vec<u32>, AllocError>
         rids.push(place + 1)?;
     }
     Ok(rids)
-}
-
-fn no_rids(alloc: Global) -> Result<Members, AllocError>
-    ensures { IfOk result (λ members. members ≡ []) }
-{
-    match Members::of(alloc, &[])? {
-        Some(members) => Ok(members),
-        None => unreachable!(),
-    }
 }
 
 // The schema as an event has it.

@@ -59,7 +59,7 @@ pub fn next_version(alloc: Global, schema: &Schema, next: Next) -> Result<Brough
     ensures sound { IfOk result (λ b. IsSoundEvent b.event) }
     ensures says { IfOk result (λ b. (w : World) (d : Dataset) → Reached w → first_set (is_numbered next.entry.cvd) w.sets ≡ Some d
         → IsNext d (version_of next.entry.parents.now next.entry.message.now next.entry.rows.items) next.entry.vid next.entry.made next.entry.place next.entry.held.now
-        → content (event_in b.event) b.list.items b.segment.items ≡ asked_event (Commit next.entry.cvd next.entry.parents.now next.entry.message.now [] next.entry.rows.items) w) }
+        → Some (content (event_in b.event) b.list.items b.segment.items) ≡ asked_event (Commit next.entry.cvd next.entry.parents.now next.entry.message.now [] next.entry.rows.items) w) }
     ensures event_is { IfOk result (λ b. b.event ≡ says.Commit next.entry.cvd next.entry.vid next.entry.message.now (zip next.entry.parents.now next.entry.made.weights) (length next.entry.rows.items)
         next.entry.made.fresh (spelled_place next.entry.place) (length (left_out next.entry.made.rids next.entry.held.now)) (extent_at 0 b.list.items) (extent_at 0 b.segment.items)) }
     ensures list { IfOk result (λ b. b.list.items ≡ list_written next.entry.made.rids) }

@@ -17,10 +17,10 @@ use ov_value::{Row, Schema};
 use std::alloc::{AllocError, Global};
 
 /// A page has so many bytes.
-const PAGE_BYTES: usize = 4_096;
+const PAGE_BYTES: usize = ov_host::PAGE_BYTES as usize;
 
 /// No run has so many pages.
-const TOO_MANY_PAGES: u32 = 0x10_0000;
+const TOO_MANY_PAGES: u32 = ov_host::RUN_LIMIT;
 
 /// A version's list, its segment, and how many records are in it.
 #[derive(Drop)]

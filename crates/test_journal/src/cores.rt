@@ -143,7 +143,7 @@ fn payloads(alloc: Global, host: &MemHost) -> Result<Vec<Vec<u8>>, Fail> {
     let (_, payloads) = Journal::open(alloc, &mut host_on(alloc, journal))?;
     let mut all = Vec::new(alloc);
     for payload in payloads.into_vec() {
-        all.push(payload.into_bytes())?;
+        all.push(payload.into_vec())?;
     }
     Ok(all)
 }

@@ -51,6 +51,6 @@ fn a_host_that_fails_is_told_so(rt: HostRuntime) {
 fn a_payload_gives_its_bytes_back(rt: HostRuntime) -> Result<(), Fail> {
     let payload = Payload::new(vec![in rt.alloc(); 7, 8]?);
     assert_eq!(rt; payload.as_slice(), [7, 8].as_slice());
-    assert_eq!(rt; payload.into_bytes().as_slice(), [7, 8].as_slice());
+    assert_eq!(rt; payload.into_vec().as_slice(), [7, 8].as_slice());
     Ok(())
 }

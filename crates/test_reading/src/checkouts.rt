@@ -3,7 +3,7 @@
 use crate::pages::{area, host_of};
 use crate::people::{self, PARTS};
 use crate::schemas::schema;
-use ov_checkout::checkout_text;
+use ov_checkout::{Checkout, checkout_of};
 use ov_fetch::{FetchErr, Vids, list_of, rows_of};
 use ov_host::Extent;
 use ov_memhost::MemHost;
@@ -37,7 +37,8 @@ fn checkout(
     }
     let records = rows_of(alloc, host, schema, segments, &lists, &members)?;
     let scan = scan_of(alloc, schema, Vids::new(vids), records, &members)?;
-    Ok(checkout_text(alloc, schema, &scan)?)
+    let Checkout { text, rows: _ } = checkout_of(alloc, schema, &scan)?;
+    Ok(text)
 }
 
 const PEOPLE_1: Listed = Listed {

@@ -18,4 +18,6 @@ mod opened;
 #[cfg(test)]
 mod people;
 #[cfg(test)]
+mod scans;
+#[cfg(test)]
 mod writing;

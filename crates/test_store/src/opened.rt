@@ -7,8 +7,9 @@ ghost use Rattle.ov_store.specs.Kept.{MayCall};
 
 use crate::people::schema_of;
 use ov_catalog::Cvd;
-use ov_checkout::checkout_text;
+use ov_checkout::{Checkout, checkout_of};
 use ov_csv::read_csv;
+use ov_fetch::Scan;
 use ov_memhost::MemHost;
 use ov_store::{Committed, Store, StoreErr};
 use ov_value::{Txt, is_name};
@@ -89,6 +90,14 @@ impl Opened {
         Ok(checkout(self.alloc, &self.store, &mut self.host, name, vids))
     }
 
+    /// The rows of all versions.
+    pub fn scan_all(&mut self, name: &str) -> Result<Result<Scan, StoreErr>, Fail> {
+        if !self.store.usable() {
+            return Err("it may be called".into());
+        }
+        Ok(self.store.scan_all(&mut self.host, name))
+    }
+
     /// Why the call isn't done; nothing where it is.
     pub fn refusal(&mut self, call: Call) -> Result<Option<StoreErr>, Fail> {
         match call {
@@ -115,7 +124,8 @@ fn checkout(
     let Some(d) = store.catalog().cvd(name) else {
         return Err(StoreErr::NoCvd);
     };
-    Ok(checkout_text(alloc, &d.schema, &scan)?)
+    let Checkout { text, rows: _ } = checkout_of(alloc, &d.schema, &scan)?;
+    Ok(text)
 }
 
 // Writes a dataset's name, and then the text of each of its versions.

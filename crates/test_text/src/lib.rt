@@ -5,6 +5,8 @@
 #![tactic(auto)]
 
 #[cfg(test)]
+mod answer_texts;
+#[cfg(test)]
 mod answers;
 #[cfg(test)]
 mod asked;

@@ -1,6 +1,5 @@
-use Rattle.std.proofs.Common.{◌≡◌, ◌<◌, Some, ℕ, List, length, sym, ◌∙◌, ap, subst}
+use Rattle.std.proofs.Common.{Some, List, sym, subst}
 use Rattle.std.specs.List.{All}
-use Rattle.std.specs.Prelude.{Option}
 use Rattle.ov_segment.specs.declared.numbered.Record.{Record}
 use Rattle.ov_catalog.specs.Sets.{set_in}
 use Rattle.ov_records.specs.Records.{lists_of}

@@ -1,5 +1,5 @@
-use Rattle.std.proofs.Common.{◌≡◌, true, ℕ, List, subst}
-use Rattle.std.specs.List.{All, AllZip}
+use Rattle.std.proofs.Common.{ℕ, List, subst}
+use Rattle.std.specs.List.{AllZip}
 use Rattle.ov_catalog.specs.Sets.{set_in}
 use Rattle.ov_fetch.specs.Extents.{page_bytes}
 use Rattle.ov_fetch.proofs.Gathered.{passed_on}

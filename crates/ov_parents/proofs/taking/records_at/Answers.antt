@@ -1,4 +1,4 @@
-use Rattle.std.proofs.Common.{◌≡◌, ◌+◌, List, take, sym, subst}
+use Rattle.std.proofs.Common.{◌+◌, List, take, sym, subst}
 use Rattle.ov_segment.specs.declared.numbered.Record.{Record}
 use Rattle.ov_parents.specs.Taking.{StandAt}
 use Rattle.ov_parents.proofs.Places.{stands_more}

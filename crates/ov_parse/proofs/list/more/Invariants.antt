@@ -1,6 +1,6 @@
 use Rattle.std.proofs.Common.{◌≡◌, ◌-◌, [], ◌∷◌, length}
 use Rattle.ov_model.specs.declared.query.Fixed.TheVariants as f
-use Rattle.ov_parse.specs.Reading.{more_at, with_front}
+use Rattle.ov_model.specs.Reading.{more_at, with_front}
 use Rattle.ov_parse.proofs.list.more.Given as goal
 
 abbrev pub invariant-loop : goal.invariant-loop

@@ -1,7 +1,7 @@
 use Rattle.std.proofs.Common.{◌≡◌, Some, None}
-use Rattle.ov_parse.specs.Reading.{query_of}
+use Rattle.ov_model.specs.Reading.{query_of}
 use Rattle.ov_parse.proofs.Said.{all-stand}
-use Rattle.ov_parse.proofs.Deciding.{is_spelled, is_none}
+use Rattle.ov_model.proofs.Deciding.{is_spelled, is_none}
 use Rattle.ov_parse.proofs.parsing.parse.Goals as goal
 
 pub symbols-requires : goal.symbols-requires

@@ -1,4 +1,4 @@
-use Rattle.ov_parse.proofs.Signs.{is_known}
+use Rattle.ov_model.proofs.Signs.{is_known}
 use Rattle.ov_parse.proofs.say.said_by.Goals as goal
 
 pub unwrap-requires : goal.unwrap-requires

@@ -1,18 +1,23 @@
-use Rattle.std.proofs.Common.{◌≡◌, length, sym, ◌∙◌, ap, arith}
-use Rattle.std.proofs.lemmas.Bool.{eqb-true, eq-eqb}
-use Rattle.ov_member.specs.Lists.{run}
-use Rattle.ov_read.specs.Counting.{capped}
-use Rattle.ov_read.proofs.Bearing.{borne_out, all_shared}
+use Rattle.std.proofs.Common.{◌≡◌, ◌≤◌, ◌==◌, ℕ, true, List, [], ◌∷◌, All, inl, inr, sym, ◌∙◌, ap, arith}
+use Rattle.std.proofs.lemmas.Bool.{eqb-true, leb-true, le-leb, or_cases}
+use Rattle.std.proofs.lemmas.List.Elements.{All-head, All-tail}
+use Rattle.ov_member.specs.Rids.{has}
+use Rattle.ov_read.specs.Agreement.{IsBorneOut}
 use Rattle.ov_read.proofs.agreeing.is_borne_out.Goals as goal
 
-pub returns : goal.returns
-returns c =
-    let count = c.args.count in
-    let last = c.args.last in
-    let rids = c.args.rids.now in
-    let same : length c.args.rids.now ≡ c.args.count = omega (arith, c.len.ensures.count, c.if-len-count.false) in
-    let few : c.min.result ≡ capped c.args.last = omega (arith, c.min.ensures) in
-    let is : c.in_ok-first.first ≡ run 1 (capped c.args.last) = c.in_ok-first.ensures ∙ ap (run 1) few in (
-      λ t. borne_out count last rids c.in_ok-first.first c.len.ensures.set is same (sym c.common.ensures ∙ eqb-true c.common.result count t),
-      λ out. eq-eqb c.common.result count (c.common.ensures ∙ all_shared count last rids c.in_ok-first.first c.len.ensures.set is out),
-    )
+-- what is among rids up to the last one is so too
+up_to : (rids : List ℕ) (rid last : ℕ) → All (λ r. r ≤ last) rids → has rids rid ≡ true → rid ≤ last
+up_to [] rid last all is = absurd cc
+up_to (x ∷ rids) rid last all is = elim (or_cases (x == rid) (has rids rid) is) [
+  | inl here ↦ omega (arith, eqb-true x rid here, All-head (λ r. r ≤ last) x rids all)
+  | inr later ↦ up_to rids rid last (All-tail (λ r. r ≤ last) x rids all) later
+]
+
+pub returns-in-Some : goal.returns-in-Some
+returns-in-Some c = (
+  λ le. record {
+    count_is = sym c.len.ensures.count ∙ c.if-len-count.true;
+    below = λ k d lt. omega (arith, c.in-Some.ensures.above k d lt, leb-true c.in-Some.rid c.args.last le);
+  },
+  λ out. le-leb c.in-Some.rid c.args.last (up_to c.args.rids.now c.in-Some.rid c.args.last out.below c.in-Some.ensures.there),
+)

@@ -4,19 +4,17 @@ use Rattle.ov_cmd.specs.Asked.{AsksBuilt}
 use Rattle.ov_cmd.specs.Said.{said}
 use Rattle.ov_session.specs.declared.errors.EndErr.{EndErr}
 use Rattle.ov_session.specs.declared.serving.Served.{Served}
-use Rattle.ov_cmd.specs.Errors.{refusal_of}
-use Rattle.law_runs.proofs.Lines.{serves_broken, serves_comment}
+use Rattle.ov_session.specs.Asking.{line_asked, refusal_to}
 use Rattle.law_runs.specs.Serving.{Serves, session_of}
-use Rattle.ov_model.specs.Forms.{built_forms}
-use Rattle.ov_model.specs.Line.{Asks, Refused, line_of}
-use Rattle.ov_session.proofs.Saying.{comment_none, line_unserved, says_refusal, says_reply}
+use Rattle.ov_model.specs.Line.{Asks, Refused}
+use Rattle.ov_session.proofs.Saying.{comment_none, line_unserved, says_broken, says_comment, says_refusal, says_reply}
 use Rattle.ov_session.specs.Commands.{IsNoDamage, is_comment_in, is_refused}
 use Rattle.std.proofs.Common.{◌+◌, ℕ, Some}
 use Rattle.std.specs.Prelude.{◌≤◌}
 use Rattle.ov_model.specs.Line.{Line}
 use Rattle.ov_model.specs.declared.reply.Reply.TheVariants as says
 use Rattle.ov_session.proofs.Bounds.{fetched_none, fetched_still}
-use Rattle.ov_session.proofs.Replying.{is_replied, line_seen, refused_missed}
+use Rattle.ov_session.proofs.Replying.{asked_seen, is_replied, refused_missed}
 use Rattle.ov_session.proofs.Standing.{at_said, idle_unsaid, on_any}
 use Rattle.ov_session.specs.Bounds.{IsReading, line_off, may_fetch}
 use Rattle.ov_session.specs.Replying.{IsReplyTo}
@@ -41,7 +39,7 @@ returns-in_err-reply-in-Ok-Some-clause-undamaged g c = λ w at.
 
 pub returns-in_err-reply-in-Ok-Some-clause-damaged : goal.returns-in_err-reply-in-Ok-Some-clause-damaged
 returns-in_err-reply-in-Ok-Some-clause-damaged g c =
-    let IsMet : ℕ → Type 0 = λ page. (command : Command) × (line_of built_forms c.args.line.now ≡ Asks command)
+    let IsMet : ℕ → Type 0 = λ page. (command : Command) × (line_asked c.args.user.now c.args.line.now ≡ Asks command)
     × IsDamaged command (g.T.Stage.staged c.args.stage.now) c.args.store.now.held (g.H.Host.state c.answer.new.host) page
     in let fact : IsDamageOf IsMet c.in_err-reply-in-Ok-Some.field-0.0
     = damage_wider (IsDamaged c.in-Ok-Some.command (g.T.Stage.staged c.args.stage.now) c.args.store.now.held (g.H.Host.state c.answer.new.host)) IsMet c.in_err-reply-in-Ok-Some.field-0.0
@@ -54,7 +52,7 @@ returns-in_err-reply-in-Ok-Some-clause-serves g c = λ w told at.
     let s = session_of (g.T.Stage.staged c.args.stage.now).files c.args.user.now
     in let t = session_of (g.T.Stage.staged c.answer.new.stage).files c.args.user.now
     in let fact : Serves c.args.steps w s t c.args.line.now false false c.args.store.now.held c.answer.new.store.held (g.H.Host.state c.args.host.now) (g.H.Host.state c.answer.new.host)
-    = serves_broken c.args.steps w s t c.args.line.now c.in-Ok-Some.command false c.args.store.now.held c.answer.new.store.held
+    = says_broken c.args.steps w s t c.args.line.now c.in-Ok-Some.command c.args.store.now.held c.answer.new.store.held
     (g.H.Host.state c.args.host.now) (g.H.Host.state c.answer.new.host) (c.in-Ok-Some.ensures.ok ∙ ap said c.in-Ok-Some.field-0-is)
     (c.in_err-reply-in-Ok-Some.ensures.acts w c.args.user.now told at)
     in let is : c.from_residual.result ≡ Err c.in_err-reply-in-Ok-Some.field-0.0 = search rules
@@ -75,12 +73,12 @@ returns-in-Ok-None-clause-comment g c = sym (ap is_comment_in (c.in-Ok-None.ensu
 
 pub returns-in-Ok-None-clause-serves : goal.returns-in-Ok-None-clause-serves
 returns-in-Ok-None-clause-serves g c = λ w told at.
-    serves_comment c.args.steps w (session_of (g.T.Stage.staged c.args.stage.now).files c.args.user.now) c.args.line.now c.args.store.now.held
-    (g.H.Host.state c.args.host.now) (g.H.Host.state c.args.host.now) (c.in-Ok-None.ensures.ok ∙ ap said c.in-Ok-None.field-0-is) at refl refl
+    says_comment c.args.steps w (session_of (g.T.Stage.staged c.args.stage.now).files c.args.user.now) c.args.line.now c.args.store.now.held
+    (g.H.Host.state c.args.host.now) (c.in-Ok-None.ensures.ok ∙ ap said c.in-Ok-None.field-0-is) at
 
 pub returns-in_ok-reply-in-Ok-Some-clause-comment : goal.returns-in_ok-reply-in-Ok-Some-clause-comment
 returns-in_ok-reply-in-Ok-Some-clause-comment g c =
-    comment_none (Asks c.in-Ok-Some.command) (line_of built_forms c.args.line.now) _ c.say.result (sym (c.in-Ok-Some.ensures.ok ∙ ap said c.in-Ok-Some.field-0-is)) refl c.say.ensures.served
+    comment_none (Asks c.in-Ok-Some.command) (line_asked c.args.user.now c.args.line.now) _ c.say.result (sym (c.in-Ok-Some.ensures.ok ∙ ap said c.in-Ok-Some.field-0-is)) refl c.say.ensures.served
 
 pub returns-in_ok-reply-in-Ok-Some-clause-serves : goal.returns-in_ok-reply-in-Ok-Some-clause-serves
 returns-in_ok-reply-in-Ok-Some-clause-serves g c = λ w told at.
@@ -92,7 +90,7 @@ returns-in_ok-reply-in-Ok-Some-clause-serves g c = λ w told at.
 
 pub returns-in_ok-refusal-in-Err-clause-comment : goal.returns-in_ok-refusal-in-Err-clause-comment
 returns-in_ok-refusal-in-Err-clause-comment g c =
-    comment_none (Refused (refusal_of c.in-Err.off)) (line_of built_forms c.args.line.now) _ c.say-in-Err.result (sym (c.in-Err.ensures.err c.in_ok-refusal-in-Err.ensures.some)) refl c.say-in-Err.ensures.served
+    comment_none (Refused (refusal_to c.in-Err.off)) (line_asked c.args.user.now c.args.line.now) _ c.say-in-Err.result (sym (c.in-Err.ensures.err c.in_ok-refusal-in-Err.ensures.some)) refl c.say-in-Err.ensures.served
 
 pub returns-in_ok-refusal-in-Err-clause-serves : goal.returns-in_ok-refusal-in-Err-clause-serves
 returns-in_ok-refusal-in-Err-clause-serves g c = λ w told at.
@@ -123,7 +121,7 @@ returns-in-Ok-None-clause-fetched g c = fetched_none _ _
 
 pub returns-in_ok-reply-in-Ok-Some-clause-fetched : goal.returns-in_ok-reply-in-Ok-Some-clause-fetched
 returns-in_ok-reply-in-Ok-Some-clause-fetched g c =
-    subst (λ (n : ℕ). n ≤ (g.H.Host.state c.args.host.now).fetched + may_fetch c.args.store.now.held.numbers (line_of built_forms c.args.line.now)) (sym c.say.ensures.fetched)
+    subst (λ (n : ℕ). n ≤ (g.H.Host.state c.args.host.now).fetched + may_fetch c.args.store.now.held.numbers (line_asked c.args.user.now c.args.line.now)) (sym c.say.ensures.fetched)
     (subst (λ (l : Line). (g.H.Host.state c.answer.new.host).fetched ≤ (g.H.Host.state c.args.host.now).fetched + may_fetch c.args.store.now.held.numbers l) (sym (c.in-Ok-Some.ensures.ok ∙ ap said c.in-Ok-Some.field-0-is)) c.answer.ensures.fetched)
 
 pub returns-in_ok-refusal-in-Err-clause-fetched : goal.returns-in_ok-refusal-in-Err-clause-fetched
@@ -176,16 +174,16 @@ returns-in-Ok-None-clause-replied g c = refl
 
 pub returns-in_ok-reply-in-Ok-Some-clause-replied : goal.returns-in_ok-reply-in-Ok-Some-clause-replied
 returns-in_ok-reply-in-Ok-Some-clause-replied g c =
-    is_replied (line_of built_forms c.args.line.now) c.in_ok-reply-in-Ok-Some.reply c.args.store.now.held (g.T.Stage.staged c.args.stage.now) (g.T.Stage.staged c.answer.new.stage) (g.H.Host.state c.args.host.now) (g.H.Host.state c.answer.new.host) (g.H.Host.state c.say.new.host)
+    is_replied (line_asked c.args.user.now c.args.line.now) c.in_ok-reply-in-Ok-Some.reply c.args.store.now.held (g.T.Stage.staged c.args.stage.now) (g.T.Stage.staged c.answer.new.stage) (g.H.Host.state c.args.host.now) (g.H.Host.state c.answer.new.host) (g.H.Host.state c.say.new.host)
     (subst (λ (l : Line). IsReplyTo l c.in_ok-reply-in-Ok-Some.reply) (sym (c.in-Ok-Some.ensures.ok ∙ ap said c.in-Ok-Some.field-0-is)) tt) c.answer.ensures.goes.told
     (λ some. (c.in_ok-reply-in-Ok-Some.ensures.at some.0 some.1).printed) c.in_ok-reply-in-Ok-Some.ensures.missed c.say.result
     (record { answer = c.say.ensures.served; why = c.say.ensures.host_alone; silent = c.say.ensures.unsaid; printed = c.say.ensures.said })
 
 pub returns-in_ok-refusal-in-Err-clause-replied : goal.returns-in_ok-refusal-in-Err-clause-replied
 returns-in_ok-refusal-in-Err-clause-replied g c =
-    is_replied (line_of built_forms c.args.line.now) (says.Refused c.in_ok-refusal-in-Err.field-0) c.args.store.now.held (g.T.Stage.staged c.args.stage.now) (g.T.Stage.staged c.args.stage.now) (g.H.Host.state c.args.host.now) (g.H.Host.state c.args.host.now) (g.H.Host.state c.say-in-Err.new.host)
+    is_replied (line_asked c.args.user.now c.args.line.now) (says.Refused c.in_ok-refusal-in-Err.field-0) c.args.store.now.held (g.T.Stage.staged c.args.stage.now) (g.T.Stage.staged c.args.stage.now) (g.H.Host.state c.args.host.now) (g.H.Host.state c.args.host.now) (g.H.Host.state c.say-in-Err.new.host)
     (subst (λ (l : Line). IsReplyTo l (says.Refused c.in_ok-refusal-in-Err.field-0)) (sym (c.in-Err.ensures.err c.in_ok-refusal-in-Err.ensures.some ∙ ap Refused (sym c.in_ok-refusal-in-Err.ensures.refusal))) refl) refl
-    (λ some. refl) (refused_missed _ c.in_ok-refusal-in-Err.field-0 (λ file is. absurd (line_seen c.in-Err.off file (sym c.in_ok-refusal-in-Err.ensures.refusal ∙ is)))) c.say-in-Err.result
+    (λ some. refl) (refused_missed _ c.in_ok-refusal-in-Err.field-0 (λ file is. absurd (asked_seen c.in-Err.off file (sym c.in_ok-refusal-in-Err.ensures.refusal ∙ is)))) c.say-in-Err.result
     (record { answer = c.say-in-Err.ensures.served; why = c.say-in-Err.ensures.host_alone; silent = c.say-in-Err.ensures.unsaid; printed = c.say-in-Err.ensures.said })
 
 -- ---- its numbers

@@ -172,9 +172,9 @@ lines-preserved g c =
           in let later = left_of c.next_line.new.self (g.S.Source.script c.next_line.new.source)
           in let given = given_true _ _ _ _ _ c.if-branch.true (c.in_ok-next_line.ensures.given (inv.told ∙ told) (inv.at_end told))
           in fetches_more c.args.store.held c.lines.store.held (lines_of (g.S.Source.script c.args.source.now).left) (lines_of left) (lines_of later)
-          c.as_slice.result.now given.0 (g.H.Host.state c.args.host.now) (g.H.Host.state c.lines.host) (g.H.Host.state c.serve.new.host) (inv.fetched told are)
+          c.lines.user c.as_slice.result.now given.0 (g.H.Host.state c.args.host.now) (g.H.Host.state c.lines.host) (g.H.Host.state c.serve.new.host) (inv.fetched told are)
           (next_lines c.next_line.new.self.ended given.0 left later given.1)
-          (line_kept c.as_slice.result.now c.next_line.new.line.items given.0 c.as_slice.ensures.value given.2)
+          (line_kept c.lines.user c.as_slice.result.now c.next_line.new.line.items given.0 inv.user c.as_slice.ensures.value given.2)
           c.serve.ensures.fetched c.serve.new.store.held c.serve.ensures.still;
       at_end = λ told. c.in_ok-next_line.ensures.at_end (inv.told ∙ told) (inv.at_end told);
     }
@@ -256,11 +256,11 @@ returns-in_err-served-clause-damaged g c = λ by.
     in let is : c.from_residual-in_err-served.result ≡ Err (by_serving e)
     = err_is c.from_residual-in_err-served.result (by_serving e) c.from_residual-in_err-served.ensures.0 c.from_residual-in_err-served.ensures.1
     in subst (λ (r : Result Bool RunErr). IfErr r (IsRunDamage first staged host)) (sym is)
-    (run_damage c.as_slice.result.now c.lines.store c.serve.new.store first stage staged (g.H.Host.state c.lines.host) host c.serve.ensures.attended.told
+    (run_damage c.lines.user c.as_slice.result.now c.lines.invariant.user c.lines.store c.serve.new.store first stage staged (g.H.Host.state c.lines.host) host c.serve.ensures.attended.told
     (c.lines.invariant.by_journal by)
     (λ command asks_ told.
     let given = given_true _ _ _ _ _ c.if-branch.true (c.in_ok-next_line.ensures.given (c.lines.invariant.told ∙ told) (c.lines.invariant.at_end told))
-    in asked_among c.next_line.new.self.ended c.as_slice.result.now c.next_line.new.line.items given.0 first.left left later c.as_slice.ensures.value given.2
+    in asked_among c.next_line.new.self.ended c.lines.user c.as_slice.result.now c.next_line.new.line.items given.0 first.left left later c.lines.invariant.user c.as_slice.ensures.value given.2
     (c.lines.invariant.lined told) given.1 command asks_)
     e c.in_err-served.ensures.damaged c.in_err-served.ensures.idle)
 
@@ -278,7 +278,7 @@ returns-in_err-served-clause-fetched g c = λ told are.
     in let later = left_of c.next_line.new.self (g.S.Source.script c.next_line.new.source)
     in let given = given_true _ _ _ _ _ c.if-branch.true (c.in_ok-next_line.ensures.given (c.lines.invariant.told ∙ told) (c.lines.invariant.at_end told))
     in fetches_ends c.args.store.held c.lines.store.held (lines_of (g.S.Source.script c.args.source.now).left) (lines_of left) (lines_of later)
-    c.as_slice.result.now given.0 (g.H.Host.state c.args.host.now) (g.H.Host.state c.lines.host) (g.H.Host.state c.serve.new.host) (c.lines.invariant.fetched told are)
+    c.lines.user c.as_slice.result.now given.0 (g.H.Host.state c.args.host.now) (g.H.Host.state c.lines.host) (g.H.Host.state c.serve.new.host) (c.lines.invariant.fetched told are)
     (next_lines c.next_line.new.self.ended given.0 left later given.1)
-    (line_kept c.as_slice.result.now c.next_line.new.line.items given.0 c.as_slice.ensures.value given.2)
+    (line_kept c.lines.user c.as_slice.result.now c.next_line.new.line.items given.0 c.lines.invariant.user c.as_slice.ensures.value given.2)
     c.serve.ensures.fetched

@@ -1,4 +1,4 @@
-use Rattle.std.proofs.Common.{[], rules, ◌≡◌, ◌<◌, ◌^◌, ℕ, List, length, sym, ◌∙◌, ap, subst, arith}
+use Rattle.std.proofs.Common.{[], rules, ◌≡◌, ◌<◌, ◌^◌, ℕ, List, length, sym, ◌∙◌, ap, subst, arith, Some}
 use Rattle.ov_event.specs.declared.event.Event.TheVariants as says
 use Rattle.ov_event.specs.Spelling.{IsEvent}
 use Rattle.ov_model.specs.Records.{counted}
@@ -24,7 +24,7 @@ unplaced-requires c =
     in let rids = c.as_slice.ensures.value ∙ c.in_ok-rids.ensures ∙ ap (counted 1) count
     in let is : AreRuns [] (counted 1 (length c.args.rows.items)) c.args.rows.items c.in_ok-runs.runs.list.items c.in_ok-runs.runs.segment.items = record {
       list_is = c.in_ok-runs.ensures.list ∙ ap list_written rids;
-      segment_is = c.in_ok-runs.ensures.segment ∙ (λ i. segment_written (c.in_ok-none.ensures i) (rids i) c.args.rows.items);
+      segment_is = c.in_ok-runs.ensures.segment ∙ (λ i. segment_written (c.empty-none.ensures i) (rids i) c.args.rows.items);
       short = c.in_ok-runs.ensures.short;
     }
     in subst (λ (bs : List ℕ). length bs < 2 ^ 32) (sym c.as_slice-2.ensures.value) (list_low [] (counted 1 (length c.args.rows.items)) c.args.rows.items c.in_ok-runs.runs.list.items c.in_ok-runs.runs.segment.items c.requires.rows.few (counted_given c.args.rows.items c.requires.rows.few) is)
@@ -35,7 +35,7 @@ written c =
     in let rids = c.as_slice.ensures.value ∙ c.in_ok-rids.ensures ∙ ap (counted 1) count
     in record {
       list_is = c.in_ok-runs.ensures.list ∙ ap list_written rids;
-      segment_is = c.in_ok-runs.ensures.segment ∙ (λ i. segment_written (c.in_ok-none.ensures i) (rids i) c.args.rows.items);
+      segment_is = c.in_ok-runs.ensures.segment ∙ (λ i. segment_written (c.empty-none.ensures i) (rids i) c.args.rows.items);
       short = c.in_ok-runs.ensures.short;
     }
 
@@ -60,7 +60,7 @@ returns-clause-says c = λ w.
     in let count : c.len-count.result ≡ length c.args.rows.items = search rules
     in let list = ap list_in is.list_is ∙ first_list c.args.schema.now c.args.rows.items c.requires.rows
     in let segments = ap segments_in is.segment_is ∙ first_segments c.args.schema.now c.args.rows.items c.requires.rows
-    in λ i. events.Init (c.in_ok-copy.ensures.ok i) (shape_in (c.in_ok-schema_of.ensures.made i)) (count i) (list i) (segments i)
+    in λ i. Some (events.Init (c.in_ok-copy.ensures.ok i) (shape_in (c.in_ok-schema_of.ensures.made i)) (count i) (list i) (segments i))
 
 pub returns-clause-applies : goal.returns-clause-applies
 returns-clause-applies c = λ n next new room.

@@ -1,4 +1,4 @@
-use Rattle.std.proofs.Common.{rules, ◌≡◌, length, sym, ◌∙◌, ap, subst, arith}
+use Rattle.std.proofs.Common.{rules, ◌≡◌, length, sym, ◌∙◌, ap, subst, arith, Some}
 use Rattle.std.specs.List.{zip}
 use Rattle.ov_event.specs.declared.event.Event.TheVariants as says
 use Rattle.ov_event.specs.Spelling.{AreParents}
@@ -87,8 +87,9 @@ pub returns-clause-says : goal.returns-clause-says
 returns-clause-says c = λ w d reached found is.
     let next = c.args.next
     in let runs = runs_are c
-    in ap (λ e. content (event_in e) c.in_ok-runs.runs.list.items c.in_ok-runs.runs.segment.items) (event_told c)
+    in ap Some (
+    ap (λ e. content (event_in e) c.in_ok-runs.runs.list.items c.in_ok-runs.runs.segment.items) (event_told c)
     ∙ (λ i. events.Commit next.cvd next.vid next.message.now (zip next.parents.now next.made.weights) (length next.rows.items) next.made.fresh (place_back next.place i)
     (length (left_out next.made.rids next.held.now)) (list_in (runs.list_is i)) (segments_in (runs.segment_is i)))
-    ∙ event_asked d (version_of next.parents.now next.message.now next.rows.items) next.vid next.made next.place next.held.now c.args.schema.now (known_of next.cvd w d reached found) is c.requires.rows c.requires.given next.cvd
+    ∙ event_asked d (version_of next.parents.now next.message.now next.rows.items) next.vid next.made next.place next.held.now c.args.schema.now (known_of next.cvd w d reached found) is c.requires.rows c.requires.given next.cvd)
     ∙ sym (asked_of next.cvd next.parents.now next.message.now next.rows.items w d found)

@@ -12,7 +12,7 @@ use Rattle.law_room.specs.Room.{IsWithin}
 use Rattle.ov_store.specs.declared.store.Committed.{Committed}
 use Rattle.ov_store.specs.Worlds.{IsLack, IsRefusedAs, and_made, version_refusal}
 use Rattle.ov_store.proofs.Deciding.{version_fits}
-use Rattle.ov_store.proofs.Lacking.{done_within, unstored_lacks, unstored_refused, version_lacks, version_refused_as}
+use Rattle.ov_store.proofs.Lacking.{done_within, unstored_lacks, unstored_refused, version_lacks, version_refused_as, same_epoch}
 use Rattle.ov_store.proofs.Finishing.{commits, set_there, unready_spared, unready_uncommitted, unstored_uncommitted}
 use Rattle.ov_store.proofs.Journals.{looked_by}
 use Rattle.ov_store.proofs.Looking.{looked_at}
@@ -113,6 +113,9 @@ pub returns-clause-room : goal.returns-clause-room
 returns-clause-room g c = λ w d entry past at named within.
     done_within entry past c.args.self.now.held (commit_move d c.args.parents.now c.args.message.now c.args.rows.items) w within c.in-Ok.next.brought c.change.new.self.held c.in-Ok.ensures.ready.unplaced (c.in-Ok.ensures.brings w d at named) c.in_ok-change.ensures.done
     (c.in_ok-change.ensures.grows w (looked_at w c.args.self.now.held (g.H.Host.state c.args.host.now) (g.H.Host.state c.next.new.host) c.next.ensures.looked at))
+    (same_epoch w (commit_move d c.args.parents.now c.args.message.now c.args.rows.items) c.args.self.now.held c.change.new.self.held (g.H.Host.state c.next.new.host) (g.H.Host.state c.change.new.host)
+    (c.in-Ok.ensures.brings w d at named).fits (looked_at w c.args.self.now.held (g.H.Host.state c.args.host.now) (g.H.Host.state c.next.new.host) c.next.ensures.looked at)
+    (c.in_ok-change.ensures.moves w (commit_move d c.args.parents.now c.args.message.now c.args.rows.items) (looked_at w c.args.self.now.held (g.H.Host.state c.args.host.now) (g.H.Host.state c.next.new.host) c.next.ensures.looked at) (c.in-Ok.ensures.brings w d at named)))
 
 pub returns-clause-undamaged : goal.returns-clause-undamaged
 returns-clause-undamaged g c = λ s told named page.

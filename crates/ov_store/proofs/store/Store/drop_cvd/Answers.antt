@@ -9,7 +9,7 @@ use Rattle.ov_store.specs.Worlds.{IsLack, IsRefusedAs, and_made, drop_of_set, dr
 use Rattle.law_room.specs.Room.{IsWithin}
 use Rattle.law_room.proofs.Room.{within_dropped}
 use Rattle.ov_core.specs.Rooms.{IsWhyKept}
-use Rattle.ov_store.proofs.Lacking.{drop_lacks, drop_refused_as}
+use Rattle.ov_store.proofs.Lacking.{drop_lacks, drop_refused_as, same_epoch}
 use Rattle.ov_store.proofs.Dropping.{drop_applies, drop_fits, drop_gone, drop_is, drop_number}
 use Rattle.ov_store.proofs.Still.{still}
 use Rattle.ov_store.proofs.store.Store.drop_cvd.Goals as goal
@@ -60,7 +60,10 @@ returns-in-Ok-clause-room g c = λ w d entry past at named within.
     let inside : IsAtWorld w c.self.inside.core (g.H.Host.state c.args.host.now) = subst (λ held. IsAtWorld w held (g.H.Host.state c.args.host.now)) (sym (ap (λ kept. kept.held) c.self.view_is)) at
     in let before : IsWithin entry past c.self.inside.core = subst (IsWithin entry past) (sym (ap (λ kept. kept.held) c.self.view_is)) within
     in subst (λ k. IsWithin entry (and_made past (Drop k) w) c.drop_cvd.new.self) ((drop_number w c.args.self.now.held (g.H.Host.state c.args.host.now) at c.args.name.now c.in-Some.cvd (sym c.in-Some.ensures)).2 d named)
-    (within_dropped entry past c.self.inside.core c.drop_cvd.new.self c.in-Some.cvd w before c.in-Ok.ensures.made (c.in-Ok.ensures.grows inside.payloads inside.at inside.rest))
+    (within_dropped entry past c.self.inside.core c.drop_cvd.new.self c.in-Some.cvd w before c.in-Ok.ensures.made (c.in-Ok.ensures.grows inside.payloads inside.at inside.rest)
+    (same_epoch w (Drop c.in-Some.cvd) c.self.inside.core c.drop_cvd.new.self (g.H.Host.state c.args.host.now) (g.H.Host.state c.drop_cvd.new.host)
+    (drop_fits w c.args.self.now.held (g.H.Host.state c.args.host.now) at c.args.name.now c.in-Some.cvd (sym c.in-Some.ensures)) inside
+    (c.in-Ok.ensures.done w inside (drop_fits w c.args.self.now.held (g.H.Host.state c.args.host.now) at c.args.name.now c.in-Some.cvd (sym c.in-Some.ensures)))))
 
 pub returns-in-Err-clause-room : goal.returns-in-Err-clause-room
 returns-in-Err-clause-room g c = λ w d entry past at named within.

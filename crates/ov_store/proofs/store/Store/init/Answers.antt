@@ -10,7 +10,7 @@ use Rattle.ov_store.specs.declared.store.Committed.{Committed}
 use Rattle.ov_store.specs.Worlds.{IsLack, IsRefusedAs, and_made, begin_refusal}
 use Rattle.ov_store.proofs.Answering.{why_unstored}
 use Rattle.ov_store.proofs.Deciding.{begin_refused}
-use Rattle.ov_store.proofs.Lacking.{begin_lacks, begin_refused_as, done_within, unstored_lacks, unstored_refused}
+use Rattle.ov_store.proofs.Lacking.{begin_lacks, begin_refused_as, done_within, unstored_lacks, unstored_refused, same_epoch}
 use Rattle.ov_store.proofs.Unreadying.{unready_why}
 use Rattle.ov_store.proofs.Still.{still, still_world}
 use Rattle.ov_store.proofs.store.Store.init.Goals as goal
@@ -83,3 +83,6 @@ returns-clause-still g c = λ w refusal at no.
 pub returns-clause-room : goal.returns-clause-room
 returns-clause-room g c = λ w entry past at within.
     done_within entry past c.args.self.now.held (first_move c.args.name.now c.args.schema c.args.rows.items) w within c.in-Ok.brought c.change.new.self.held c.in-Ok.ensures.ready.unplaced (c.in-Ok.ensures.brings w (g.H.Host.state c.args.host.now) at) c.in_ok-change.ensures.done (c.in_ok-change.ensures.grows w at)
+    (same_epoch w (first_move c.args.name.now c.args.schema c.args.rows.items) c.args.self.now.held c.change.new.self.held (g.H.Host.state c.args.host.now) (g.H.Host.state c.change.new.host)
+    (c.in-Ok.ensures.brings w (g.H.Host.state c.args.host.now) at).fits at
+    (c.in_ok-change.ensures.moves w (first_move c.args.name.now c.args.schema c.args.rows.items) at (c.in-Ok.ensures.brings w (g.H.Host.state c.args.host.now) at)))

@@ -116,7 +116,7 @@ returns-in_err-brought-clause-spared g c = λ w d at named.
     in let text : IsUtf8 c.args.message.now = subst (λ (xs : List ℕ). IsUtf8 xs) c.as_str.ensures.text c.as_str.ensures.utf8
     in let few : length (sets.set_in c.in_ok-d.field-0.d.now).versions < 65535 = subst (λ (n : ℕ). n < 65535) count c.in_ok-d.ensures.few
     in let fact : IsSparedBy w d (record { vids = c.args.parents.now; message = c.args.message.now; rows = c.args.rows.items }) (of_commit c.in_err-brought.field-0.0)
-    = spared_there (sets.set_in c.in_ok-d.field-0.d.now) (record { vids = c.args.parents.now; message = c.args.message.now; rows = c.args.rows.items }) c.deref-2.result.now c.deref-3.result.now c.in_ok-d.field-0.rows.items vids_are sorted (g.H.Host.state c.args.host.now) read w c.args.self.now.held at c.args.name.now d c.in_ok-d.ensures.found named there are text c.requires.message few c.in_ok-d.ensures.fit c.in_err-brought.field-0.0
+    = spared_there (sets.set_in c.in_ok-d.field-0.d.now) (record { vids = c.args.parents.now; message = c.args.message.now; rows = c.args.rows.items }) c.deref-2.result.now c.deref-3.result.now c.in_ok-d.field-0.rows.items vids_are sorted (g.H.Host.state c.args.host.now) read w c.args.self.now.held at c.args.name.now d c.in_ok-d.ensures.found named there are text c.requires.message few c.in_ok-d.ensures.fit c.in_ok-d.ensures.allowed c.in_err-brought.field-0.0
     (c.in_err-brought.ensures.world (page_bytes (g.H.Host.state c.args.host.now)) w d (if_told (g.H.Host.state c.args.host.now).tells (page_bytes (g.H.Host.state c.args.host.now)) (sets.set_in c.in_ok-d.field-0.d.now) c.deref-2.result.now c.deref-4.result.now held at.at.told) (asked_there (sets.set_in c.in_ok-d.field-0.d.now) (record { vids = c.args.parents.now; message = c.args.message.now; rows = c.args.rows.items }) c.deref-2.result.now c.deref-3.result.now c.in_ok-d.field-0.rows.items vids_are sorted (g.H.Host.state c.args.host.now) read w c.args.self.now.held at c.args.name.now d c.in_ok-d.ensures.found named there))
     in search (rules, fact)
 
@@ -126,7 +126,7 @@ returns-clause-ready g c =
     in let replayed : IsReplayed c.args.self.now.held.numbers = subst (λ n. IsReplayed n) numbers c.is_replayed.ensures
     in let numbered : set_numbered (sets.set_in c.in_ok-d.field-0.d.now).number c.args.self.now.held.numbers ≡ Some (sets.set_in c.in_ok-d.field-0.d.now)
     = subst (λ n. set_numbered (sets.set_in c.in_ok-d.field-0.d.now).number n ≡ Some (sets.set_in c.in_ok-d.field-0.d.now)) (sym replayed.are)
-    (named_numbered replayed.events c.args.name.now (sets.set_in c.in_ok-d.field-0.d.now) (subst (λ n. set_in n c.args.name.now ≡ Some (sets.set_in c.in_ok-d.field-0.d.now)) replayed.are c.in_ok-d.ensures.found))
+    (named_numbered replayed.events replayed.apply c.args.name.now (sets.set_in c.in_ok-d.field-0.d.now) (subst (λ n. set_in n c.args.name.now ≡ Some (sets.set_in c.in_ok-d.field-0.d.now)) replayed.are c.in_ok-d.ensures.found))
     in record {
       unplaced = c.in_ok-brought.ensures.unplaced;
       event = c.in_ok-brought.ensures.event;
@@ -169,7 +169,7 @@ returns-clause-brings g c = λ w d at named.
     in let text : IsUtf8 c.args.message.now = subst (λ (xs : List ℕ). IsUtf8 xs) c.as_str.ensures.text c.as_str.ensures.utf8
     in record {
       fits = fits_there (sets.set_in c.in_ok-d.field-0.d.now) (record { vids = c.args.parents.now; message = c.args.message.now; rows = c.args.rows.items }) c.deref-2.result.now c.deref-3.result.now c.in_ok-d.field-0.rows.items vids_are sorted (g.H.Host.state c.args.host.now) read w c.args.self.now.held at c.args.name.now d c.in_ok-d.ensures.found named there are text c.requires.message
-          (subst (λ (n : ℕ). n < 65535) count c.in_ok-d.ensures.few) c.in_ok-d.ensures.fit c.in_ok-brought.field-0.brought.event c.in_ok-brought.field-0.fresh
+          (subst (λ (n : ℕ). n < 65535) count c.in_ok-d.ensures.few) c.in_ok-d.ensures.fit c.in_ok-d.ensures.allowed c.in_ok-brought.field-0.brought.event c.in_ok-brought.field-0.fresh
           c.in_ok-brought.field-0.brought.list.items c.in_ok-brought.field-0.brought.segment.items answered;
       says = says_there (sets.set_in c.in_ok-d.field-0.d.now) (record { vids = c.args.parents.now; message = c.args.message.now; rows = c.args.rows.items }) c.deref-2.result.now c.deref-3.result.now c.in_ok-d.field-0.rows.items vids_are sorted (g.H.Host.state c.args.host.now) read w c.args.self.now.held at c.args.name.now d c.in_ok-d.ensures.found named there c.in_ok-brought.field-0.brought.event c.in_ok-brought.field-0.fresh
           c.in_ok-brought.field-0.brought.list.items c.in_ok-brought.field-0.brought.segment.items answered;

@@ -1,0 +1,45 @@
+-- The shapes of queries that are built: a query over versions that it lists, or over all of a dataset, whose conditions name no
+-- lineage. A text of another shape is taken for no query.
+--     is_built_shape asked      what a text asks has such a shape, or is refused as it stands
+--     served_forms      the forms of the commands that the program serves
+--     served_line line      what a line says, of which a query of another shape is refused
+use Rattle.std.specs.Prelude.{ℕ, Bool, true, false, if◌then◌else◌, List, [], ◌∷◌, map, Result, Ok, Err}
+use Rattle.ov_model.specs.Asking.{lineages_of}
+use Rattle.ov_model.specs.Forms.{Form, Values, built_forms}
+use Rattle.ov_model.specs.Line.{Line, Comment, Asks, Refused, answer}
+use Rattle.ov_model.specs.QueryTexts.{Asked, BadByte, NoQuery, AsksQuery, AsksJoin, asked_of}
+use Rattle.ov_model.specs.declared.command.Command.{Command}
+use Rattle.ov_model.specs.declared.command.Command.TheVariants as asks
+use Rattle.ov_model.specs.declared.refusal.Refusal.{Refusal}
+use Rattle.ov_model.specs.declared.refusal.Refusal.TheVariants as no
+
+-- no version is named
+abbrev pub is_none_named : List ℕ → Bool
+is_none_named [] = true
+is_none_named (vid ∷ vids) = false
+
+abbrev pub is_built_shape : Asked → Bool
+is_built_shape (BadByte at) = true
+is_built_shape NoQuery = false
+is_built_shape (AsksQuery query) = is_none_named (lineages_of query)
+is_built_shape (AsksJoin join) = false
+
+-- 41 in place of a query of a shape that isn't built; where there is no query at all, it comes here already
+abbrev pub if_built : Command → Result Command Refusal
+if_built (asks.Run text) = if is_built_shape (asked_of text) then Ok (asks.Run text) else Err no.NotAQuery
+if_built command = Ok command
+
+abbrev pub made_if_built : Result Command Refusal → Result Command Refusal
+made_if_built (Ok command) = if_built command
+made_if_built (Err refusal) = Err refusal
+
+abbrev pub served_form : Form → Form
+served_form f = record f { make = λ v. made_if_built (f.make v) }
+
+abbrev pub served_forms : List Form
+served_forms = map served_form built_forms
+
+abbrev pub served_line : Line → Line
+served_line Comment = Comment
+served_line (Asks command) = answer (if_built command)
+served_line (Refused refusal) = Refused refusal
