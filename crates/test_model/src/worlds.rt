@@ -80,11 +80,13 @@ fn odd_worlds_refuse(rt: HostRuntime) -> Result<(), Fail> {
 }
 
 // Commands over one dataset, and whether the plain programs say what they do.
-const SAID: [(&str, bool); 4] = [
+const SAID: [(&str, bool); 6] = [
     ("commit people -v 1 -f a.csv -m more", true),
     ("commit people -v 1 -f a.csv -m more -a team:text", false),
     ("checkpoint", false),
-    ("whoami", true),
+    ("ls", true),
+    ("tables", false),
+    ("whoami", false),
 ];
 
 #[test]
