@@ -1,3 +1,4 @@
+pub mod AheadLemmas
 pub mod Appending
 pub mod Checkpoint
 pub mod Frames

@@ -1,11 +1,11 @@
 -- Reading records, one after the other.
-use Rattle.std.proofs.Common.{◌≡◌, ◌≢◌, ◌<◌, ◌≤◌, ◌+◌, ℕ, suc, true, List, [], ◌∷◌, ◌++◌, length, take, drop, get_or, sym, ◌∙◌, ap, subst, arith, add-one, add-zero}
+use Rattle.std.proofs.Common.{◌≡◌, ◌≢◌, ◌<◌, ◌≤◌, ◌+◌, ℕ, suc, true, List, [], ◌∷◌, ◌++◌, length, take, drop, get_or, refl, sym, ◌∙◌, ap, subst, arith, add-one, add-zero}
 use Rattle.std.specs.List.{flat_map}
 use Rattle.std.specs.Int.{w32, to_be_bytes, from_be_bytes}
-use Rattle.std.proofs.lemmas.List.{append_assoc, drop-drop, drop_at, take_all, take-append-drop, take-take, length-take, length-drop, length-append, get_or-drop, get_or-take, flat_map_more}
+use Rattle.std.proofs.lemmas.List.{append_assoc, drop-drop, drop_at, take-append-drop, take-take, length-take, length-drop, length-append, get_or-drop, get_or-take, flat_map_more}
 use Rattle.std.proofs.Math.Seq.{drop-cons}
 use Rattle.ov_host.specs.declared.area.Area.TheVariants.{Journal}
-use Rattle.ov_host.specs.Host.{State, Reads, bytes_of}
+use Rattle.ov_host.specs.Host.{State, bytes_of}
 use Rattle.ov_journal.specs.Bytes.{record_of, number_at}
 use Rattle.ov_journal.specs.Reading.{Looked, IsRecord, IsPast, AreRecords, PassAt}
 
@@ -68,54 +68,54 @@ past_at start at limit place bytes ps below there sofar here is =
 
 -- ---- one record
 
-module _ (before : State) (at limit n : ℕ) (front : List ℕ) (old : List ℕ) (told : before.tells ≡ true) (within : limit ≤ length (bytes_of Journal before)) (below : at < limit) (reads : Reads Journal at n before old front) (five : length old ≡ 5) (fresh : length front ≡ 5) where
-  abbrev all : List ℕ
-  all = bytes_of Journal before
+-- the number behind a gate is in the first five bytes
+four_of : (front : List ℕ) → take 4 (drop 1 (take 5 front)) ≡ take 4 (drop 1 front)
+four_of [] = refl
+four_of (x ∷ front) = take-take 4 4 front (omega arith)
 
-  some : 1 ≤ n
-  some = omega (arith, reads.count, five)
-
+-- Some bytes were read from a record's gate on: all of the front where the journal has as many.
+module _ (all front : List ℕ) (at limit : ℕ) (within : limit ≤ length all) (below : at < limit) (front_is : front ≡ take (length front) (drop at all)) where
   -- the gate that was read is the one that is there
-  pub gate_is : get_or front 0 0 ≡ get_or (drop at all) 0 0
-  gate_is = sym (get_or-take n front 0 0 (omega (arith, some))) ∙ ap (λ b. get_or b 0 0) reads.bytes ∙ get_or-take n (drop at all) 0 0 (omega (arith, some))
+  pub gate_is : 1 ≤ length front → get_or front 0 0 ≡ get_or (drop at all) 0 0
+  gate_is some = ap (λ b. get_or b 0 0) front_is ∙ get_or-take (length front) (drop at all) 0 0 (omega (arith, some))
 
   -- an open gate stands before the rest
-  opened : get_or front 0 0 ≡ 165 → drop at all ≡ 165 ∷ drop (at + 1) all
-  opened open_ =
+  opened : 1 ≤ length front → get_or front 0 0 ≡ 165 → drop at all ≡ 165 ∷ drop (at + 1) all
+  opened some open_ =
       drop-cons all at 0 (omega arith)
-      ∙ ap (λ x. x ∷ drop (suc at) all) (sym (first_of_rest at all) ∙ sym gate_is ∙ open_)
+      ∙ ap (λ x. x ∷ drop (suc at) all) (sym (first_of_rest at all) ∙ sym (gate_is some) ∙ open_)
       ∙ ap (λ m. 165 ∷ drop m all) (sym (add-one at))
 
-  pub past_short : get_or front 0 0 ≡ 165 → limit ≤ at + 5 → IsPast at limit (drop at all)
-  past_short open_ short = record { rest = drop (at + 1) all; whole = opened open_; past = omega (arith, short) }
+  pub past_short : 1 ≤ length front → get_or front 0 0 ≡ 165 → limit ≤ at + 5 → IsPast at limit (drop at all)
+  past_short some open_ short = record { rest = drop (at + 1) all; whole = opened some open_; past = omega (arith, short) }
 
-  module _ (room : at + 5 < limit) (open_ : get_or front 0 0 ≡ 165) where
-    full : n ≡ 5
-    full = omega (arith, reads.count, five)
+  module _ (full : 5 ≤ length front) (open_ : get_or front 0 0 ≡ 165) where
+    stands : drop at all ≡ 165 ∷ drop (at + 1) all
+    stands = opened (omega (arith, full)) open_
 
-    front_is : front ≡ take 5 (drop at all)
-    front_is = sym (take_all 5 front (omega (arith, fresh))) ∙ ap (λ m. take m front) (sym full) ∙ reads.bytes ∙ ap (λ m. take m (drop at all)) full
+    five : take 5 front ≡ take 5 (drop at all)
+    five = ap (take 5) front_is ∙ take-take 5 (length front) (drop at all) full
 
     four : take 4 (drop 1 front) ≡ take 4 (drop (at + 1) all)
     four =
-        ap (λ b. take 4 (drop 1 b)) (front_is ∙ ap (take 5) (opened open_))
+        sym (four_of front) ∙ ap (λ b. take 4 (drop 1 b)) (five ∙ ap (take 5) stands)
         ∙ take-take 4 4 (drop (at + 1) all) (omega arith)
 
     pub number_is : number_at 1 front ≡ number_at 0 (drop (at + 1) all)
     number_is = ap (from_be_bytes w32) four
 
     pub past_long : limit ≤ at + 5 + number_at 1 front → IsPast at limit (drop at all)
-    past_long long = record { rest = drop (at + 1) all; whole = opened open_; past = omega (arith, long, number_is) }
+    past_long long = record { rest = drop (at + 1) all; whole = stands; past = omega (arith, long, number_is) }
 
     -- the record that was read stands there
-    pub record_is : (payload : List ℕ) (count : ℕ) → count ≡ number_at 1 front → to_be_bytes w32 count ≡ take 4 (drop 1 front) → at + 5 + count < limit → payload ≡ take count (drop (at + 5) all) → IsRecord at limit (drop at all) payload
-    record_is payload count number spelled fits payload_is =
+    pub record_is : (payload : List ℕ) (count : ℕ) → to_be_bytes w32 count ≡ take 4 (drop 1 front) → at + 5 + count < limit → payload ≡ take count (drop (at + 5) all) → IsRecord at limit (drop at all) payload
+    record_is payload count spelled fits payload_is =
         let long : length payload ≡ count =
         ap length payload_is ∙ omega (arith, length-take count (drop (at + 5) all), length-drop (at + 5) all, within, fits)
         in record {
           rest = drop (length payload) (drop (at + 5) all);
           whole =
-              opened open_
+              stands
               ∙ ap (λ b. 165 ∷ b)
               (sym (take-append-drop 4 (drop (at + 1) all))
               ∙ ap (λ b. b ++ drop 4 (drop (at + 1) all)) (sym (ap (to_be_bytes w32) long ∙ spelled ∙ four))

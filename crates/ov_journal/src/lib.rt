@@ -5,6 +5,7 @@
 //! `AreaIs` of `specs/Journal.antt`; what a stop in a call leaves is `IsOldOrNew` of `specs/Held.antt`.
 #![tactic(auto)]
 
+mod ahead;
 mod errors;
 mod framed;
 mod header;
