@@ -1,20 +1,21 @@
--- Reading the values that are left of a row.
-use Rattle.std.proofs.Common.{◌≡◌, ◌<◌, ◌≤◌, ◌+◌, ◌-◌, ◌/◌, ◌%◌, ◌==◌, ◌||◌, ℕ, zero, suc, Bool, true, false, List, [], ◌∷◌, ◌++◌, length, take, drop, get_or, refl, sym, ◌∙◌, ap, subst, arith, length-append}
-use Rattle.std.proofs.lemmas.Bool.{eqb-true, false_from_ne_true}
+-- The values of a row are read from its bytes.
+use Rattle.std.proofs.Common.{ℕ, Bool, true, false, List, length, sym, subst}
+use Rattle.std.specs.List.{flat_map}
 use Rattle.ov_value.specs.declared.column.Column.{Column}
-use Rattle.ov_value.specs.declared.column.Kind.TheVariants as kind
-use Rattle.ov_value.specs.declared.value.Value.{Value}
-use Rattle.ov_value.specs.declared.value.Value.TheVariants.{Int, Text, Flag, Null}
-use Rattle.ov_value.specs.Rows.{is_null, value_at}
-use Rattle.ov_value.specs.Spelling.{kept, marks}
-use Rattle.ov_value.specs.Reading.{Begins, BeginWithMarks, Spelled}
-use Rattle.ov_value.specs.Decoding.{front_value, front_rest, decoded, CanRead, nulls_of, body_of, AreRow, text_len}
-use Rattle.ov_value.proofs.MarkLemmas.{spelled_marks}
-use Rattle.ov_value.proofs.Standing.{begin_is, plain_can, marked_row_is}
+use Rattle.ov_value.specs.Spelling.{value_bytes, kept, marks}
+use Rattle.ov_value.specs.Decoding.{CanRead, nulls_of, body_of, row_of, AreRow}
+use Rattle.ov_value.proofs.MarkLemmas.{spelled_marks, marked_row}
+use Rattle.ov_value.proofs.Decoded.{can_read}
+use Rattle.ov_value.proofs.Standing.{begin_is, plain_can}
 
--- an int in front has eight bytes
-pub int_long : (bytes : List ℕ) → Begins kind.Int bytes (front_value kind.Int bytes) (front_rest kind.Int bytes) → 8 ≤ length bytes
-int_long bytes b = omega (arith, ap (λ (l : List ℕ). length l) b.bytes_are)
-
-pub flag_long : (bytes : List ℕ) → Begins kind.Flag bytes (front_value kind.Flag bytes) (front_rest kind.Flag bytes) → 1 ≤ length bytes
-flag_long bytes b = omega (arith, ap (λ (l : List ℕ). length l) b.bytes_are)
+pub can_row : (columns : List Column) (marked : Bool) (bytes : List ℕ) → AreRow columns marked bytes → CanRead columns (nulls_of marked bytes) (body_of marked bytes)
+can_row columns false bytes are = plain_can columns bytes (row_of columns false bytes) are
+can_row columns true bytes are =
+    let row = row_of columns true bytes in
+    let width = length (kept row) in
+    let nulls = marks (kept row) in
+    let rest = flat_map value_bytes row in
+    let begin = (spelled_marks columns bytes row are).1 in
+    let is = begin_is bytes width nulls rest begin in
+    let can = can_read columns nulls rest row (marked_row columns bytes width nulls rest row begin are).lies in
+    subst (λ n. CanRead columns n (body_of true bytes)) (sym is.0) (subst (λ (l : List ℕ). CanRead columns nulls l) (sym is.1) can)

@@ -1,25 +1,24 @@
 -- The row of bytes as a function: it is the row that has the bytes, and it is found from the left.
-use Rattle.std.proofs.Common.{◌≡◌, ◌≢◌, ◌<◌, ◌≤◌, ◌+◌, ◌*◌, ◌/◌, ◌%◌, ◌==◌, ◌||◌, ◌^◌, ℕ, suc, Bool, true, false, cond, List, [], ◌∷◌, ◌++◌, length, take, drop, get_or, refl, sym, ◌∙◌, ap, subst, arith, add-one, length-append}
+use Rattle.std.proofs.Common.{◌≡◌, ◌≢◌, ◌<◌, ◌≤◌, ◌+◌, ◌*◌, ◌/◌, ◌%◌, ◌==◌, ◌||◌, ℕ, suc, Bool, true, false, cond, List, [], ◌∷◌, ◌++◌, length, take, drop, get_or, refl, sym, ◌∙◌, ap, subst, arith, add-one}
 use Rattle.std.proofs.Math.Seq.{drop-cons}
 use Rattle.std.proofs.Math.Facts.{Fits-of_z}
-use Rattle.std.specs.List.{flat_map, AllByRecursion}
-use Rattle.std.specs.Int.{w32, w64, from_be_bytes, to_be_bytes, cast_signed, cast_unsigned}
+use Rattle.std.specs.List.{flat_map}
+use Rattle.std.specs.Int.{w64, from_be_bytes, to_be_bytes, cast_signed, cast_unsigned}
 use Rattle.std.proofs.lemmas.Nat.{from_be_bytes-to_be_bytes_8}
 use Rattle.std.proofs.lemmas.Int.{to_z-of_z}
 use Rattle.std.proofs.lemmas.Bool.{eqb-true, eqb-false, false_from_ne_true}
 use Rattle.std.proofs.lemmas.List.{nil_from_length, drop_all}
-use mathlib.Core.Bool.{true≢false}
 use Rattle.ov_value.specs.declared.column.Column.{Column}
 use Rattle.ov_value.specs.declared.column.Kind.{Kind}
 use Rattle.ov_value.specs.declared.column.Kind.TheVariants as kind
 use Rattle.ov_value.specs.declared.value.Value.{Value}
 use Rattle.ov_value.specs.declared.value.Value.TheVariants.{Int, Text, Flag, Null}
-use Rattle.ov_value.specs.Rows.{is_null, IsOfKind, HasKinds}
+use Rattle.ov_value.specs.Rows.{is_null}
 use Rattle.ov_value.specs.Spelling.{value_bytes, kept_with, kept, marks}
-use Rattle.ov_value.specs.Reading.{Begins, Steps, Lies, HasSpelling}
+use Rattle.ov_value.specs.Reading.{Begins, Steps, Lies}
 use Rattle.ov_value.specs.Decoding.{front_value, front_rest, step_value, step_rest, decoded, CanRead, text_len}
 use Rattle.ov_value.proofs.KeptLemmas.{null_is, flat_map-kept}
-use Rattle.ov_value.proofs.Parts.{text_front, null_front, begins_of, not_zero, lies_front, lies_end}
+use Rattle.ov_value.proofs.Parts.{text_front, null_front, begins_of, lies_front, lies_end}
 
 -- what stands in front is what the bytes decode to
 pub front_is : (k : Kind) (bytes : List ℕ) (v : Value) (r : List ℕ) → Begins k bytes v r → (v ≡ front_value k bytes) × (r ≡ front_rest k bytes)
@@ -147,13 +146,15 @@ pub nothing_left : (columns : List Column) → CanRead columns 0 [] × (kept (de
 nothing_left [] = (record { kinds = tt; spelled = tt; marked = refl; bytes_are = refl }, refl)
 nothing_left (column ∷ columns) =
     let rest = nothing_left columns in
-    let none : kept (decoded (column ∷ columns) 0 []) ≡ [] = ap (kept_with Null) rest.1 in
-    (record {
-      kinds = (tt, rest.0.kinds);
-      spelled = ((tt, tt), rest.0.spelled);
-      marked = ap marks none;
-      bytes_are = rest.0.bytes_are;
-    }, none)
+    let none : kept (decoded (column ∷ columns) 0 []) ≡ [] = ap (kept_with Null) rest.1 in (
+      record {
+        kinds = (tt, rest.0.kinds);
+        spelled = ((tt, tt), rest.0.spelled);
+        marked = ap marks none;
+        bytes_are = rest.0.bytes_are;
+      },
+      none,
+    )
 
 pub none_marked : (columns : List Column) (nulls : ℕ) → CanRead columns nulls [] → nulls ≡ 0
 none_marked columns nulls can =

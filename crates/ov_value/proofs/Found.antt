@@ -1,15 +1,13 @@
 -- Bytes with a value of a kind in front.
-use Rattle.std.proofs.Common.{◌≡◌, ◌<◌, ◌≤◌, ◌+◌, ◌==◌, ◌^◌, ℕ, zero, suc, true, false, Fits, IsUtf8, List, [], ◌∷◌, ◌++◌, length, take, drop, get_or, refl, sym, ◌∙◌, ap, subst, arith, append_assoc, length-take}
-use Rattle.std.specs.Int.{w32, w64, from_be_bytes, to_be_bytes, cast_signed, cast_unsigned}
-use Rattle.std.proofs.lemmas.Nat.{be_bytes_4, be_bytes_8}
+use Rattle.std.proofs.Common.{◌≡◌, ◌<◌, ◌≤◌, ◌^◌, ℕ, Fits, List, ◌++◌, length, take, drop, refl, sym, ◌∙◌, ap, arith, length-take}
+use Rattle.std.specs.Int.{w64, from_be_bytes, to_be_bytes, cast_signed, cast_unsigned}
+use Rattle.std.proofs.lemmas.Nat.{be_bytes_8}
 use Rattle.std.proofs.lemmas.Int.{of_z-to_z}
 use Rattle.std.proofs.Math.Facts.{sfits_to_z}
 use Rattle.std.proofs.lemmas.List.{take-append-drop}
 use Rattle.ov_value.specs.declared.column.Kind.TheVariants as kind
-use Rattle.ov_value.specs.declared.value.Value.{Value}
-use Rattle.ov_value.specs.declared.value.Value.TheVariants.{Int, Text, Flag, Null}
 use Rattle.ov_value.specs.Reading.{Begins}
-use Rattle.ov_value.specs.Decoding.{front_value, text_len}
+use Rattle.ov_value.specs.Decoding.{front_value}
 use Rattle.ov_value.proofs.LowBytes.{AreBytes, take_fits}
 
 pub int_found : (bytes : List ℕ) → AreBytes bytes → 8 ≤ length bytes → Begins kind.Int bytes (front_value kind.Int bytes) (drop 8 bytes)

@@ -1,19 +1,19 @@
 -- Rows of bytes with marks and without, and which of their values are NULL.
-use Rattle.std.proofs.Common.{◌≡◌, ◌≢◌, ◌<◌, ◌≤◌, ◌+◌, ◌*◌, ◌/◌, ◌%◌, ◌==◌, ◌^◌, ◌&&◌, nat_lt, ℕ, zero, suc, Bool, true, false, cond, IsTrue, List, [], ◌∷◌, ◌++◌, length, take, drop, get_or, refl, sym, ◌∙◌, ap, subst, arith, get_or-take, eqb, inl, inr}
+use Rattle.std.proofs.Common.{◌≡◌, ◌≢◌, ◌<◌, ◌≤◌, ◌+◌, ◌*◌, ◌/◌, ◌%◌, ◌^◌, ℕ, zero, suc, Bool, true, false, cond, IsTrue, List, [], ◌∷◌, ◌++◌, length, take, get_or, refl, sym, ◌∙◌, ap, subst, arith, get_or-take, eqb, inl, inr}
 use Rattle.std.specs.List.{flat_map, list_any, All}
-use Rattle.std.proofs.lemmas.Bool.{eqb-true, eqb-false, false_from_ne_true, true_from_ne_false, cases_lt, lt-ltb, le-ltb}
+use Rattle.std.proofs.lemmas.Bool.{eqb-true, false_from_ne_true, cases_lt, lt-ltb, le-ltb}
 use Rattle.std.proofs.lemmas.Nat.{shr-shr}
 use Rattle.std.proofs.lemmas.List.{take_at, drop_at}
-use mathlib.Core.Bool.{true≢false, false≢true}
+use mathlib.Core.Bool.{true≢false}
 use Rattle.ov_value.specs.declared.column.Column.{Column}
 use Rattle.ov_value.specs.declared.value.Value.{Value}
 use Rattle.ov_value.specs.declared.value.Value.TheVariants.{Int, Text, Flag, Null}
 use Rattle.ov_value.specs.Shapes.{Shape}
 use Rattle.ov_value.specs.Rows.{is_null, value_at}
-use Rattle.ov_value.specs.Spelling.{value_bytes, kept_with, kept, marks, low_bytes, mark_bytes, IsSpelling, IsRow}
-use Rattle.ov_value.specs.Reading.{Lies, Spelled, AreMarks, BeginWithMarks, low_number}
+use Rattle.ov_value.specs.Spelling.{value_bytes, kept_with, kept, marks, low_bytes, IsSpelling, IsRow}
+use Rattle.ov_value.specs.Reading.{Spelled, BeginWithMarks, low_number}
 use Rattle.ov_value.specs.Decoding.{decoded, CanRead, nulls_of, body_of, row_of, AreRow, stands}
-use Rattle.ov_value.proofs.KeptLemmas.{null_is, kept-take, length-kept}
+use Rattle.ov_value.proofs.KeptLemmas.{kept-take}
 use Rattle.ov_value.proofs.LowBytes.{length-low_bytes, low_number-low_bytes}
 use Rattle.ov_value.proofs.MarkLemmas.{marks_some, mark_bytes_none, plain_lies, spelled_marks, marked_row, marked_spelled, row_spelled, spelled_row}
 use Rattle.ov_value.proofs.Decoded.{lies_decoded, can_read}
@@ -42,9 +42,10 @@ plain_can columns bytes row spelled = can_read columns 0 bytes row (plain_lies c
 pub begin_is : (bytes : List ℕ) (width nulls : ℕ) (rest : List ℕ) → BeginWithMarks bytes width nulls rest → (nulls_of true bytes ≡ nulls) × (body_of true bytes ≡ rest)
 begin_is bytes width nulls rest begin =
     let front : take ((width + 7) / 8) (low_bytes ((width + 7) / 8) nulls ++ rest) ≡ low_bytes ((width + 7) / 8) nulls =
-    take_at (low_bytes ((width + 7) / 8) nulls) rest ((width + 7) / 8) (length-low_bytes ((width + 7) / 8) nulls) in
-    (ap (λ (l : List ℕ). nulls_of true l) begin.bytes_are ∙ ap low_number front ∙ low_number-low_bytes ((width + 7) / 8) nulls begin.small,
-      ap (λ (l : List ℕ). body_of true l) begin.bytes_are ∙ drop_at (low_bytes ((width + 7) / 8) nulls) rest ((width + 7) / 8) (length-low_bytes ((width + 7) / 8) nulls))
+    take_at (low_bytes ((width + 7) / 8) nulls) rest ((width + 7) / 8) (length-low_bytes ((width + 7) / 8) nulls) in (
+      ap (λ (l : List ℕ). nulls_of true l) begin.bytes_are ∙ ap low_number front ∙ low_number-low_bytes ((width + 7) / 8) nulls begin.small,
+      ap (λ (l : List ℕ). body_of true l) begin.bytes_are ∙ drop_at (low_bytes ((width + 7) / 8) nulls) rest ((width + 7) / 8) (length-low_bytes ((width + 7) / 8) nulls),
+    )
 
 pub marked_row_is : (columns : List Column) (bytes : List ℕ) (width nulls : ℕ) (rest : List ℕ) → BeginWithMarks bytes width nulls rest → row_of columns true bytes ≡ decoded columns nulls rest
 marked_row_is columns bytes width nulls rest begin =
@@ -56,8 +57,8 @@ pub marked_are : (columns : List Column) (bytes : List ℕ) (width nulls : ℕ) 
 marked_are columns bytes width nulls rest begin can wide some =
     subst (λ (r : List Value). Spelled columns true bytes r) (sym (marked_row_is columns bytes width nulls rest begin))
     (marked_spelled columns bytes width nulls rest (decoded columns nulls rest) begin
-      (record { kinds = can.kinds; spelled = can.spelled; bytes_are = can.bytes_are; plain = λ e. absurd (some e) })
-      (record { width_is = sym wide; some = some; marks_are = can.marked }))
+    (record { kinds = can.kinds; spelled = can.spelled; bytes_are = can.bytes_are; plain = λ e. absurd (some e) })
+    (record { width_is = sym wide; some = some; marks_are = can.marked }))
 
 -- a row that the bytes spell meets what is asked of marks
 pub record Meets (columns : List Column) (width nulls : ℕ) (rest : List ℕ) : Type 0 where
@@ -160,6 +161,8 @@ pub test_only : (schema : Shape) (marked : Bool) (bytes : List ℕ) (k n : ℕ) 
     → All (λ place. IsTrue (stands k n place)) schema.key × (row ≡ row_of schema.columns marked bytes)
 test_only schema marked bytes k n row is spelling kept_is nulls_is =
     let same = row_is schema.columns marked bytes row (row_spelled schema marked bytes row is spelling) in
-    let all = (all_stand_is row schema.key).1 is.fits.keyed in
-    (subst (λ m. All (λ place. IsTrue (stands k m place)) schema.key) (ap (λ (r : List Value). marks (kept r)) same ∙ sym nulls_is)
-      (subst (λ m. All (λ place. IsTrue (stands m (marks (kept row)) place)) schema.key) (ap (λ (r : List Value). length (kept r)) same ∙ sym kept_is) all), same)
+    let all = (all_stand_is row schema.key).1 is.fits.keyed in (
+      subst (λ m. All (λ place. IsTrue (stands k m place)) schema.key) (ap (λ (r : List Value). marks (kept r)) same ∙ sym nulls_is)
+          (subst (λ m. All (λ place. IsTrue (stands m (marks (kept row)) place)) schema.key) (ap (λ (r : List Value). length (kept r)) same ∙ sym kept_is) all),
+      same,
+    )

@@ -1,5 +1,4 @@
 -- What a cell that lies in bytes is of a row.
-use Rattle.std.specs.Prelude.{List}
 use Rattle.ov_value.specs.declared.cell.CellRef.{CellRef}
 use Rattle.ov_value.specs.declared.cell.CellRef.TheVariants as cell
 use Rattle.ov_value.specs.declared.value.Value.{Value}

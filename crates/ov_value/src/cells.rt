@@ -139,7 +139,10 @@ fn text_at(bytes: &[u8]) -> (CellRef<'_>, &[u8])
     let len = u32::from_be_bytes([front[0], front[1], front[2], front[3]]) as usize;
     let (text, rest) = rest.split_at(len);
     // SAFETY: the bytes of a text that stands in a row are UTF-8.
-    (CellRef::Text(unsafe { str::from_utf8_unchecked(text) }), rest)
+    (
+        CellRef::Text(unsafe { str::from_utf8_unchecked(text) }),
+        rest,
+    )
 }
 
 fn flag_at(bytes: &[u8]) -> (CellRef<'_>, &[u8])

@@ -1,7 +1,6 @@
-use Rattle.std.proofs.Common.{◌≡◌, List, length, sym, ap, ◌∙◌}
+use Rattle.std.proofs.Common.{List, length, sym, ap, ◌∙◌}
 use Rattle.ov_value.specs.declared.value.Value.{Value}
 use Rattle.ov_value.specs.Spelling.{kept, marks}
-use Rattle.ov_value.specs.Decoding.{row_of, decoded}
 use Rattle.ov_value.proofs.MarkLemmas.{spelled_marks}
 use Rattle.ov_value.proofs.Standing.{marked_row_is, marked_are, meets}
 use Rattle.ov_value.proofs.test.marks_of_marked.Goals.{else-kept-width-via-then-kept-width+else-nulls-ne0, else-kept-width-via-else-kept-width}

@@ -1,4 +1,4 @@
-use Rattle.std.proofs.Common.{false, subst}
+use Rattle.std.proofs.Common.{subst}
 use Rattle.ov_value.specs.Reading.{Spelled}
 use Rattle.ov_value.proofs.Standing.{plain_row, plain_can}
 use Rattle.ov_value.proofs.test.marks_of_row.Goals as goal
