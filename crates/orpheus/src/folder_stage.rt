@@ -41,7 +41,7 @@ fn find_regular(rt: HostRuntime, name: &str) -> io::Result<Option<File>> {
 /// A stage whose names are paths from the folder in which the program was started. It tells no files.
 ///
 /// A name that leads to no regular file is missing. What fails in another way is a failure. A file that is created is
-/// empty at once, and is settled when it is finished.
+/// empty at once. It isn't synced when it is finished, since no reply promises that it is on the disk.
 #[derive(Drop)]
 pub struct FolderStage {
     rt: HostRuntime,
@@ -102,7 +102,7 @@ impl Stage for FolderStage {
 
     fn finish(&mut self) -> Result<(), Failed> {
         match self.writing.take() {
-            Some(file) => self.faults.checked(file.sync_all()),
+            Some(_file) => Ok(()),
             None => unreachable!(),
         }
     }

@@ -1,7 +1,8 @@
 //! Sets of record ids. A version's records are such a set, which is kept and written as ranges of rids.
-//! [`Members`] is a set, and [`read_list`] reads one from its bytes.
+//! [`Members`] is a set, [`read_list`] reads one from its bytes, and [`Ahead`] walks over one beside ascending rids.
 #![tactic(auto)]
 
+mod ahead;
 mod edges;
 mod laws;
 mod list_bytes;
@@ -9,6 +10,7 @@ mod lists;
 mod members;
 mod walk;
 
+pub use ahead::Ahead;
 pub use laws::{one_reading, one_spelling, parts_of_set, same_set};
 pub use list_bytes::ListBytes;
 pub use lists::read_list;

@@ -1,11 +1,12 @@
 //! A set of record ids.
 
-ghost use Rattle.std.specs.Prelude.{◌≡◌, ◌≤◌, ◌^◌, [], length, IfOk, MatchOption};
+ghost use Rattle.std.specs.Prelude.{◌≡◌, ◌≤◌, ◌^◌, ℕ, [], length, IfOk, MatchOption};
 ghost use Rattle.std.specs.Option.{SomeIff};
 ghost use Rattle.ov_member.specs.Rids.{AreRids, has, shared, left_out, IsGreatest, IsUnion};
 ghost use Rattle.ov_member.specs.Lists.{spelling, Spells};
-ghost use Rattle.ov_member.specs.Edges.{AreEdges, rids_between};
+ghost use Rattle.ov_member.specs.Edges.{AreEdges, rids_between, status};
 
+use crate::ahead::Ahead;
 use crate::list_bytes::ListBytes;
 use crate::walk::Rule;
 use crate::{edges, lists, walk};
@@ -100,6 +101,16 @@ impl Members {
         ensures { result ≡ has self.now rid }
     {
         edges::contains(&self.edges, rid)
+    }
+
+    /// A walk over the set, before its least rid.
+    pub fn ahead(&self) -> Ahead<'_>
+        ensures { (n : ℕ) → status result.inside result.edges.now n ≡ has self.now n }
+    {
+        Ahead {
+            inside: false,
+            edges: &self.edges,
+        }
     }
 
     /// The greatest rid; `None` where there is no rid.

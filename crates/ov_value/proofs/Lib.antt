@@ -6,3 +6,7 @@ pub mod Parts
 pub mod Columns
 pub mod MarkLemmas
 pub mod Fronts
+pub mod Decoded
+pub mod Found
+pub mod Standing
+pub mod CellLemmas

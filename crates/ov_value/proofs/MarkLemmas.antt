@@ -51,7 +51,7 @@ marks-small xs =
 mark_bytes_some : (xs : List Value) → list_any is_null xs ≡ true → mark_bytes xs ≡ length xs ∷ low_bytes ((length xs + 7) / 8) (marks xs)
 mark_bytes_some xs e = rw e refl
 
-mark_bytes_none : (xs : List Value) → list_any is_null xs ≡ false → mark_bytes xs ≡ []
+pub mark_bytes_none : (xs : List Value) → list_any is_null xs ≡ false → mark_bytes xs ≡ []
 mark_bytes_none xs e = rw e refl
 
 pub length-mark_bytes : (xs : List Value) → list_any is_null xs ≡ true → 1 + (length xs + 7) / 8 ≡ length (mark_bytes xs)

@@ -19,7 +19,7 @@ use Rattle.ov_value.specs.Reading.{Begins, Steps, Lies}
 use Rattle.ov_value.proofs.KeptLemmas.{null_is, flat_map-kept}
 
 -- the bytes of a text in front are as many as the number before them
-text_front : (bytes text rest : List ℕ) (n : ℕ) → length text < 2 ^ 32 → bytes ≡ value_bytes (Text text) ++ rest → n ≡ from_be_bytes w32 (take 4 bytes)
+pub text_front : (bytes text rest : List ℕ) (n : ℕ) → length text < 2 ^ 32 → bytes ≡ value_bytes (Text text) ++ rest → n ≡ from_be_bytes w32 (take 4 bytes)
     → (n ≡ length text) × (take n (drop 4 bytes) ≡ text) × (drop n (drop 4 bytes) ≡ rest)
 text_front bytes text rest n short e is =
     let front : take 4 bytes ≡ to_be_bytes w32 (length text) = ap (take 4) e in
@@ -87,7 +87,7 @@ begins_of k null bytes v r step e = record {
   bytes_are = step.bytes_are;
 }
 
-null_front : (k : Kind) (null : Bool) (bytes : List ℕ) (v : Value) (r : List ℕ) → Steps k null bytes v r → is_null v ≡ true → (v ≡ Null) × (bytes ≡ r)
+pub null_front : (k : Kind) (null : Bool) (bytes : List ℕ) (v : Value) (r : List ℕ) → Steps k null bytes v r → is_null v ≡ true → (v ≡ Null) × (bytes ≡ r)
 null_front k null bytes v r step e =
     let is : v ≡ Null = null_is v e in
     (is, step.bytes_are ∙ ap (λ (w : Value). value_bytes w ++ r) is)
@@ -108,7 +108,7 @@ steps_same k null bytes v r w s step other = by (is_null v) refl
 
 -- ---- rows
 
-not_zero : (n : ℕ) → (suc n == 0) ≡ false
+pub not_zero : (n : ℕ) → (suc n == 0) ≡ false
 not_zero n = false_from_ne_true (suc n == 0) (λ e. let z : suc n ≡ 0 = eqb-true (suc n) 0 e in omega arith)
 
 even : (n : ℕ) → ((0 + 2 * n) % 2 == 1 ≡ false) × ((0 + 2 * n) / 2 ≡ n)

@@ -6,3 +6,5 @@ pub mod Order
 pub mod Spelling
 pub mod Reading
 pub mod Texts
+pub mod Decoding
+pub mod Cells

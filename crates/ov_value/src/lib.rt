@@ -7,6 +7,8 @@
 //! the positions of its key columns. The definitions stand in `specs/`.
 #![tactic(auto)]
 
+mod cell;
+mod cells;
 mod column;
 mod kept;
 mod laws;
@@ -20,10 +22,14 @@ mod schema_err;
 mod short;
 mod sorting;
 mod spelled;
+mod test;
 mod txt;
 mod value;
+mod walk;
 mod writing;
 
+pub use cell::CellRef;
+pub use cells::Cells;
 pub use column::{Column, Kind};
 pub use laws::{key_order, null_at_the_end, one_row};
 pub use names::{is_column_name, is_name};
@@ -33,6 +39,7 @@ pub use schema::Schema;
 pub use schema_err::SchemaErr;
 pub use sorting::sort_by_key;
 pub use spelled::{Bytes, RowBytes};
+pub use test::spells_row;
 pub use txt::Txt;
 pub use value::Value;
 pub use writing::{LONGEST_ROW, append_row, is_marked, row_bytes, row_len};

@@ -48,7 +48,7 @@ fn are_marks(values: &[Value], width: usize, nulls: u64) -> bool
 }
 
 // The number of values that are marked, at most so many, the marks as a number, and what stands behind them.
-fn marks_at(most: usize, bytes: &[u8]) -> Option<(usize, u64, &[u8])>
+pub(crate) fn marks_at(most: usize, bytes: &[u8]) -> Option<(usize, u64, &[u8])>
     requires { most ≤ 64 }
     ensures found { IfSome result (λ x. (x.0 ≤ most) × BeginWithMarks bytes.now x.0 x.1 x.2.now) }
     ensures none { IfNone result
