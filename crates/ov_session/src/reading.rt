@@ -3,7 +3,6 @@ ghost use Rattle.std.specs.Prelude.{◌≡◌, ◌≤◌, ◌+◌, ℕ, List, tr
 ghost use Rattle.ov_host.specs.Host.{Rose, State};
 ghost use Rattle.ov_model.specs.Act.{Session, checkout_deed, gives, log_deed, ls_line, merge_of, tells};
 ghost use Rattle.ov_model.specs.World.{World, Dataset, set_named};
-ghost use Rattle.ov_model.specs.declared.command.Command.TheVariants as asks;
 ghost use Rattle.ov_model.specs.declared.reply.Reply.TheVariants as says;
 ghost use Rattle.ov_core.specs.AtWorld.{IsAtWorld};
 ghost use Rattle.law_runs.specs.Serving.{session_of};
@@ -12,7 +11,7 @@ ghost use Rattle.ov_store.specs.Scanning.{IsDamagedIn, IsUndamaged, IsUnscanned,
 ghost use Rattle.ov_store.specs.declared.errors.StoreErr.{StoreErr as StoreErrValue};
 ghost use Rattle.ov_session.specs.Bounds.{bytes_in};
 ghost use Rattle.ov_session.specs.Standing.{IsIdle};
-ghost use Rattle.ov_session.specs.Commands.{Acts, Attended, IfNoFile, IsDamageOf, IsDamaged, IsMergeOf, IsNoDamage, IsNoHost};
+ghost use Rattle.ov_session.specs.Commands.{Acts, Attended, IfNoFile, IsDamageOf, IsMergeOf, IsNoDamage, IsNoHost, IsScanDamaged};
 
 use crate::errors::{EndErr, refused};
 use ov_checkout::{Checkout, checkout_of};
@@ -98,10 +97,9 @@ pub fn checkout<H: Host, T: Stage>(
     ensures attended { Attended (T.staged stage.old) (T.staged stage.new) }
     ensures cause { IsErrOf result EndErr.Host → Rose (H.state host.old).faults (H.state host.new).faults }
     ensures stage { IsErrOf result EndErr.Stage → Rose (T.staged stage.old).faults (T.staged stage.new).faults }
-    ensures damaged { IfErr result (IsDamageOf (IsDamaged (asks.Checkout cvd vids.now file None) (T.staged stage.old) store.now.held
-        (H.state host.new))) }
+    ensures damaged { IfErr result (IsDamageOf (IsScanDamaged cvd vids.now store.now.held (H.state host.new))) }
     ensures whole { (page : ℕ) → (H.state host.old).tells ≡ true
-        → OnOk result (IsDamaged (asks.Checkout cvd vids.now file None) (T.staged stage.old) store.now.held (H.state host.old) page → ⊥) }
+        → OnOk result (IsScanDamaged cvd vids.now store.now.held (H.state host.old) page → ⊥) }
     ensures undamaged { (w : World) → IsAtWorld w store.now.held (H.state host.old) → IfErr result IsNoDamage }
     ensures seen { IfOk result (IfNoFile ⊥) }
     ensures idle { IfErr result (λ why. IsIdle why store.now store.now (T.staged stage.old) (T.staged stage.new) (H.state host.old) (H.state host.new)) }

@@ -17,7 +17,7 @@ use Rattle.ov_files.specs.Files.{file_rows}
 use Rattle.ov_value.specs.Shapes.{Shape}
 use Rattle.ov_core.specs.Held.{Held, IsByJournal}
 use Rattle.ov_model.specs.Book.{Row}
-use Rattle.ov_model.specs.Forms.{built_forms}
+use Rattle.ov_model.specs.BuiltShapes.{served_forms}
 use Rattle.ov_model.specs.Line.{Asks, Refused, line_of}
 use Rattle.ov_model.specs.Users.{line_by}
 use Rattle.ov_model.specs.Words.{lines_of}
@@ -45,7 +45,7 @@ use Rattle.ov_top.proofs.Lined.{kept_line, long_line}
 pub line_kept : (user x kept line : List ℕ) → user ≡ codes "admin" → x ≡ kept → kept ≡ take 65537 line → line_asked user x ≡ line_of_run line
 line_kept user x kept line first value keeps =
     ap (λ (u : List ℕ). line_asked u x) first
-    ∙ ap (line_by (codes "admin")) (ap (line_of built_forms) (value ∙ keeps) ∙ kept_line line)
+    ∙ ap (line_by (codes "admin")) (ap (line_of served_forms) (value ∙ keeps) ∙ kept_line line)
 
 -- a line that asks for something was kept whole
 asked_whole : (x line : List ℕ) (command : Command) → x ≡ take 65537 line → line_of_run x ≡ Asks command → x ≡ line
