@@ -1,17 +1,15 @@
 -- A query on its way to its reply.
---     IsPermittedBy user asked permitted      a query that its user may ask, or refused whatever the store has
+--     IsPermittedBy user asked permitted      a query that its user may ask, or a refusal whatever the store has
 --     IsThere source set      the dataset is there, with the versions that the source lists
 --     HasSchema schema set      it is there, and has this schema
 use Rattle.std.specs.Prelude.{◌≡◌, ℕ, List, [], ◌∷◌, length, Option, Some, None}
-use Rattle.ov_host.specs.declared.area.Extent.{Extent}
-use Rattle.ov_catalog.specs.Numbers.{Numbers}
 use Rattle.ov_model.specs.Asking.{lineages_of, listed_refusal, name_read}
 use Rattle.ov_model.specs.QueryTexts.{Asked, AsksQuery}
 use Rattle.ov_model.specs.Users.{permit_names}
 use Rattle.ov_model.specs.declared.query.Query.{Query}
 use Rattle.ov_model.specs.declared.query.Src.{Src}
 use Rattle.ov_value.specs.Shapes.{Shape}
-use Rattle.ov_query.specs.Queries.{Set, asked_off}
+use Rattle.ov_query.specs.Queries.{Set, text_off}
 use Rattle.ov_query.specs.declared.permitting.Permitted.{Permitted}
 use Rattle.ov_query.specs.declared.permitting.Permitted.TheVariants as permitted
 
@@ -22,7 +20,7 @@ pub record IsPermittedQuery (user : List ℕ) (asked : Asked) (query : Query) : 
 
 abbrev pub IsPermittedBy : List ℕ → Asked → Permitted → Type 0
 IsPermittedBy user asked (permitted.Query query) = IsPermittedQuery user asked query
-IsPermittedBy user asked (permitted.Refused refusal) = (n : Numbers Extent Extent) → asked_off n user asked ≡ Some refusal
+IsPermittedBy user asked (permitted.Refused refusal) = text_off user asked ≡ Some refusal
 
 abbrev pub IsThere : Src → Option Set → Type 0
 IsThere source None = ⊥

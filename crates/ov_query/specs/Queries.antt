@@ -39,18 +39,24 @@ abbrev pub refusal_in : {X : Type 0} → Result X Refusal → Option Refusal
 refusal_in (Ok x) = None
 refusal_in (Err refusal) = Some refusal
 
--- of a dataset with these numbers, where it is there
+-- 40, 41 and 71, which the store has no part in; no join is built
+abbrev pub text_off : List ℕ → Asked → Option Refusal
+text_off user (BadByte at) = Some (no.BadByte at)
+text_off user NoQuery = Some no.NotAQuery
+text_off user (AsksQuery query) = permit_names user (name_read query.source ∷ [])
+text_off user (AsksJoin join) = Some no.NotAQuery
+
+-- of a dataset with these numbers, where it is there: 10, then 12 and 13, then 42 to 45
 abbrev pub set_off : Query → Option Set → Option Refusal
 set_off query None = Some (no.NoCvd (name_read query.source))
 set_off query (Some set) = option_or (query_refusal (length set.versions) query) (refusal_in (kinds query set.schema))
 
--- no join is built
+abbrev pub numbers_off : Numbers Extent Extent → Asked → Option Refusal
+numbers_off n (AsksQuery query) = set_off query (set_in n (name_read query.source))
+numbers_off n _ = None
+
 abbrev pub asked_off : Numbers Extent Extent → List ℕ → Asked → Option Refusal
-asked_off n user (BadByte at) = Some (no.BadByte at)
-asked_off n user NoQuery = Some no.NotAQuery
-asked_off n user (AsksQuery query) =
-    option_or (permit_names user (name_read query.source ∷ [])) (set_off query (set_in n (name_read query.source)))
-asked_off n user (AsksJoin join) = Some no.NotAQuery
+asked_off n user asked = option_or (text_off user asked) (numbers_off n asked)
 
 abbrev pub query_off : Numbers Extent Extent → List ℕ → List ℕ → Option Refusal
 query_off n user text = asked_off n user (taken (asked_of text))
