@@ -38,7 +38,7 @@ use Rattle.ov_store.specs.declared.errors.StoreErr.TheVariants as why
 some_end : (a b : EndErr) → Some a ≡ Some b → IsNoDamage a → IsNoDamage b
 some_end a b is fine = subst IsNoDamage (ap (λ o. elim o as (λ _. EndErr) [ None ↦ a | Some x ↦ x ]) is) fine
 
-end_spared : (off : StoreErr) (e : EndErr) → end_of off ≡ Some e → IsUndamaged off → IsNoDamage e
+pub end_spared : (off : StoreErr) (e : EndErr) → end_of off ≡ Some e → IsUndamaged off → IsNoDamage e
 end_spared why.Host e is fine = some_end ending.Host e is tt
 end_spared why.Memory e is fine = some_end ending.Memory e is tt
 end_spared (why.Damaged area at) e is fine = absurd fine
