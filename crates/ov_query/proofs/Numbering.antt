@@ -59,7 +59,7 @@ module _ (query : Query) (plain : lineages_of query ≡ []) (set : Set) where
     where
       by : (r : Result (List Kind) Refusal) → IsOk r → refusal_in r ≡ None
       by (Ok of) fits = refl
-      by (Err refusal) fits = absurd fits
+      by (Err refusal) fits = absurd cc
 
   -- what isn't refused: its versions are there, and it has kinds
   left_none : (a b : Option Refusal) → option_or a b ≡ None → a ≡ None

@@ -11,13 +11,24 @@ ghost use Rattle.ov_model.specs.World.{Dataset, World, set_named};
 ghost use Rattle.ov_store.specs.Scanning.{IsDamagedIn, IsUndamaged, set_in};
 ghost use Rattle.ov_store.specs.declared.errors.StoreErr.TheVariants as why;
 ghost use Rattle.ov_terms.specs.Standing.{pairs_shown};
-ghost use Rattle.ov_query.specs.Answering.{IsThere};
+ghost use Rattle.ov_query.specs.Answering.{IsThere, version_refusal};
 ghost use Rattle.ov_query.specs.Queries.{IsUnread, Set, bytes_read, vids_read};
 
 use ov_fetch::Scan;
 use ov_host::Host;
 use ov_model::{Refusal, Src};
 use ov_store::{Store, StoreErr};
+
+// The refusal of a version, and any other error as it is.
+fn refusal_by(off: StoreErr) -> Result<Refusal, StoreErr>
+    ensures { result ≡ version_refusal off }
+{
+    match off {
+        StoreErr::NoVersion { vid } => Ok(Refusal::NoVersion { vid }),
+        StoreErr::RepeatedVersion { vid } => Ok(Refusal::RepeatedVersion { vid }),
+        off => Err(off),
+    }
+}
 
 /// The first refusal of the versions that a source lists of a dataset that is there: per version from the left 12, 13.
 pub(crate) fn refused_version(store: &Store, source: &Src) -> Result<Option<Refusal>, StoreErr>
@@ -31,9 +42,7 @@ pub(crate) fn refused_version(store: &Store, source: &Src) -> Result<Option<Refu
     };
     match store.may_scan(cvd.as_str(), vids.as_slice()) {
         Ok(()) => Ok(None),
-        Err(StoreErr::NoVersion { vid }) => Ok(Some(Refusal::NoVersion { vid })),
-        Err(StoreErr::RepeatedVersion { vid }) => Ok(Some(Refusal::RepeatedVersion { vid })),
-        Err(off) => Err(off),
+        Err(off) => Ok(Some(refusal_by(off)?)),
     }
 }
 
