@@ -39,10 +39,10 @@ use Rattle.ov_store.specs.Kept.{Kept}
 
 -- ---- a command
 
-abbrev done : Command → Result Command Refusal
+abbrev pub done : Command → Result Command Refusal
 done command = Ok command
 
-abbrev off : Refusal → Result Command Refusal
+abbrev pub off : Refusal → Result Command Refusal
 off refusal = Err refusal
 
 pub ok_err : (command : Command) (refusal : Refusal) → done command ≡ off refusal → ⊥
