@@ -125,10 +125,13 @@ built_are = (
     (
       commit_is,
       (
-        cvd_is (codes "log") asks.Log (λ cvd. tt),
+        run_is,
         (
-          cvd_is (codes "drop") asks.DropCvd (λ cvd. tt),
-          (alone_is (codes "ls") asks.Ls tt, tt),
+          cvd_is (codes "log") asks.Log (λ cvd. tt),
+          (
+            cvd_is (codes "drop") asks.DropCvd (λ cvd. tt),
+            (alone_is (codes "ls") asks.Ls tt, tt),
+          ),
         ),
       ),
     ),
