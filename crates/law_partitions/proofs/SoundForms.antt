@@ -1,14 +1,17 @@
 -- The forms of the commands, one by one: a commit's has an option `-v`, which it needs.
-use Rattle.std.proofs.Common.{◌≡◌, ℕ, true, false, List, [], ◌∷◌, refl}
-use Rattle.std.specs.Prelude.{codes, Ok}
+use Rattle.std.proofs.Common.{◌≡◌, ℕ, Bool, true, false, List, [], ◌∷◌, map, refl}
+use Rattle.std.specs.Prelude.{if◌then◌else◌, codes, Result, Ok, Err}
 use Rattle.ov_value.specs.Making.{schema_of}
 use Rattle.ov_value.specs.Naming.{is_name}
-use Rattle.ov_model.specs.Forms.{Choice, Values, text_in, columns_in, names_in, word_of, choice, or_schema_refusal, make_init, some_columns, before_in, own_in, alone, of_cvd, of_name, init_form, checkout_form, commit_staged_form, commit_form, run_form, optimize_form, advise_form, migrate_form, generate_form, unstage_form, file_or_table, may_have, all_forms, built_forms}
+use Rattle.ov_model.specs.BuiltShapes.{if_built, is_built_shape, made_if_built, served_form, served_forms}
+use Rattle.ov_model.specs.Forms.{Form, Choice, Values, text_in, columns_in, names_in, word_of, choice, or_schema_refusal, make_init, some_columns, before_in, own_in, alone, of_cvd, of_name, init_form, checkout_form, commit_staged_form, commit_form, run_form, optimize_form, advise_form, migrate_form, generate_form, unstage_form, file_or_table, may_have, all_forms, built_forms}
 use Rattle.ov_model.specs.Line.{has}
+use Rattle.ov_model.specs.QueryTexts.{asked_of}
 use Rattle.ov_model.specs.Values.{number_from}
 use Rattle.ov_model.specs.declared.command.Command.{Command}
 use Rattle.ov_model.specs.declared.command.Command.TheVariants as asks
 use Rattle.ov_model.specs.declared.given.Reading.TheVariants.{FileName, SchemaItems}
+use Rattle.ov_model.specs.declared.refusal.Refusal.{Refusal}
 use Rattle.ov_model.specs.declared.refusal.Refusal.TheVariants as no
 use Rattle.law_partitions.specs.Sound.{NamesVersions, AllNameVersions}
 use Rattle.law_partitions.proofs.SoundLines.{AllRead, MadeNames, IsForm, AreForms, no_blank, has_versions, first_there, commit_names, init_if, generate_if, optimize_names, lines_name}
@@ -146,18 +149,46 @@ built_are = (
     (
       commit_is [] tt,
       (
-        cvd_is (codes "log") asks.Log (λ cvd. tt),
+        run_is,
         (
-          cvd_is (codes "drop") asks.DropCvd (λ cvd. tt),
-          (alone_is (codes "ls") asks.Ls tt, tt),
+          cvd_is (codes "log") asks.Log (λ cvd. tt),
+          (
+            cvd_is (codes "drop") asks.DropCvd (λ cvd. tt),
+            (alone_is (codes "ls") asks.Ls tt, tt),
+          ),
         ),
       ),
     ),
   ),
 )
 
+-- ---- the forms that are served: a query of another shape is refused
+
+if_text : (t : Bool) (text : List ℕ) → MadeNames (if t then Ok (asks.Run text) else Err no.NotAQuery)
+if_text true text = tt
+if_text false text = tt
+
+if_names : (command : Command) → NamesVersions command → MadeNames (if_built command)
+if_names (asks.Run text) names = if_text (is_built_shape (asked_of text)) text
+if_names command names = names
+
+shaped_names : (made : Result Command Refusal) → MadeNames made → MadeNames (made_if_built made)
+shaped_names (Ok command) names = if_names command names
+shaped_names (Err refusal) names = tt
+
+served_is : (f : Form) → IsForm f → IsForm (served_form f)
+served_is f is = record {
+  reads = is.reads;
+  makes = λ v none good. shaped_names (f.make v) (is.makes v none good);
+  whole = λ e v. shaped_names (f.make v) (is.whole e v);
+}
+
+served_are : (fs : List Form) → AreForms fs → AreForms (map served_form fs)
+served_are [] are = tt
+served_are (f ∷ fs) are = (served_is f are.0, served_are fs are.1)
+
 pub all_name : (lines : List (List ℕ)) → AllNameVersions all_forms lines
 all_name lines = lines_name all_forms lines all_are
 
-pub built_name : (lines : List (List ℕ)) → AllNameVersions built_forms lines
-built_name lines = lines_name built_forms lines built_are
+pub served_name : (lines : List (List ℕ)) → AllNameVersions served_forms lines
+served_name lines = lines_name served_forms lines (served_are built_forms built_are)

@@ -3,7 +3,8 @@ ghost use Rattle.std.specs.Prelude.{◌≡◌, ◌-◌, ℕ, List, length, min, 
 ghost use Rattle.ov_model.specs.Act.{Session};
 ghost use Rattle.ov_model.specs.Deed.{deed};
 ghost use Rattle.ov_model.specs.Course.{Space, course, world_at};
-ghost use Rattle.ov_model.specs.Forms.{Form, all_forms, built_forms};
+ghost use Rattle.ov_model.specs.BuiltShapes.{served_forms};
+ghost use Rattle.ov_model.specs.Forms.{Form, all_forms};
 ghost use Rattle.ov_model.specs.Moves.{Move, moved};
 ghost use Rattle.ov_model.specs.Steps.{all_moved, next_step, next_steps, steps_left};
 ghost use Rattle.ov_model.specs.World.{World, empty_world};
@@ -36,8 +37,8 @@ pub fn commands_do_what_may_be_done()
 pub fn each_world_of_a_run_is_sound()
     ensures all { (steps : ℕ) (s : Session) (lines : List (List ℕ)) (space : Space) (k : ℕ)
         → IsSound (world_at empty_world (course all_forms steps empty_world s lines space).items k) }
-    ensures built { (steps : ℕ) (s : Session) (lines : List (List ℕ)) (space : Space) (k : ℕ)
-        → IsSound (world_at empty_world (course built_forms steps empty_world s lines space).items k) }
+    ensures served { (steps : ℕ) (s : Session) (lines : List (List ℕ)) (space : Space) (k : ℕ)
+        → IsSound (world_at empty_world (course served_forms steps empty_world s lines space).items k) }
     ensures kept { (forms : List Form) (steps : ℕ) (w : World) (s : Session) (lines : List (List ℕ)) (space : Space) (k : ℕ)
         → AllNameVersions forms lines → IsSound w → IsSound (world_at w (course forms steps w s lines space).items k) }
     ensures names { (lines : List (List ℕ)) → AllNameVersions all_forms lines }

@@ -9,7 +9,7 @@ use Rattle.ov_host.proofs.Stops.{only_then, only_wider}
 use Rattle.ov_model.specs.Act.{Deed, Session, refuses, unless}
 use Rattle.ov_model.specs.Deed.{deed, permitted}
 use Rattle.ov_model.specs.Course.{Enough, Full, Item, Makes, NoRun, Room, Says, Served, Space, after, and_steps, attempt, attempts, first, line_served, play, replied, rest, served, step_by, steps, steps_then, world_after}
-use Rattle.ov_model.specs.Forms.{built_forms}
+use Rattle.ov_model.specs.BuiltShapes.{served_forms}
 use Rattle.ov_model.specs.Line.{Asks, Comment, Line, Refused, line_of}
 use Rattle.ov_model.specs.Moves.{Move, moved}
 use Rattle.ov_model.specs.Replies.{reply_text}
@@ -120,24 +120,24 @@ attempts_end d s taken (m ∷ ms) w space =
 
 -- what it does and says is what the deed does, and then steps; and so it is licensed
 pub record IsServed (n : ℕ) (w : World) (s : Session) (line : List ℕ) (d : Deed) : Type 0 where
-  pub acts : (space : Space) → served built_forms n w s line space ≡ and_steps n (attempts d s 0 d.moves w space)
+  pub acts : (space : Space) → served served_forms n w s line space ≡ and_steps n (attempts d s 0 d.moves w space)
   pub licensed : (entry : Entry) (past : List Made) (space : Space) → LicensedMoves entry past d.moves w space
-      → LicensedAfter n entry past w (attempts d s 0 d.moves w space) → LicensedLine n entry past w s space (line_of built_forms line)
+      → LicensedAfter n entry past w (attempts d s 0 d.moves w space) → LicensedLine n entry past w s space (line_of served_forms line)
 
-asks_served : (n : ℕ) (w : World) (s : Session) (line : List ℕ) (command : Command) → line_of built_forms line ≡ Asks command → IsServed n w s line (deed w s command)
+asks_served : (n : ℕ) (w : World) (s : Session) (line : List ℕ) (command : Command) → line_of served_forms line ≡ Asks command → IsServed n w s line (deed w s command)
 asks_served n w s line command is = record {
   acts = λ space. ap (line_served n w s space) is;
   licensed = λ entry past space moves after. subst (LicensedLine n entry past w s space) (sym is) (moves, after);
 }
 
-refusal_served : (n : ℕ) (w : World) (s : Session) (line : List ℕ) (refusal : Refusal) → line_of built_forms line ≡ Refused refusal → IsServed n w s line (refuses s refusal)
+refusal_served : (n : ℕ) (w : World) (s : Session) (line : List ℕ) (refusal : Refusal) → line_of served_forms line ≡ Refused refusal → IsServed n w s line (refuses s refusal)
 refusal_served n w s line refusal is = record {
   acts = λ space. ap (line_served n w s space) is;
   licensed = λ entry past space moves after.
       subst (LicensedLine n entry past w s space) (sym is) (subst (λ (made : List Made). LicensedSteps n entry made w space) (append-nil past) after);
 }
 
-denied_served : (n : ℕ) (w : World) (s : Session) (line : List ℕ) (command : Command) (refusal : Refusal) → line_of built_forms line ≡ Asks command → permit s.user command ≡ Some refusal
+denied_served : (n : ℕ) (w : World) (s : Session) (line : List ℕ) (command : Command) (refusal : Refusal) → line_of served_forms line ≡ Asks command → permit s.user command ≡ Some refusal
     → IsServed n w s line (refuses s refusal)
 denied_served n w s line command refusal is denied =
     subst (IsServed n w s line) (ap (λ (o : Option Refusal). unless s o (permitted w s command)) denied) (asks_served n w s line command is)
@@ -166,14 +166,14 @@ refused_if : (found : Option Refusal) (a : Command) (refusal : Refusal) → unle
 refused_if None a refusal e = no_refusal a refusal e
 refused_if (Some x) a refusal e = cc
 
-refused_by : (n : ℕ) (w : World) (s : Session) (line : List ℕ) (refusal : Refusal) (l : Line) → line_of built_forms line ≡ l → line_by s.user l ≡ Refused refusal → IsServed n w s line (refuses s refusal)
+refused_by : (n : ℕ) (w : World) (s : Session) (line : List ℕ) (refusal : Refusal) (l : Line) → line_of served_forms line ≡ l → line_by s.user l ≡ Refused refusal → IsServed n w s line (refuses s refusal)
 refused_by n w s line refusal Comment is e = absurd cc
 refused_by n w s line refusal (Asks command) is e = denied_served n w s line command refusal is (refused_if (permit s.user command) command refusal e)
 refused_by n w s line refusal (Refused x) is e = refusal_served n w s line refusal (is ∙ e)
 
 -- it is refused, by the line itself or by a rule
-pub served_refused : (n : ℕ) (w : World) (s : Session) (line : List ℕ) (refusal : Refusal) → line_by s.user (line_of built_forms line) ≡ Refused refusal → IsServed n w s line (refuses s refusal)
-served_refused n w s line refusal e = refused_by n w s line refusal (line_of built_forms line) refl e
+pub served_refused : (n : ℕ) (w : World) (s : Session) (line : List ℕ) (refusal : Refusal) → line_by s.user (line_of served_forms line) ≡ Refused refusal → IsServed n w s line (refuses s refusal)
+served_refused n w s line refusal e = refused_by n w s line refusal (line_of served_forms line) refl e
 
 -- what no rule denies is done as it is by itself
 pub does_permitted : (w : World) (s t : Session) (command : Command) (reply : Reply) (before now : Held) (old new : State) → permit s.user command ≡ None
@@ -195,12 +195,12 @@ module _ (n : ℕ) (w : World) (s t : Session) (line : List ℕ) (d : Deed) (rep
   no_more : next_step does.world ≡ None
   no_more = no_plan does.world now mid does.at
 
-  acts : (future : Space) → served built_forms n w s line (does.used ++ future) ≡ record did { left = future }
+  acts : (future : Space) → served served_forms n w s line (does.used ++ future) ≡ record did { left = future }
   acts future =
       is.acts (does.used ++ future) ∙ ap (and_steps n) (does.did future)
       ∙ and_no_steps n (record { items = all does.moves reply; world = does.world; session = t; left = future }) no_more
 
-  licensed : (entry : Entry) (past : List Made) → IsWithin entry past before → (future : Space) → LicensedLine n entry past w s (does.used ++ future) (line_of built_forms line)
+  licensed : (entry : Entry) (past : List Made) → IsWithin entry past before → (future : Space) → LicensedLine n entry past w s (does.used ++ future) (line_of served_forms line)
   licensed entry past within future =
       is.licensed entry past (does.used ++ future) (does.licensed entry past within future)
       (subst (λ (done : Served). LicensedAfter n entry past w done) (sym (does.did future))
@@ -262,7 +262,7 @@ module _ (n : ℕ) (w : World) (s t : Session) (line : List ℕ) (d : Deed) (rep
 -- ---- lines
 
 -- a comment is nothing
-pub serves_comment : (n : ℕ) (w : World) (s : Session) (line : List ℕ) (held : Held) (old new : State) → line_of built_forms line ≡ Comment → IsAtWorld w held old
+pub serves_comment : (n : ℕ) (w : World) (s : Session) (line : List ℕ) (held : Held) (old new : State) → line_of served_forms line ≡ Comment → IsAtWorld w held old
     → new.tells ≡ old.tells → new.tape ≡ old.tape → Serves n w s s line true false held held old new
 serves_comment n w s line held old new is at told tape = record {
   used = [];
@@ -278,7 +278,7 @@ serves_comment n w s line held old new is at told tape = record {
 }
 
 module _ (n : ℕ) (w : World) (s t : Session) (line : List ℕ) (command : Command) (reply : Reply) (before now : Held) (old mid new : State)
-    (asks : line_of built_forms line ≡ Asks command) (does : Does (deed w s command) s t w reply before now old mid) where
+    (asks : line_of served_forms line ≡ Asks command) (does : Does (deed w s command) s t w reply before now old mid) where
   -- a command was done or refused, and its reply was printed
   pub serves_reply : (ok : Bool) (bytes : List ℕ) → bytes ≡ reply_text reply → ok ≡ true → Calls (Prints bytes) ok mid new
       → Serves n w s t line true (is_error reply) before now old new
@@ -303,7 +303,7 @@ module _ (n : ℕ) (w : World) (s t : Session) (line : List ℕ) (command : Comm
 
 -- a command was broken off: what was to come counts as met by no refusal
 module _ (n : ℕ) (w : World) (s t : Session) (line : List ℕ) (command : Command) (refused : Bool) (before later : Held) (old new : State)
-    (asks : line_of built_forms line ≡ Asks command) (breaks : Breaks (deed w s command) s w old new) where
+    (asks : line_of served_forms line ≡ Asks command) (breaks : Breaks (deed w s command) s w old new) where
   abbrev d : Deed
   d = deed w s command
 
@@ -316,16 +316,16 @@ module _ (n : ℕ) (w : World) (s t : Session) (line : List ℕ) (command : Comm
   by : IsServed n w s line d
   by = asks_served n w s line command asks
 
-  acts_whole : (future : Space) → future ≡ [] → served built_forms n w s line future ≡ record done { left = future }
+  acts_whole : (future : Space) → future ≡ [] → served served_forms n w s line future ≡ record done { left = future }
   acts_whole future none =
       by.acts future
       ∙ ap (λ (space : Space). and_steps n (attempts d s 0 d.moves w space)) none
       ∙ (λ i. record done { left = (both_leave n moves (attempts_leave d s 0 d.moves w) ∙ sym none) i })
 
-  licensed_whole : (entry : Entry) (past : List Made) (future : Space) → future ≡ [] → LicensedLine n entry past w s future (line_of built_forms line)
+  licensed_whole : (entry : Entry) (past : List Made) (future : Space) → future ≡ [] → LicensedLine n entry past w s future (line_of served_forms line)
   licensed_whole entry past future none =
-      subst (λ (space : Space). LicensedLine n entry past w s space (line_of built_forms line)) (sym none)
-      (line_licensed n entry past w s (line_of built_forms line))
+      subst (λ (space : Space). LicensedLine n entry past w s space (line_of served_forms line)) (sym none)
+      (line_licensed n entry past w s (line_of served_forms line))
 
   pub serves_broken : Serves n w s t line false refused before later old new
   serves_broken = record {

@@ -7,7 +7,7 @@ use Rattle.ov_host.specs.Stops.{Only}
 use Rattle.ov_host.proofs.Stops.{only_then, only_wider}
 use Rattle.ov_model.specs.Act.{Session}
 use Rattle.ov_model.specs.Course.{Item, Makes, Says, Served, Space, after, course, play, served, world_after}
-use Rattle.ov_model.specs.Forms.{built_forms}
+use Rattle.ov_model.specs.BuiltShapes.{served_forms}
 use Rattle.ov_model.specs.Line.{line_of}
 use Rattle.ov_model.specs.Moves.{moved}
 use Rattle.ov_model.specs.World.{World}
@@ -42,14 +42,14 @@ error_append (Says reply ∷ a) b =
     ap (λ (rest : Bool). is_error reply || rest) (error_append a b) ∙ or_assoc (is_error reply) (has_error a) (has_error b)
 
 -- where no answer for room is left, all is licensed
-licensed_whole : (entry : Entry) (before : List Made) (n : ℕ) (w : World) (s : Session) (lines : List (List ℕ)) → Licensed entry before built_forms n w s lines []
+licensed_whole : (entry : Entry) (before : List Made) (n : ℕ) (w : World) (s : Session) (lines : List (List ℕ)) → Licensed entry before served_forms n w s lines []
 licensed_whole entry before n w s [] = tt
 licensed_whole entry before n w s (line ∷ lines) =
-    let one : Served = served built_forms n w s line []
+    let one : Served = served served_forms n w s line []
     in (
-      line_licensed n entry before w s (line_of built_forms line),
-      subst (λ (space : Space). Licensed entry (before ++ made_by w one.items) built_forms n one.world one.session lines space)
-          (sym (line_leaves n w s (line_of built_forms line)))
+      line_licensed n entry before w s (line_of served_forms line),
+      subst (λ (space : Space). Licensed entry (before ++ made_by w one.items) served_forms n one.world one.session lines space)
+          (sym (line_leaves n w s (line_of served_forms line)))
           (licensed_whole entry (before ++ made_by w one.items) n one.world one.session lines),
     )
 
@@ -81,14 +81,14 @@ module _ (n : ℕ) (w : World) (s t : Session) (gone : List (List ℕ)) (line : 
     world_served : did.world ≡ world_after so.world did.items
     world_served =
         let Ends : Served → Type 0 = λ done. done.world ≡ world_after so.world (done.items ++ [])
-        in subst Ends (serves.acts [] (λ ends. refl)) (course_ends built_forms n so.world t (line ∷ []) (serves.used ++ []))
+        in subst Ends (serves.acts [] (λ ends. refl)) (course_ends served_forms n so.world t (line ∷ []) (serves.used ++ []))
         ∙ ap (world_after so.world) (append-nil did.items)
 
-    course_next : (later : List (List ℕ)) (future : Space) → (ok ≡ false → future ≡ []) → course built_forms n w s (gone ++ line ∷ later) (so.past ++ (serves.used ++ future))
-        ≡ after so.items (after did.items (course built_forms n did.world did.session later future))
+    course_next : (later : List (List ℕ)) (future : Space) → (ok ≡ false → future ≡ []) → course served_forms n w s (gone ++ line ∷ later) (so.past ++ (serves.used ++ future))
+        ≡ after so.items (after did.items (course served_forms n did.world did.session later future))
     course_next later future ends =
         so.split (line ∷ later) (serves.used ++ future)
-        ∙ ap (λ (one : Served). after so.items (after one.items (course built_forms n one.world one.session later one.left))) (serves.acts future ends)
+        ∙ ap (λ (one : Served). after so.items (after one.items (course served_forms n one.world one.session later one.left))) (serves.acts future ends)
 
     made_next : made_by w (so.items ++ did.items) ≡ made_by w so.items ++ made_by so.world did.items
     made_next =
@@ -96,12 +96,12 @@ module _ (n : ℕ) (w : World) (s t : Session) (gone : List (List ℕ)) (line : 
         ∙ ap (λ (v : World). made_by w so.items ++ made_by v did.items) (sym so.world_is)
 
     licensed_next : (entry : Entry) → IsWithin entry [] before → (later : List (List ℕ)) (future : Space) → (ok ≡ false → future ≡ [])
-        → Licensed entry (made_by w (so.items ++ did.items)) built_forms n did.world did.session later future
-        → Licensed entry [] built_forms n w s (gone ++ line ∷ later) (so.past ++ (serves.used ++ future))
+        → Licensed entry (made_by w (so.items ++ did.items)) served_forms n did.world did.session later future
+        → Licensed entry [] served_forms n w s (gone ++ line ∷ later) (so.past ++ (serves.used ++ future))
     licensed_next entry within later future ends more =
-        let Behind : Served → Type 0 = λ one. Licensed entry (made_by w so.items ++ made_by so.world one.items) built_forms n one.world one.session later one.left
+        let Behind : Served → Type 0 = λ one. Licensed entry (made_by w so.items ++ made_by so.world one.items) served_forms n one.world one.session later one.left
         in let behind : Behind (record did { left = future }) =
-        subst (λ (made : List Made). Licensed entry made built_forms n did.world did.session later future) made_next more
+        subst (λ (made : List Made). Licensed entry made served_forms n did.world did.session later future) made_next more
         in so.licensed entry within (line ∷ later) (serves.used ++ future)
         (serves.licensed entry (made_by w so.items) (so.within entry within) future ends, subst Behind (sym (serves.acts future ends)) behind)
 
@@ -125,15 +125,15 @@ module _ (n : ℕ) (w : World) (s t : Session) (gone : List (List ℕ)) (line : 
         items = so.items ++ serves.did.items;
         world = serves.did.world;
         split = λ later future.
-            (λ i. course built_forms n w s (append_assoc gone (line ∷ []) later i) (append_assoc so.past serves.used future i))
+            (λ i. course served_forms n w s (append_assoc gone (line ∷ []) later i) (append_assoc so.past serves.used future i))
             ∙ course_next u true refused held new serves later future (all future)
-            ∙ after_after so.items serves.did.items (course built_forms n serves.did.world serves.did.session later future)
-            ∙ ap (λ (v : Session). after (so.items ++ serves.did.items) (course built_forms n serves.did.world v later future)) (serves.session_is refl);
+            ∙ after_after so.items serves.did.items (course served_forms n serves.did.world serves.did.session later future)
+            ∙ ap (λ (v : Session). after (so.items ++ serves.did.items) (course served_forms n serves.did.world v later future)) (serves.session_is refl);
         licensed = λ entry within later future more.
-            subst (λ (ls : List (List ℕ)). Licensed entry [] built_forms n w s ls ((so.past ++ serves.used) ++ future)) (sym (append_assoc gone (line ∷ []) later))
-            (subst (λ (space : Space). Licensed entry [] built_forms n w s (gone ++ line ∷ later) space) (sym (append_assoc so.past serves.used future))
+            subst (λ (ls : List (List ℕ)). Licensed entry [] served_forms n w s ls ((so.past ++ serves.used) ++ future)) (sym (append_assoc gone (line ∷ []) later))
+            (subst (λ (space : Space). Licensed entry [] served_forms n w s (gone ++ line ∷ later) space) (sym (append_assoc so.past serves.used future))
             (licensed_next u true refused held new serves entry within later future (all future)
-            (subst (λ (v : Session). Licensed entry (made_by w (so.items ++ serves.did.items)) built_forms n serves.did.world v later future) (sym (serves.session_is refl)) more)));
+            (subst (λ (v : Session). Licensed entry (made_by w (so.items ++ serves.did.items)) served_forms n serves.did.world v later future) (sym (serves.session_is refl)) more)));
         within = λ entry within.
             subst (λ (made : List Made). IsWithin entry made held) (sym (made_next u true refused held new serves))
             (serves.within refl entry (made_by w so.items) (so.within entry within));
@@ -154,16 +154,16 @@ module _ (n : ℕ) (w : World) (s t : Session) (gone : List (List ℕ)) (line : 
       → Serves n so.world t u line false refused now held mid new → Runs n w s lines before old new
   so_far_ends lines later all u refused held new serves =
       let space : Space = so.past ++ (serves.used ++ [])
-      in let items : course built_forms n w s lines space ≡ after so.items (after serves.did.items (course built_forms n serves.did.world serves.did.session later [])) =
-      ap (λ (ls : List (List ℕ)). course built_forms n w s ls space) all ∙ course_next u false refused held new serves later [] (λ ends. refl)
+      in let items : course served_forms n w s lines space ≡ after so.items (after serves.did.items (course served_forms n serves.did.world serves.did.session later [])) =
+      ap (λ (ls : List (List ℕ)). course served_forms n w s ls space) all ∙ course_next u false refused held new serves later [] (λ ends. refl)
       in record {
         space = space;
         licensed = λ entry within.
-            subst (λ (ls : List (List ℕ)). Licensed entry [] built_forms n w s ls space) (sym all)
+            subst (λ (ls : List (List ℕ)). Licensed entry [] served_forms n w s ls space) (sym all)
             (licensed_next u false refused held new serves entry within later [] (λ ends. refl)
             (licensed_whole entry (made_by w (so.items ++ serves.did.items)) n serves.did.world serves.did.session later));
         stops = subst (λ (done : Served). Only old.tape new.tape (IsFound w (printed_of old) done.items)) (sym items)
-            (stops_next u false refused held new serves (course built_forms n serves.did.world serves.did.session later []).items);
+            (stops_next u false refused held new serves (course served_forms n serves.did.world serves.did.session later []).items);
       }
 
 -- ---- where it ends
@@ -174,23 +174,23 @@ module _ (n : ℕ) (w : World) (s t : Session) (lines gone left : List (List ℕ
   abbrev space : Space
   space = so.past ++ []
 
-  gone_is : course built_forms n w s gone space ≡ record { items = so.items; world = so.world; session = t; left = [] }
+  gone_is : course served_forms n w s gone space ≡ record { items = so.items; world = so.world; session = t; left = [] }
   gone_is =
-      ap (λ (ls : List (List ℕ)). course built_forms n w s ls space) (sym (append-nil gone)) ∙ so.split [] []
+      ap (λ (ls : List (List ℕ)). course served_forms n w s ls space) (sym (append-nil gone)) ∙ so.split [] []
       ∙ (λ i. record { items = append-nil so.items i; world = so.world; session = t; left = [] })
 
-  all_is : course built_forms n w s lines space ≡ after so.items (course built_forms n so.world t left [])
-  all_is = ap (λ (ls : List (List ℕ)). course built_forms n w s ls space) whole ∙ so.split left []
+  all_is : course served_forms n w s lines space ≡ after so.items (course served_forms n so.world t left [])
+  all_is = ap (λ (ls : List (List ℕ)). course served_forms n w s ls space) whole ∙ so.split left []
 
   pub so_far_halts : Halts n w s t gone lines failed before now old new
   so_far_halts = record {
     space = space;
     licensed = λ entry within.
-        subst (λ (ls : List (List ℕ)). Licensed entry [] built_forms n w s ls space) (sym whole)
+        subst (λ (ls : List (List ℕ)). Licensed entry [] served_forms n w s ls space) (sym whole)
         (so.licensed entry within left [] (licensed_whole entry (made_by w so.items) n so.world t left));
     stops = subst (λ (done : Served). Only old.tape new.tape (IsFound w (printed_of old) done.items)) (sym all_is)
-        (only_wider old.tape new.tape (IsFound w (printed_of old) so.items) (IsFound w (printed_of old) (so.items ++ (course built_forms n so.world t left []).items))
-        (λ c found. found_front w (printed_of old) so.items (course built_forms n so.world t left []).items c found) so.stops);
+        (only_wider old.tape new.tape (IsFound w (printed_of old) so.items) (IsFound w (printed_of old) (so.items ++ (course served_forms n so.world t left []).items))
+        (λ c found. found_front w (printed_of old) so.items (course served_forms n so.world t left []).items c found) so.stops);
     printed = subst (λ (done : Served). printed_of new ≡ printed_of old ++ play done.items) (sym gone_is) so.printed;
     at = subst (λ (done : Served). IsAtWorld done.world now new) (sym gone_is) so.at;
     session_is = ap (λ (done : Served). done.session) gone_is;

@@ -14,7 +14,7 @@ use Rattle.ov_core.specs.AtWorld.{IsAtWorld}
 use Rattle.ov_core.specs.Held.{Held}
 use Rattle.ov_model.specs.Act.{Deed, Files, Session}
 use Rattle.ov_model.specs.Course.{Item, Makes, Says, Served, Space, after, attempts, course, play, served, world_after}
-use Rattle.ov_model.specs.Forms.{built_forms}
+use Rattle.ov_model.specs.BuiltShapes.{served_forms}
 use Rattle.ov_model.specs.Line.{line_of}
 use Rattle.ov_model.specs.Moves.{Move}
 use Rattle.ov_model.specs.World.{World}
@@ -69,9 +69,9 @@ Breaks d s w old new = Only old.tape new.tape (IsFound w (printed_of old) (attem
 pub record Serves (steps : ℕ) (w : World) (s t : Session) (line : List ℕ) (ok refused : Bool) (before now : Held) (old new : State) : Type 0 where
   pub used : Space
   pub did : Served
-  pub acts : (future : Space) → (ok ≡ false → future ≡ []) → served built_forms steps w s line (used ++ future) ≡ record did { left = future }
+  pub acts : (future : Space) → (ok ≡ false → future ≡ []) → served served_forms steps w s line (used ++ future) ≡ record did { left = future }
   pub licensed : (entry : Entry) (past : List Made) → IsWithin entry past before → (future : Space) → (ok ≡ false → future ≡ [])
-      → LicensedLine steps entry past w s (used ++ future) (line_of built_forms line)
+      → LicensedLine steps entry past w s (used ++ future) (line_of served_forms line)
   pub within : ok ≡ true → (entry : Entry) (past : List Made) → IsWithin entry past before → IsWithin entry (past ++ made_by w did.items) now
   pub stops : Only old.tape new.tape (IsFound w (printed_of old) did.items)
   pub at : ok ≡ true → IsAtWorld did.world now new
@@ -86,11 +86,11 @@ pub record SoFar (steps : ℕ) (w : World) (s t : Session) (gone : List (List �
   pub past : Space
   pub items : List Item
   pub world : World
-  pub split : (later : List (List ℕ)) (future : Space) → course built_forms steps w s (gone ++ later) (past ++ future)
-      ≡ after items (course built_forms steps world t later future)
+  pub split : (later : List (List ℕ)) (future : Space) → course served_forms steps w s (gone ++ later) (past ++ future)
+      ≡ after items (course served_forms steps world t later future)
   pub licensed : (entry : Entry) → IsWithin entry [] before → (later : List (List ℕ)) (future : Space)
-      → Licensed entry (made_by w items) built_forms steps world t later future
-      → Licensed entry [] built_forms steps w s (gone ++ later) (past ++ future)
+      → Licensed entry (made_by w items) served_forms steps world t later future
+      → Licensed entry [] served_forms steps w s (gone ++ later) (past ++ future)
   pub within : (entry : Entry) → IsWithin entry [] before → IsWithin entry (made_by w items) now
   pub stops : Only old.tape new.tape (IsFound w (printed_of old) items)
   pub at : IsAtWorld world now new
@@ -102,19 +102,19 @@ pub record SoFar (steps : ℕ) (w : World) (s t : Session) (gone : List (List �
 -- room, each refusal among them licensed.
 pub record Runs (steps : ℕ) (w : World) (s : Session) (lines : List (List ℕ)) (before : Held) (old new : State) : Type 0 where
   pub space : Space
-  pub licensed : (entry : Entry) → IsWithin entry [] before → Licensed entry [] built_forms steps w s lines space
-  pub stops : Only old.tape new.tape (IsFound w (printed_of old) (course built_forms steps w s lines space).items)
+  pub licensed : (entry : Entry) → IsWithin entry [] before → Licensed entry [] served_forms steps w s lines space
+  pub stops : Only old.tape new.tape (IsFound w (printed_of old) (course served_forms steps w s lines space).items)
 
 -- It ended between two lines: the replies to the lines before are printed, and the store and the files are as those lines leave
 -- them. What a stop at any moment of it leaves is found in the course of all its lines.
 pub record Halts (steps : ℕ) (w : World) (s t : Session) (gone lines : List (List ℕ)) (failed : Bool) (before now : Held) (old new : State) : Type 0 where
   pub space : Space
-  pub licensed : (entry : Entry) → IsWithin entry [] before → Licensed entry [] built_forms steps w s lines space
-  pub stops : Only old.tape new.tape (IsFound w (printed_of old) (course built_forms steps w s lines space).items)
-  pub printed : printed_of new ≡ printed_of old ++ play (course built_forms steps w s gone space).items
-  pub at : IsAtWorld (course built_forms steps w s gone space).world now new
-  pub session_is : (course built_forms steps w s gone space).session ≡ t
-  pub failed_is : failed ≡ has_error (course built_forms steps w s gone space).items
+  pub licensed : (entry : Entry) → IsWithin entry [] before → Licensed entry [] served_forms steps w s lines space
+  pub stops : Only old.tape new.tape (IsFound w (printed_of old) (course served_forms steps w s lines space).items)
+  pub printed : printed_of new ≡ printed_of old ++ play (course served_forms steps w s gone space).items
+  pub at : IsAtWorld (course served_forms steps w s gone space).world now new
+  pub session_is : (course served_forms steps w s gone space).session ≡ t
+  pub failed_is : failed ≡ has_error (course served_forms steps w s gone space).items
 
 -- it ended at its last line
 abbrev pub Ends : ℕ → World → Session → Session → List (List ℕ) → Bool → Held → Held → State → State → Type 0

@@ -7,7 +7,7 @@ ghost use Rattle.ov_core.specs.AtWorld.{IsAtWorld};
 ghost use Rattle.ov_core.specs.Held.{Held};
 ghost use Rattle.ov_model.specs.Act.{Session};
 ghost use Rattle.ov_model.specs.Course.{Item, SaysSome, course};
-ghost use Rattle.ov_model.specs.Forms.{built_forms};
+ghost use Rattle.ov_model.specs.BuiltShapes.{served_forms};
 ghost use Rattle.ov_model.specs.World.{World};
 ghost use Rattle.law_runs.specs.Serving.{Runs};
 ghost use Rattle.law_runs.specs.Stops.{IsDue, IsFound, printed_of};
@@ -23,5 +23,5 @@ pub fn a_stop_is_found_between_due_replies()
 pub fn any_stop_of_a_run_leaves_what_is_due()
     ensures { (steps : ℕ) (w : World) (s : Session) (lines : List (List ℕ)) (before : Held) (old new : State) → IsAtWorld w before old
         → (runs : Runs steps w s lines before old new) → (c : Image) → left_since new.tape (clock old.tape) c
-        → IsDue w (printed_of old) (course built_forms steps w s lines runs.space).items c }
+        → IsDue w (printed_of old) (course served_forms steps w s lines runs.space).items c }
 {}

@@ -1,14 +1,17 @@
 -- Each command that a line asks for, by the forms that the program has.
-use Rattle.std.proofs.Common.{◌≡◌, ℕ, Bool, true, false, List, [], ◌∷◌, length, refl, sym, ap, subst}
-use Rattle.std.specs.Prelude.{◌≢◌, ◌≤◌, ◌&&◌, not, if◌then◌else◌, nat_lt, codes, Option, Some, None, Result, Ok, Err, IfOk}
+use Rattle.std.proofs.Common.{◌≡◌, ◌≤◌, ℕ, Bool, true, false, ◌||◌, ◌==◌, List, [], ◌∷◌, ◌++◌, length, drop, refl, sym, ap, subst, arith}
+use Rattle.std.specs.Prelude.{◌≢◌, ◌&&◌, not, if◌then◌else◌, nat_lt, codes, Option, Some, None, Result, Ok, Err, IfOk}
+use Rattle.std.specs.List.{position_or_len}
 use Rattle.std.specs.Option.{option_map}
 use Rattle.std.specs.Str.{bytes_eq, is_utf8}
+use Rattle.std.proofs.lemmas.Bool.{ltb-false}
+use Rattle.std.proofs.lemmas.List.{length-drop}
 use Rattle.ov_value.specs.Making.{schema_of}
 use Rattle.ov_value.specs.Naming.{is_name}
 use Rattle.ov_value.specs.Shapes.{Shape}
-use Rattle.ov_model.specs.Forms.{Values, Form, text_in, vids_in, columns_in, names_in, word_of, choice, or_schema_refusal, init_with, make_init, make_checkout, some_columns, commit_with, make_commit, alone, of_cvd, init_form, checkout_form, commit_form, may_have, built_forms}
+use Rattle.ov_model.specs.Forms.{Values, Form, text_in, vids_in, columns_in, names_in, word_of, choice, or_schema_refusal, init_with, make_init, make_checkout, some_columns, commit_with, make_commit, alone, of_cvd, init_form, checkout_form, commit_form, run_form, may_have, built_forms}
 use Rattle.ov_model.specs.Line.{Line, Comment, Asks, Refused, Read, missing, unless_missing, made_by, answer, by_words, first_of, has_second, form_of, off_all, by_form, by_name, read_words, line_of}
-use Rattle.ov_model.specs.Words.{Next, NoWord, Word, Unclosed, next_word, words_of, without_blanks, is_comment}
+use Rattle.ov_model.specs.Words.{Next, NoWord, Word, Unclosed, next_word, words_of, without_blanks, is_blank, is_comment, is_no_blank, plain, quoted, word_at}
 use Rattle.ov_model.specs.declared.command.Command.{Command}
 use Rattle.ov_model.specs.declared.command.Command.TheVariants as asks
 use Rattle.ov_model.specs.declared.given.Given.TheVariants.{Text}
@@ -30,11 +33,15 @@ AsksWell Comment = Unit {0}
 AsksWell (Asks command) = IsAsked command
 AsksWell (Refused refusal) = Unit {0}
 
+-- the values of a line of which all behind the name is one text
+abbrev whole_values : List ℕ → Values
+whole_values text = record { words = Text text ∷ []; options = [] }
+
 -- a form whose commands are such
 record IsForm (f : Form) : Type 0 where
   reads : AllRead f.choices
-  makes : (v : Values) → missing f.choices v.options ≡ None → AreGood v.options → IsMade (f.make v)
-  whole : f.whole ≡ false
+  makes : f.whole ≡ false → (v : Values) → missing f.choices v.options ≡ None → AreGood v.options → IsMade (f.make v)
+  whole : f.whole ≡ true → (text : List ℕ) → length text ≤ 65536 → IsMade (f.make (whole_values text))
 
 abbrev AreForms : List Form → Type 0
 AreForms [] = Unit {0}
@@ -44,6 +51,9 @@ AreForms (f ∷ fs) = IsForm f × AreForms fs
 
 off : {A : Type 0} → false ≡ true → A
 off e = cc
+
+on : {A : Type 0} → true ≡ false → A
+on e = cc
 
 init_if : (t : Bool) (cvd file : List ℕ) (shape : Result Shape Refusal) (refusal : Refusal) → is_name cvd ≡ t → IsMade (if t then init_with cvd file shape else Err refusal)
 init_if true cvd file (Ok schema) refusal named = named
@@ -70,8 +80,8 @@ init_is = record {
       (record { versions = λ e. off e; message = λ e. off e; written = refl; no_table = refl; no_added = refl }, tt),
     ),
   );
-  makes = λ v none good. init_made v;
-  whole = refl;
+  makes = λ plain v none good. init_made v;
+  whole = λ e. off e;
 }
 
 checkout_is : IsForm (checkout_form (may_have (codes "-f") FileName ∷ []))
@@ -80,8 +90,8 @@ checkout_is = record {
     record { versions = λ e. refl; message = λ e. off e; written = refl; no_table = refl; no_added = refl },
     (record { versions = λ e. off e; message = λ e. off e; written = refl; no_table = refl; no_added = refl }, tt),
   );
-  makes = λ v none good. checkout_made v (versions_there v.options _ good none) (no_table v.options good);
-  whole = refl;
+  makes = λ plain v none good. checkout_made v (versions_there v.options _ good none) (no_table v.options good);
+  whole = λ e. off e;
 }
 
 commit_is : IsForm (commit_form [])
@@ -93,16 +103,19 @@ commit_is = record {
       (record { versions = λ e. off e; message = λ e. refl; written = refl; no_table = refl; no_added = refl }, tt),
     ),
   );
-  makes = λ v none good.
+  makes = λ plain v none good.
       commit_made v (versions_there v.options _ good none) (message_short v.options good) (no_added v.options good);
-  whole = refl;
+  whole = λ e. off e;
 }
 
+run_is : IsForm run_form
+run_is = record { reads = tt; makes = λ plain. on plain; whole = λ e text short. short }
+
 cvd_is : (name : List ℕ) (ask : List ℕ → Command) → ((cvd : List ℕ) → IsAsked (ask cvd)) → IsForm (of_cvd name ask)
-cvd_is name ask is = record { reads = tt; makes = λ v none good. is (text_in (word_of v 0)); whole = refl }
+cvd_is name ask is = record { reads = tt; makes = λ plain v none good. is (text_in (word_of v 0)); whole = λ e. off e }
 
 alone_is : (name : List ℕ) (ask : Command) → IsAsked ask → IsForm (alone name ask)
-alone_is name ask is = record { reads = tt; makes = λ v none good. is; whole = refl }
+alone_is name ask is = record { reads = tt; makes = λ plain v none good. is; whole = λ e. off e }
 
 built_are : AreForms built_forms
 built_are = (
@@ -112,15 +125,52 @@ built_are = (
     (
       commit_is,
       (
-        cvd_is (codes "log") asks.Log (λ cvd. tt),
+        run_is,
         (
-          cvd_is (codes "drop") asks.DropCvd (λ cvd. tt),
-          (alone_is (codes "ls") asks.Ls tt, tt),
+          cvd_is (codes "log") asks.Log (λ cvd. tt),
+          (
+            cvd_is (codes "drop") asks.DropCvd (λ cvd. tt),
+            (alone_is (codes "ls") asks.Ls tt, tt),
+          ),
         ),
       ),
     ),
   ),
 )
+
+-- ---- what stands behind a line's first word is no longer than the line
+
+abbrev IsShort : Next → Type 0
+IsShort NoWord = Unit {0}
+IsShort (Word name behind) = length behind ≤ 65536
+IsShort Unclosed = Unit {0}
+
+short_if : (t : Bool) (x y : Next) → IsShort x → IsShort y → IsShort (if t then x else y)
+short_if true x y one other = one
+short_if false x y one other = other
+
+dropped_short : (n : ℕ) (text : List ℕ) → length text ≤ 65536 → length (drop n text) ≤ 65536
+dropped_short n text short = omega (arith, short, length-drop n text)
+
+quoted_short : (escaped : Bool) (word text : List ℕ) → length text ≤ 65536 → IsShort (quoted escaped word text)
+quoted_short escaped word [] short = tt
+quoted_short false word (b ∷ text) short =
+    let less : length text ≤ 65536 = omega (arith, short)
+    in short_if (b == 34) (Word word text) _ less
+    (short_if (b == 92) (quoted true word text) (quoted false (word ++ b ∷ []) text) (quoted_short true word text less) (quoted_short false (word ++ b ∷ []) text less))
+quoted_short true word (b ∷ text) short =
+    let less : length text ≤ 65536 = omega (arith, short)
+    in short_if (b == 34 || b == 92) (quoted false (word ++ b ∷ []) text) (quoted false (word ++ 92 ∷ b ∷ []) text)
+    (quoted_short false (word ++ b ∷ []) text less) (quoted_short false (word ++ 92 ∷ b ∷ []) text less)
+
+word_short : (text : List ℕ) → length text ≤ 65536 → IsShort (word_at text)
+word_short [] short = tt
+word_short (b ∷ text) short =
+    short_if (b == 34) (quoted false [] text) (plain (b ∷ text)) (quoted_short false [] text (omega (arith, short)))
+    (dropped_short (position_or_len is_blank (b ∷ text)) (b ∷ text) short)
+
+next_short : (text : List ℕ) → length text ≤ 65536 → IsShort (next_word text)
+next_short text short = word_short (without_blanks text) (dropped_short (position_or_len is_no_blank text) text short)
 
 -- ---- from the forms to the lines
 
@@ -147,41 +197,50 @@ unless_made : (letter : Option (List ℕ)) (r : Result Command Refusal) → (let
 unless_made None r is = is refl
 unless_made (Some letter) r is = tt
 
-by_made : (f : Form) (r : Read) → IsForm f → ((v : Values) → r ≡ Ok v → AreGood v.options) → IsMade (made_by f r)
-by_made f (Ok v) is good = unless_made (missing f.choices v.options) (f.make v) (λ none. is.makes v none (good v refl))
-by_made f (Err refusal) is good = tt
+by_made : (f : Form) (r : Read) → f.whole ≡ false → IsForm f → ((v : Values) → r ≡ Ok v → AreGood v.options) → IsMade (made_by f r)
+by_made f (Ok v) plain is good = unless_made (missing f.choices v.options) (f.make v) (λ none. is.makes plain v none (good v refl))
+by_made f (Err refusal) plain is good = tt
 
-words_well : (f : Form) (words : Option (List (List ℕ))) → IsForm f → AsksWell (by_words f words)
-words_well f None is = tt
-words_well f (Some words) is =
+words_well : (f : Form) (words : Option (List (List ℕ))) → f.whole ≡ false → IsForm f → AsksWell (by_words f words)
+words_well f None plain is = tt
+words_well f (Some words) plain is =
     answer_well (made_by f (read_words f.choices f.params [] 2 words))
-    (by_made f (read_words f.choices f.params [] 2 words) is (λ v e. words_good f.choices is.reads f.params [] 2 words v e))
+    (by_made f (read_words f.choices f.params [] 2 words) plain is (λ v e. words_good f.choices is.reads f.params [] 2 words v e))
 
 off_well : (words : Option (List (List ℕ))) → AsksWell (off_all words)
 off_well None = tt
 off_well (Some words) = tt
 
-form_well : (behind : List ℕ) (words : Option (List (List ℕ))) (found : Option Form) → ((g : Form) → found ≡ Some g → IsForm g) → AsksWell (by_form behind words found)
-form_well behind words None is = off_well words
-form_well behind words (Some f) is =
-    subst (λ (t : Bool). AsksWell (if t then answer (f.make (record { words = Text (without_blanks behind) ∷ []; options = [] })) else by_words f words))
-    (sym (is f refl).whole) (words_well f words (is f refl))
+form_well : (behind : List ℕ) (words : Option (List (List ℕ))) (found : Option Form) → length behind ≤ 65536 → ((g : Form) → found ≡ Some g → IsForm g) → AsksWell (by_form behind words found)
+form_well behind words None short is = off_well words
+form_well behind words (Some f) short is = by f.whole refl (is f refl)
+  where
+    by : (t : Bool) → f.whole ≡ t → IsForm f → AsksWell (if t then answer (f.make (whole_values (without_blanks behind))) else by_words f words)
+    by true e form =
+        answer_well (f.make (whole_values (without_blanks behind)))
+        (form.whole e (without_blanks behind) (dropped_short (position_or_len is_no_blank behind) behind short))
+    by false e form = words_well f words e form
 
-name_well : (forms : List Form) (next : Next) → AreForms forms → AsksWell (by_name forms next)
-name_well forms NoWord are = tt
-name_well forms (Word name behind) are =
-    form_well behind (words_of behind) (form_of forms name (first_of (words_of behind))) (λ g e. found_form forms name (first_of (words_of behind)) g are e)
-name_well forms Unclosed are = tt
+next_well : (forms : List Form) (next : Next) → AreForms forms → IsShort next → AsksWell (by_name forms next)
+next_well forms NoWord are short = tt
+next_well forms (Word name behind) are short =
+    form_well behind (words_of behind) (form_of forms name (first_of (words_of behind))) short (λ g e. found_form forms name (first_of (words_of behind)) g are e)
+next_well forms Unclosed are short = tt
 
 well_if : (t : Bool) (a b : Line) → AsksWell a → AsksWell b → AsksWell (if t then a else b)
 well_if true a b one other = one
 well_if false a b one other = other
 
+long_if : (t : Bool) (b : Line) → (t ≡ false → AsksWell b) → AsksWell (if t then Refused no.LongLine else b)
+long_if true b other = tt
+long_if false b other = other refl
+
 line_well : (forms : List Form) (text : List ℕ) → AreForms forms → AsksWell (line_of forms text)
 line_well forms text are =
-    well_if (nat_lt 65536 (length text)) (Refused no.LongLine) _ tt
-    (well_if (is_comment text) Comment _ tt
-    (well_if (not (is_utf8 text)) (Refused no.NotUtf8) (by_name forms (next_word text)) tt (name_well forms (next_word text) are)))
+    long_if (nat_lt 65536 (length text)) _ (λ within.
+    let short : length text ≤ 65536 = omega (arith, ltb-false 65536 (length text) within)
+    in well_if (is_comment text) Comment _ tt
+    (well_if (not (is_utf8 text)) (Refused no.NotUtf8) (by_name forms (next_word text)) tt (next_well forms (next_word text) are (next_short text short))))
 
 pub asked : (line : List ℕ) (command : Command) → line_of built_forms line ≡ Asks command → IsAsked command
 asked line command e = subst AsksWell e (line_well built_forms line built_are)

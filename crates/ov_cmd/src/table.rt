@@ -306,7 +306,7 @@ static ALL: [Form; 19] = [
 ];
 
 /// The commands that the program has so far.
-static BUILT: [Form; 6] = [
+static BUILT: [Form; 7] = [
     Form {
         name: "init",
         second: None,
@@ -330,6 +330,14 @@ static BUILT: [Form; 6] = [
         params: &[CVD],
         choices: &[VIDS, FILE, MESSAGE],
         maker: Maker::Commit,
+    },
+    Form {
+        name: "run",
+        second: None,
+        whole: true,
+        params: &[],
+        choices: &[],
+        maker: Maker::Run,
     },
     Form {
         name: "log",

@@ -1,8 +1,15 @@
-//! From the text of a query to what it asks, and from a scan to the pairs that it is answered over.
+//! `run`: from the text of a query to its reply.
+//!
+//! A text is read by its tokens and by the grammar. What the text, the user and the numbers of the store refuse is refused
+//! before anything is read. Else the versions that the query names are scanned once, and it is answered over their rows.
 #![tactic(auto)]
 
+mod answering;
 mod asking;
 mod laws;
+mod permitting;
+mod scanning;
 
+pub use answering::answer_to;
 pub use asking::{Read, read_text};
 pub use laws::a_scan_shows_the_pairs;

@@ -1,6 +1,6 @@
 -- How many bytes of pages a command fetches.
-use Rattle.std.proofs.Common.{◌≡◌, ◌+◌, ℕ, List, Some, None, refl, sym, subst, arith}
-use Rattle.std.specs.Prelude.{◌≤◌, Option}
+use Rattle.std.proofs.Common.{◌≡◌, ◌+◌, ℕ, true, List, Some, None, refl, sym, subst, arith}
+use Rattle.std.specs.Prelude.{◌≤◌, Option, is_some}
 use Rattle.std.specs.Option.{option_or}
 use Rattle.ov_host.specs.Host.{State}
 use Rattle.ov_core.specs.Held.{Held}
@@ -25,6 +25,10 @@ fetched_there o vids a b there within = subst (λ (x : Option Set). b ≤ a + by
 
 pub none_off : {o : Option StoreErr} → (off : StoreErr) → o ≡ None → o ≡ Some off → ⊥
 none_off off none is = cc
+
+pub off_there : {X : Type 0} → (o : Option X) → is_some o ≡ true → (off : X) × (o ≡ Some off)
+off_there None is = absurd cc
+off_there (Some off) is = (off, refl)
 
 -- of it nothing is read
 pub fetched_allowed : (off : Option StoreErr) (n a b : ℕ) → b ≤ a + n → ((e : StoreErr) → off ≡ Some e → b ≡ a) → b ≤ a + if_allowed off n

@@ -20,7 +20,7 @@ use Rattle.ov_read.specs.Damages.{IsDamage as IsDamageRead}
 use Rattle.ov_model.specs.World.{Dataset, World, set_named}
 use Rattle.ov_model.specs.declared.command.Command.TheVariants as asks
 use Rattle.ov_model.specs.declared.reply.Reply.{Reply}
-use Rattle.ov_session.specs.Commands.{Acts, AreRowsOf, IsDamageOf, IsDamaged, IsNoDamage, IsNoHost}
+use Rattle.ov_session.specs.Commands.{Acts, AreRowsOf, IsCommitDamaged, IsDamageOf, IsNoDamage, IsNoHost, IsScanDamaged}
 use Rattle.ov_session.specs.Errors.{end_of}
 use Rattle.ov_session.specs.declared.errors.EndErr.{EndErr}
 use Rattle.ov_session.specs.declared.errors.EndErr.TheVariants as ending
@@ -38,7 +38,7 @@ use Rattle.ov_store.specs.declared.errors.StoreErr.TheVariants as why
 some_end : (a b : EndErr) → Some a ≡ Some b → IsNoDamage a → IsNoDamage b
 some_end a b is fine = subst IsNoDamage (ap (λ o. elim o as (λ _. EndErr) [ None ↦ a | Some x ↦ x ]) is) fine
 
-end_spared : (off : StoreErr) (e : EndErr) → end_of off ≡ Some e → IsUndamaged off → IsNoDamage e
+pub end_spared : (off : StoreErr) (e : EndErr) → end_of off ≡ Some e → IsUndamaged off → IsNoDamage e
 end_spared why.Host e is fine = some_end ending.Host e is tt
 end_spared why.Memory e is fine = some_end ending.Memory e is tt
 end_spared (why.Damaged area at) e is fine = absurd fine
@@ -122,7 +122,7 @@ module _ (held : Held) (name cvd : List ℕ) (wish : Wish) (before now : Kept) (
 pub and_rows : (held : Held) (cvd vids message file : List ℕ) (stage : Staged) (rows : List Row) (s : State) (page : ℕ)
     → ((set : Set) → set_in held.numbers cvd ≡ Some set → AreRowsOf set.schema file stage rows)
     → (commit_off held cvd vids rows ≡ None) × IfSet (λ set. IsDamagedAt set (record { vids = vids; message = message; rows = rows }) s page) (set_in held.numbers cvd)
-    → IsDamaged (asks.Commit cvd vids file message None) stage held s page
+    → IsCommitDamaged cvd vids file message stage held s page
 and_rows held cvd vids message file stage rows s page are is = (rows, is.0, by (set_in held.numbers cvd) are is.1)
   where
     by : (o : Option Set) → ((set : Set) → o ≡ Some set → AreRowsOf set.schema file stage rows)
@@ -135,7 +135,7 @@ pub result_and_rows : (held : Held) (cvd vids message file : List ℕ) (stage : 
     → ((set : Set) → set_in held.numbers cvd ≡ Some set → AreRowsOf set.schema file stage rows)
     → IfErr result (IsDamageOf (λ page. (commit_off held cvd vids rows ≡ None)
     × IfSet (λ set. IsDamagedAt set (record { vids = vids; message = message; rows = rows }) s page) (set_in held.numbers cvd)))
-    → IfErr result (IsDamageOf (IsDamaged (asks.Commit cvd vids file message None) stage held s))
+    → IfErr result (IsDamageOf (IsCommitDamaged cvd vids file message stage held s))
 result_and_rows held cvd vids message file stage rows s (Ok reply) are is = tt
 result_and_rows held cvd vids message file stage rows s (Err ending.Host) are is = tt
 result_and_rows held cvd vids message file stage rows s (Err ending.Memory) are is = tt
@@ -145,15 +145,15 @@ result_and_rows held cvd vids message file stage rows s (Err (ending.Damaged are
 
 -- ---- damage that a checkout meets
 
-scanned_in : (set : Option Set) (vids : List ℕ) (page : ℕ) (old new : State) → Looked old new → IsDamagedIn set vids old page → IsDamagedIn set vids new page
+pub scanned_in : (set : Option Set) (vids : List ℕ) (page : ℕ) (old new : State) → Looked old new → IsDamagedIn set vids old page → IsDamagedIn set vids new page
 scanned_in None vids page old new looked is = absurd is
 scanned_in (Some set) vids page old new looked is = λ tells.
     let told : old.tells ≡ true = sym looked.told ∙ tells
     in subst (λ (b : List ℕ). IsDamageRead b set vids page) (ap (λ (t : Tape). page_bytes (record old { tape = t })) (sym (looked.tape told))) (is told)
 
-module _ (held : Held) (name cvd vids : List ℕ) (stage : Staged) (file : Option (List ℕ)) (old new : State) (same : name ≡ cvd) (looked : Looked old new) where
+module _ (held : Held) (name cvd vids : List ℕ) (old new : State) (same : name ≡ cvd) (looked : Looked old new) where
   abbrev IsScanDamage : EndErr → Type 0
-  IsScanDamage e = IsDamageOf (IsDamaged (asks.Checkout cvd vids file None) stage held new) e
+  IsScanDamage e = IsDamageOf (IsScanDamaged cvd vids held new) e
 
   scan_end : (off : StoreErr) (e : EndErr) → end_of off ≡ Some e → IsUnscanned (scan_off held.numbers name vids) (set_in held.numbers name) vids old new off → IsScanDamage e
   scan_end why.Host e is off = subst IsScanDamage (the_end ending.Host e is) tt

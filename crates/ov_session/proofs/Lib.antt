@@ -10,3 +10,5 @@ pub mod Bounds
 pub mod Replying
 pub mod Numbering
 pub mod Meeting
+pub mod Shaping
+pub mod Querying

@@ -2,18 +2,16 @@
 use Rattle.std.proofs.Common.{◌≡◌, ◌∙◌, ℕ, List, Some, None, true, sym, ap, subst}
 use Rattle.std.specs.Prelude.{IfOk, OnOk, Option, Ok, Err, Result}
 use Rattle.ov_host.specs.Host.{State}
-use Rattle.ov_host.specs.Stage.{Staged}
 use Rattle.ov_core.specs.Held.{Held}
 use Rattle.ov_fetch.specs.Extents.{page_bytes}
 use Rattle.ov_model.specs.Line.{Asks, Comment, Refused}
 use Rattle.ov_model.specs.declared.command.Command.{Command}
-use Rattle.ov_model.specs.declared.command.Command.TheVariants as asks
 use Rattle.ov_model.specs.declared.refusal.Refusal.{Refusal}
 use Rattle.ov_model.specs.declared.reply.Reply.{Reply}
 use Rattle.ov_read.specs.Damages.{IsDamage}
 use Rattle.ov_session.proofs.Bounds.{none_off}
 use Rattle.ov_session.proofs.Lookups.{unscanned_off}
-use Rattle.ov_session.specs.Commands.{IsDamaged}
+use Rattle.ov_session.specs.Commands.{IsScanDamaged}
 use Rattle.ov_session.specs.Errors.{reply_of}
 use Rattle.ov_session.specs.declared.errors.EndErr.{EndErr}
 use Rattle.ov_store.specs.Committing.{Set}
@@ -25,9 +23,9 @@ pub whole_in : (o : Option Set) (set : Set) (vids : List ℕ) (old : State) (pag
     → ((page : ℕ) → IsDamage (page_bytes old) set vids page → ⊥) → IsDamagedIn o vids old page → ⊥
 whole_in o set vids old page is told whole damaged = whole page (subst (λ (x : Option Set). IsDamagedIn x vids old page) is damaged told)
 
-module _ (held : Held) (name cvd vids : List ℕ) (file : Option (List ℕ)) (stage : Staged) (old new : State) (page : ℕ) (same : name ≡ cvd) where
+module _ (held : Held) (name cvd vids : List ℕ) (old new : State) (page : ℕ) (same : name ≡ cvd) where
   abbrev IsMet : Type 0
-  IsMet = IsDamaged (asks.Checkout cvd vids file None) stage held old page
+  IsMet = IsScanDamaged cvd vids held old page
 
   pub given_whole : {A : Type 0} → (result : Result A EndErr) → (IsDamagedIn (set_in held.numbers name) vids old page → ⊥) → OnOk result (IsMet → ⊥)
   given_whole (Ok a) whole = λ met. whole (subst (λ (n : List ℕ). IsDamagedIn (set_in held.numbers n) vids old page) (sym same) met.1)

@@ -9,7 +9,7 @@ use Rattle.law_runs.proofs.Lines.{asked_by, breaks_permitted, does_permitted, se
 use Rattle.law_runs.specs.Serving.{Breaks, Does, Serves, is_error}
 use Rattle.ov_model.specs.Act.{Session}
 use Rattle.ov_model.specs.Deed.{deed, permitted}
-use Rattle.ov_model.specs.Forms.{built_forms}
+use Rattle.ov_model.specs.BuiltShapes.{served_forms}
 use Rattle.law_runs.proofs.Doing.{breaks_looked}
 use Rattle.ov_model.specs.Line.{Asks, Comment, Line, Refused, line_of}
 use Rattle.ov_model.specs.Replies.{reply_text}
@@ -47,7 +47,7 @@ done_is_not x e = cc
 
 -- of a command
 says_done : (n : ℕ) (w : World) (s t : Session) (line : List ℕ) (command : Command) (reply : Reply) (before now : Held) (old mid new : State)
-    → line_of built_forms line ≡ Asks command → Does (deed w s command) s t w reply before now old mid → (result : Result Served EndErr) → Says reply result mid new
+    → line_of served_forms line ≡ Asks command → Does (deed w s command) s t w reply before now old mid → (result : Result Served EndErr) → Says reply result mid new
     → Serves n w s t line (is_ok result) (is_refused result) before now old new
 says_done n w s t line command reply before now old mid new asks does (Ok served.Comment) says_ = absurd says_.answer
 says_done n w s t line command reply before now old mid new asks does (Ok served.Done) says_ =
@@ -68,14 +68,14 @@ pub says_reply : (n : ℕ) (w : World) (s t : Session) (line : List ℕ) (comman
     → line_asked s.user line ≡ Asks command → Does (permitted w s command) s t w reply before now old mid → (result : Result Served EndErr) → Says reply result mid new
     → Serves n w s t line (is_ok result) (is_refused result) before now old new
 says_reply n w s t line command reply before now old mid new asks does result says_ =
-    let both = asked_by s.user (line_of built_forms line) command asks
+    let both = asked_by s.user (line_of served_forms line) command asks
     in says_done n w s t line command reply before now old mid new both.0 (does_permitted w s t command reply before now old mid both.1 does) result says_
 
 -- it was broken off
 pub says_broken : (n : ℕ) (w : World) (s t : Session) (line : List ℕ) (command : Command) (before later : Held) (old new : State)
     → line_asked s.user line ≡ Asks command → Breaks (permitted w s command) s w old new → Serves n w s t line false false before later old new
 says_broken n w s t line command before later old new asks breaks =
-    let both = asked_by s.user (line_of built_forms line) command asks
+    let both = asked_by s.user (line_of served_forms line) command asks
     in serves_broken n w s t line command false before later old new both.0 (breaks_permitted w s command old new both.1 breaks)
 
 -- a comment is one for every user
@@ -90,7 +90,7 @@ comment_by user (Asks command) e = by (permit user command) e
 
 pub says_comment : (n : ℕ) (w : World) (s : Session) (line : List ℕ) (held : Held) (st : State) → line_asked s.user line ≡ Comment → IsAtWorld w held st
     → Serves n w s s line true false held held st st
-says_comment n w s line held st is at = serves_comment n w s line held st st (comment_by s.user (line_of built_forms line) is) at refl refl
+says_comment n w s line held st is at = serves_comment n w s line held st st (comment_by s.user (line_of served_forms line) is) at refl refl
 
 -- of a line that is refused
 pub says_refusal : (n : ℕ) (w : World) (s : Session) (line : List ℕ) (refusal : Refusal) (held : Held) (old new : State) → line_asked s.user line ≡ Refused refusal
@@ -116,9 +116,9 @@ refusal_unsaid n w s line refusal held st is at = serves_refusal_silent n w s li
 
 -- no memory for the refusal of a line: the line asks for a command, is refused, or is a comment
 pub line_unserved : (n : ℕ) (w : World) (s : Session) (line : List ℕ) (held : Held) (st : State) → IsAtWorld w held st → Serves n w s s line false false held held st st
-line_unserved n w s line held st at = by (line_of built_forms line) refl
+line_unserved n w s line held st at = by (line_of served_forms line) refl
   where
-    by : (l : Line) → line_of built_forms line ≡ l → Serves n w s s line false false held held st st
+    by : (l : Line) → line_of served_forms line ≡ l → Serves n w s s line false false held held st st
     by Comment is =
         let whole : Serves n w s s line true false held held st st = serves_comment n w s line held st st is at refl refl
         in record {

@@ -1,11 +1,12 @@
 -- What serving a command keeps to on every host and stage.
 --     Goes old new      a host: no call changes whether it tells its bytes, and its counts of faults and of fetched bytes don't fall
 --     Attended old new      a stage
---     IsDamaged command stage held s page      what the command reads is damaged, and no number refuses it
---     MeetsDamage command stage held s page      of a checkout: damage that it meets before it is answered
+--     IsDamaged user command stage held s page      what the user's command reads is damaged, and nothing refuses it before that
+--     MeetsDamage user command stage held s page      of a checkout and a query: damage that it meets before it is answered
+--     IsOther refusal result ..      a query of a shape that isn't built was refused, and nothing else was done
 --     IfNoFile P reply      this holds where the reply is that there is no such file
 --     Acts d s t w result ..      where the store is at a World, a command does what it means, or is stopped in it
-use Rattle.std.specs.Prelude.{◌≡◌, ◌≤◌, ◌-◌, ◌^◌, min, ℕ, Bool, true, false, List, [], length, Option, Some, None, Result, Ok, Err}
+use Rattle.std.specs.Prelude.{◌≡◌, ◌≤◌, ◌-◌, ◌^◌, min, ℕ, Bool, true, false, List, [], length, Option, Some, None, Result, Ok, Err, MatchResult}
 use Rattle.std.specs.List.{All}
 use Rattle.ov_host.specs.declared.area.Area.TheVariants.{Pages}
 use Rattle.ov_host.specs.Host.{Rose, State}
@@ -36,7 +37,9 @@ use Rattle.ov_model.specs.declared.reply.Reply.{Reply}
 use Rattle.ov_session.specs.declared.errors.EndErr.{EndErr}
 use Rattle.ov_session.specs.declared.errors.EndErr.TheVariants as ending
 use Rattle.ov_store.specs.Committing.{IfSet, IsDamagedAt, Set, commit_off}
+use Rattle.ov_store.specs.Kept.{Kept}
 use Rattle.ov_store.specs.Scanning.{IsDamagedIn, scan_off, set_in}
+use Rattle.ov_query.specs.Queries.{IsQueryDamaged}
 use Rattle.ov_files.specs.Files.{file_rows}
 use Rattle.std.specs.FinMap.{get}
 
@@ -56,20 +59,29 @@ pub record Attended (old new : Staged) : Type 0 where
 abbrev pub AreRowsOf : Shape → List ℕ → Staged → List Row → Type 0
 AreRowsOf schema file stage rows = stage.tells ≡ true → file_rows schema file (get stage.files file) ≡ Ok rows
 
--- a list or a partition of the versions that it names, or these versions as the parents of its file's rows
-abbrev pub IsDamaged : Command → Staged → Held → State → ℕ → Type 0
-IsDamaged (asks.Checkout cvd vids file table) stage held s page =
-    (scan_off held.numbers cvd vids ≡ None) × IsDamagedIn (set_in held.numbers cvd) vids s page
-IsDamaged (asks.Commit cvd vids file message added) stage held s page =
+-- a list or a partition of the versions that a checkout names
+abbrev pub IsScanDamaged : List ℕ → List ℕ → Held → State → ℕ → Type 0
+IsScanDamaged cvd vids held s page = (scan_off held.numbers cvd vids ≡ None) × IsDamagedIn (set_in held.numbers cvd) vids s page
+
+-- these versions as the parents of a file's rows
+abbrev pub IsCommitDamaged : List ℕ → List ℕ → List ℕ → List ℕ → Staged → Held → State → ℕ → Type 0
+IsCommitDamaged cvd vids file message stage held s page =
     (rows : List Row) × (commit_off held cvd vids rows ≡ None)
     × IfSet (λ set. AreRowsOf set.schema file stage rows × IsDamagedAt set (record { vids = vids; message = message; rows = rows }) s page)
     (set_in held.numbers cvd)
-IsDamaged _ stage held s page = ⊥
 
--- a checkout that isn't refused reads all that it names before it is answered; a commit may be refused for its rows before that
-abbrev pub MeetsDamage : Command → Staged → Held → State → ℕ → Type 0
-MeetsDamage (asks.Checkout cvd vids file table) stage held s page = IsDamaged (asks.Checkout cvd vids file table) stage held s page
-MeetsDamage _ stage held s page = ⊥
+abbrev pub IsDamaged : List ℕ → Command → Staged → Held → State → ℕ → Type 0
+IsDamaged user (asks.Checkout cvd vids file table) stage held s page = IsScanDamaged cvd vids held s page
+IsDamaged user (asks.Commit cvd vids file message added) stage held s page = IsCommitDamaged cvd vids file message stage held s page
+IsDamaged user (asks.Run text) stage held s page = IsQueryDamaged held.numbers user text s page
+IsDamaged user _ stage held s page = ⊥
+
+-- a checkout or a query that isn't refused reads all that is its own before it is answered; a commit may be refused for its rows
+-- before that
+abbrev pub MeetsDamage : List ℕ → Command → Staged → Held → State → ℕ → Type 0
+MeetsDamage user (asks.Checkout cvd vids file table) stage held s page = IsDamaged user (asks.Checkout cvd vids file table) stage held s page
+MeetsDamage user (asks.Run text) stage held s page = IsDamaged user (asks.Run text) stage held s page
+MeetsDamage user _ stage held s page = ⊥
 
 -- what holds where the reply is that there is no file of some name
 abbrev pub IfNoFile : Type 0 → Reply → Type 0
@@ -85,6 +97,13 @@ IsNoDamage _ = Unit {0}
 abbrev pub Acts : Deed → Session → Session → World → Result Reply EndErr → Held → Held → State → State → Type 0
 Acts d s t w (Ok reply) before now old new = Does d s t w reply before now old new
 Acts d s t w (Err why) before now old new = Breaks d s w old new
+
+-- the store, the host and the stage are as they were, and there is this refusal, or no memory for it
+pub record IsOther (refusal : Refusal) (result : Result Reply EndErr) (before now : Kept) (stage staged : Staged) (old new : State) : Type 0 where
+  pub store : now ≡ before
+  pub stage_same : staged ≡ stage
+  pub host : new ≡ old
+  pub reply : MatchResult result (λ r. r ≡ says.Refused refusal) (λ why. why ≡ ending.Memory)
 
 -- damage of the pages, at a page of which this holds; other ends aren't of the pages
 abbrev pub IsDamageOf : (ℕ → Type 0) → EndErr → Type 0

@@ -16,9 +16,8 @@ ghost use Rattle.ov_store.specs.Kept.{MayCall};
 ghost use Rattle.ov_store.specs.Scanning.{set_in};
 ghost use Rattle.ov_store.specs.declared.errors.StoreErr.{StoreErr as StoreErrValue};
 ghost use Rattle.ov_session.specs.Bounds.{bytes_in};
-ghost use Rattle.ov_session.specs.Commands.{Acts, Attended, Goes, HasFileRows, HasMissed, HasRowsOf, HasSet, HasShortRows, IfDamaged, IfNoFile, IsAskedOf, IsDamageOf, IsDamaged, IsNoDamage, IsNoHost, begun};
+ghost use Rattle.ov_session.specs.Commands.{Acts, Attended, Goes, HasFileRows, HasMissed, HasRowsOf, HasSet, HasShortRows, IfDamaged, IfNoFile, IsAskedOf, IsCommitDamaged, IsDamageOf, IsNoDamage, IsNoHost, begun};
 ghost use Rattle.ov_session.specs.Standing.{Idle, IsAtSilently, IsIdle};
-ghost use Rattle.ov_model.specs.declared.command.Command.TheVariants as asks;
 
 use crate::errors::{EndErr, refused};
 use ov_files::{FileRows, rows_of_file};
@@ -208,8 +207,7 @@ pub fn commit<H: Host, T: Stage>(
         → H.state host.new ≡ H.state host.old }
     ensures cause { IsErrOf result EndErr.Host → Rose (H.state host.old).faults (H.state host.new).faults }
     ensures stage { IsErrOf result EndErr.Stage → Rose (T.staged stage.old).faults (T.staged stage.new).faults }
-    ensures damaged { IfErr result (IsDamageOf (IsDamaged (asks.Commit cvd vids.now file.now message.now None) (T.staged stage.old) store.old.held
-        (H.state host.new))) }
+    ensures damaged { IfErr result (IsDamageOf (IsCommitDamaged cvd vids.now file.now message.now (T.staged stage.old) store.old.held (H.state host.new))) }
     ensures undamaged { (w : World) → IsAtWorld w store.old.held (H.state host.old) → IfErr result IsNoDamage }
     ensures usable { OnOk result (MayCall store.new (H.state host.new)) }
     ensures by_journal { IsByJournal store.old.held (H.state host.old) → (IsErrOf result EndErr.Host → ⊥) → IsByJournal store.new.held (H.state host.new) }

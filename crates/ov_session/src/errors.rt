@@ -1,5 +1,5 @@
 // Why a line ends the run, and what an error of the store comes to.
-ghost use Rattle.std.specs.Prelude.{◌≡◌, Some, IfOk, IfErr};
+ghost use Rattle.std.specs.Prelude.{◌≡◌, true, Some, IfOk, IfErr, is_some};
 ghost use Rattle.ov_session.specs.declared.errors.EndErr.TheVariants as ending;
 ghost use Rattle.ov_session.specs.Errors.{by_file, end_of, reply_of};
 
@@ -40,6 +40,19 @@ impl From<FileErr> for EndErr {
             FileErr::Stage => EndErr::Stage,
             FileErr::Memory => EndErr::Memory,
         }
+    }
+}
+
+/// Why the run ends, by an error of the store that is no refusal.
+pub fn end(off: StoreErr) -> EndErr
+    requires { is_some (end_of off) ≡ true }
+    ensures { end_of off ≡ Some result }
+{
+    match off {
+        StoreErr::Host => EndErr::Host,
+        StoreErr::Memory => EndErr::Memory,
+        StoreErr::Damaged { area, at } => EndErr::Damaged { area, at },
+        _ => unreachable!(),
     }
 }
 

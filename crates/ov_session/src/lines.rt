@@ -4,6 +4,7 @@ ghost use Rattle.ov_cmd.specs.Asked.{AsksBuilt};
 ghost use Rattle.ov_cmd.specs.Errors.{refusal_of};
 ghost use Rattle.ov_cmd.specs.Said.{said};
 ghost use Rattle.ov_cmd.specs.declared.line_err.LineErr.TheVariants as why;
+ghost use Rattle.ov_model.specs.BuiltShapes.{served_line};
 ghost use Rattle.ov_session.specs.Asking.{IsUnasked, line_asked, refusal_to};
 ghost use Rattle.ov_session.specs.declared.errors.EndErr.TheVariants as ending;
 ghost use Rattle.ov_session.specs.declared.lines.Unasked.TheVariants as unasked;
@@ -25,8 +26,9 @@ pub enum Unasked {
 }
 
 /// What a user's line asks: nothing where it is a comment, or a command of those that the program has, which no rule denies.
+/// Among them is any `run`: one of a shape that isn't built is refused where it is answered.
 pub fn asked(alloc: Global, line: &[u8], user: &Txt) -> Result<Option<Command>, Unasked>
-    ensures ok { IfOk result (λ c. line_asked user.now line.now ≡ said c) }
+    ensures ok { IfOk result (λ c. line_asked user.now line.now ≡ served_line (said c)) }
     ensures asked { IfOk result AsksBuilt }
     ensures err { IfErr result (IsUnasked (line_asked user.now line.now)) }
 {

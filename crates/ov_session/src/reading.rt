@@ -1,25 +1,29 @@
 // The commands that read.
-ghost use Rattle.std.specs.Prelude.{◌≡◌, ◌≤◌, ◌+◌, ℕ, List, true, false, None, Some, IsErrOf, IfOk, IfErr, MatchResult, OnOk, map};
+ghost use Rattle.std.specs.Prelude.{◌≡◌, ◌≤◌, ◌+◌, ℕ, List, true, false, None, Some, IsErrOf, IfOk, IfErr, MatchResult, OnOk, length, map};
 ghost use Rattle.ov_host.specs.Host.{Rose, State};
 ghost use Rattle.ov_model.specs.Act.{Session, checkout_deed, gives, log_deed, ls_line, merge_of, tells};
+ghost use Rattle.ov_model.specs.Asking.{run_deed};
+ghost use Rattle.ov_model.specs.QueryTexts.{asked_of};
 ghost use Rattle.ov_model.specs.World.{World, Dataset, set_named};
-ghost use Rattle.ov_model.specs.declared.command.Command.TheVariants as asks;
+ghost use Rattle.ov_model.specs.declared.refusal.Refusal.{Refusal as RefusalValue};
 ghost use Rattle.ov_model.specs.declared.reply.Reply.TheVariants as says;
 ghost use Rattle.ov_core.specs.AtWorld.{IsAtWorld};
 ghost use Rattle.law_runs.specs.Serving.{session_of};
 ghost use Rattle.ov_fetch.specs.Extents.{Looked};
+ghost use Rattle.ov_query.specs.Queries.{IsQueryDamaged, IsReplyBy, query_fetch, query_off, taken};
 ghost use Rattle.ov_store.specs.Scanning.{IsDamagedIn, IsUndamaged, IsUnscanned, scan_off, set_in};
 ghost use Rattle.ov_store.specs.declared.errors.StoreErr.{StoreErr as StoreErrValue};
 ghost use Rattle.ov_session.specs.Bounds.{bytes_in};
 ghost use Rattle.ov_session.specs.Standing.{IsIdle};
-ghost use Rattle.ov_session.specs.Commands.{Acts, Attended, IfNoFile, IsDamageOf, IsDamaged, IsMergeOf, IsNoDamage, IsNoHost};
+ghost use Rattle.ov_session.specs.Commands.{Acts, Attended, IfNoFile, IsDamageOf, IsMergeOf, IsNoDamage, IsNoHost, IsScanDamaged};
 
-use crate::errors::{EndErr, refused};
+use crate::errors::{EndErr, end, refused};
 use ov_checkout::{Checkout, checkout_of};
 use ov_files::put_file;
 use ov_host::{Host, Stage};
 use ov_listing::{cvd_lines, log_lines};
 use ov_model::{Refusal, Reply, Seq};
+use ov_query::answer_to;
 use ov_store::{Store, StoreErr};
 use ov_value::Txt;
 use std::alloc::{AllocError, Global};
@@ -98,10 +102,9 @@ pub fn checkout<H: Host, T: Stage>(
     ensures attended { Attended (T.staged stage.old) (T.staged stage.new) }
     ensures cause { IsErrOf result EndErr.Host → Rose (H.state host.old).faults (H.state host.new).faults }
     ensures stage { IsErrOf result EndErr.Stage → Rose (T.staged stage.old).faults (T.staged stage.new).faults }
-    ensures damaged { IfErr result (IsDamageOf (IsDamaged (asks.Checkout cvd vids.now file None) (T.staged stage.old) store.now.held
-        (H.state host.new))) }
+    ensures damaged { IfErr result (IsDamageOf (IsScanDamaged cvd vids.now store.now.held (H.state host.new))) }
     ensures whole { (page : ℕ) → (H.state host.old).tells ≡ true
-        → OnOk result (IsDamaged (asks.Checkout cvd vids.now file None) (T.staged stage.old) store.now.held (H.state host.old) page → ⊥) }
+        → OnOk result (IsScanDamaged cvd vids.now store.now.held (H.state host.old) page → ⊥) }
     ensures undamaged { (w : World) → IsAtWorld w store.now.held (H.state host.old) → IfErr result IsNoDamage }
     ensures seen { IfOk result (IfNoFile ⊥) }
     ensures idle { IfErr result (λ why. IsIdle why store.now store.now (T.staged stage.old) (T.staged stage.new) (H.state host.old) (H.state host.new)) }
@@ -113,6 +116,40 @@ pub fn checkout<H: Host, T: Stage>(
     match merged(alloc, store, host, cvd.as_str(), vids) {
         Ok(made) => give(stage, cvd, made, file),
         Err(off) => refused(off, cvd),
+    }
+}
+
+/// The reply to a query of a user: an answer, which reads each page of its versions once, or the first refusal, which reads
+/// nothing.
+pub fn run_query<H: Host>(
+    alloc: Global,
+    store: &Store,
+    host: &mut H,
+    user: &Txt,
+    text: &Txt,
+) -> Result<Reply, EndErr>
+    requires usable { store.now.usable ≡ true }
+    requires text { length text.now ≤ 65536 }
+    ensures looked { Looked (H.state host.old) (H.state host.new) }
+    ensures fetched { (H.state host.new).fetched ≤ (H.state host.old).fetched + query_fetch store.now.held.numbers user.now text.now }
+    ensures unread { (refusal : RefusalValue) → query_off store.now.held.numbers user.now text.now ≡ Some refusal
+        → H.state host.new ≡ H.state host.old }
+    ensures cause { IsErrOf result EndErr.Host → Rose (H.state host.old).faults (H.state host.new).faults }
+    ensures host_alone { IsErrOf result EndErr.Stage → ⊥ }
+    ensures damaged { IfErr result (IsDamageOf (IsQueryDamaged store.now.held.numbers user.now text.now (H.state host.new))) }
+    ensures whole { (page : ℕ) → (H.state host.old).tells ≡ true
+        → OnOk result (IsQueryDamaged store.now.held.numbers user.now text.now (H.state host.old) page → ⊥) }
+    ensures undamaged { (w : World) → IsAtWorld w store.now.held (H.state host.old) → IfErr result IsNoDamage }
+    ensures reply { IfOk result (IsReplyBy (query_off store.now.held.numbers user.now text.now)) }
+    ensures memory { (refusal : RefusalValue) → query_off store.now.held.numbers user.now text.now ≡ Some refusal
+        → IfErr result (λ why. why ≡ EndErr.Memory) }
+    ensures seen { IfOk result (IfNoFile ⊥) }
+    ensures told { (w : World) (s : Session) → IsAtWorld w store.now.held (H.state host.old) → s.user ≡ user.now
+        → IfOk result (λ reply. run_deed w s (taken (asked_of text.now)) ≡ tells s reply) }
+{
+    match answer_to(alloc, store, host, user.as_str(), text.as_str()) {
+        Ok(reply) => Ok(reply),
+        Err(off) => Err(end(off)),
     }
 }
 

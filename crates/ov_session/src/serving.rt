@@ -1,11 +1,13 @@
 // A line and its reply.
-ghost use Rattle.std.specs.Prelude.{◌≡◌, ◌≢◌, ◌≤◌, ◌+◌, ℕ, List, true, false, Some, None, Ok, IsErrOf, IsTrue, IfOk, IfErr, OnOk, is_ok};
+ghost use Rattle.std.specs.Prelude.{◌≡◌, ◌≢◌, ◌≤◌, ◌+◌, ℕ, true, false, None, Ok, Err, IsErrOf, IsTrue, IfOk, IfErr, OnOk, is_ok};
 ghost use Rattle.ov_host.specs.Host.{Calls, Rose, State};
 ghost use Rattle.ov_host.specs.Tape.{Prints};
 ghost use Rattle.ov_cmd.specs.Asked.{IsAsked};
+ghost use Rattle.ov_model.specs.BuiltShapes.{if_built};
 ghost use Rattle.ov_model.specs.Deed.{permitted};
 ghost use Rattle.ov_model.specs.Line.{Asks};
 ghost use Rattle.ov_model.specs.declared.command.Command.{Command as CommandValue};
+ghost use Rattle.ov_model.specs.declared.refusal.Refusal.{Refusal};
 ghost use Rattle.ov_model.specs.Replies.{reply_text};
 ghost use Rattle.ov_model.specs.World.{World};
 ghost use Rattle.ov_value.specs.Naming.{is_name};
@@ -13,17 +15,16 @@ ghost use Rattle.ov_core.specs.AtWorld.{IsAtWorld};
 ghost use Rattle.ov_core.specs.Held.{IsByJournal};
 ghost use Rattle.law_runs.specs.Serving.{Serves, is_error as is_error_of, session_of};
 ghost use Rattle.ov_store.specs.Kept.{Kept, MayCall};
-ghost use Rattle.ov_store.specs.declared.errors.StoreErr.{StoreErr};
 ghost use Rattle.ov_session.specs.Asking.{line_asked};
-ghost use Rattle.ov_session.specs.Bounds.{IsReading, IsReadingCommand, command_fetch, command_off, line_off, may_fetch};
+ghost use Rattle.ov_session.specs.Bounds.{IsReading, IsReadingCommand, command_fetch, is_command_off, is_off, may_fetch};
 ghost use Rattle.ov_session.specs.Replying.{IsReplied};
 ghost use Rattle.ov_session.specs.Standing.{IsAtSilently, IsAtSome, IsIdle};
-ghost use Rattle.ov_session.specs.Commands.{Acts, Attended, Goes, IfNoFile, IsDamageOf, IsDamaged, IsNoDamage, IsSaid, IsUnsaid, MeetsDamage, is_comment_in, is_comment_of, is_refused};
+ghost use Rattle.ov_session.specs.Commands.{Acts, Attended, Goes, IfNoFile, IsDamageOf, IsDamaged, IsNoDamage, IsOther, IsSaid, IsUnsaid, MeetsDamage, is_comment_in, is_comment_of, is_refused};
 
 use crate::changing::{commit, drop_cvd, init};
 use crate::errors::EndErr;
 use crate::lines::{asked, refusal};
-use crate::reading::{checkout, log, ls};
+use crate::reading::{checkout, log, ls, run_query};
 use ov_host::{Host, Stage};
 use ov_model::{Command, Reply};
 use ov_reply::{is_error, reply as reply_text};
@@ -48,6 +49,7 @@ fn answer<H: Host, T: Stage>(
     store: &mut Store,
     host: &mut H,
     stage: &mut T,
+    user: &Txt,
     command: Command,
 ) -> Result<Reply, EndErr>
     requires call { MayCall store.old (H.state host.old) }
@@ -55,23 +57,24 @@ fn answer<H: Host, T: Stage>(
     ensures goes { Goes (H.state host.old) (H.state host.new) }
     ensures attended { Attended (T.staged stage.old) (T.staged stage.new) }
     ensures still { IsReadingCommand command → store.new.held ≡ store.old.held }
-    ensures fetched { (H.state host.new).fetched ≤ (H.state host.old).fetched + command_fetch store.old.held.numbers command }
-    ensures unread { (off : StoreErr) → command_off store.old.held.numbers command ≡ Some off
-        → (H.state host.new).fetched ≡ (H.state host.old).fetched }
+    ensures fetched { (H.state host.new).fetched ≤ (H.state host.old).fetched + command_fetch store.old.held.numbers user.now command }
+    ensures unread { is_command_off store.old.held.numbers user.now command ≡ true → (H.state host.new).fetched ≡ (H.state host.old).fetched }
     ensures cause { IsErrOf result EndErr.Host → Rose (H.state host.old).faults (H.state host.new).faults }
     ensures stage { IsErrOf result EndErr.Stage → Rose (T.staged stage.old).faults (T.staged stage.new).faults }
-    ensures damaged { IfErr result (IsDamageOf (IsDamaged command (T.staged stage.old) store.old.held (H.state host.new))) }
+    ensures damaged { IfErr result (IsDamageOf (IsDamaged user.now command (T.staged stage.old) store.old.held (H.state host.new))) }
     ensures whole { (page : ℕ) → (H.state host.old).tells ≡ true
-        → OnOk result (MeetsDamage command (T.staged stage.old) store.old.held (H.state host.old) page → ⊥) }
+        → OnOk result (MeetsDamage user.now command (T.staged stage.old) store.old.held (H.state host.old) page → ⊥) }
     ensures usable { OnOk result (MayCall store.new (H.state host.new)) }
     ensures by_journal { IsByJournal store.old.held (H.state host.old) → (IsErrOf result EndErr.Host → ⊥) → IsByJournal store.new.held (H.state host.new) }
     ensures at { (w : World) → IsAtWorld w store.old.held (H.state host.old) → OnOk result (IsAtSilently store.new.held (H.state host.old) (H.state host.new)) }
     ensures missed { IfOk result (IfNoFile (Rose (T.staged stage.old).misses (T.staged stage.new).misses)) }
     ensures idle { IfErr result (λ why. IsIdle why store.old store.new (T.staged stage.old) (T.staged stage.new) (H.state host.old) (H.state host.new)) }
     ensures undamaged { (w : World) → IsAtWorld w store.old.held (H.state host.old) → IfErr result IsNoDamage }
-    ensures acts { (w : World) (user : List ℕ) → (T.staged stage.old).tells ≡ true → IsAtWorld w store.old.held (H.state host.old)
-        → Acts (permitted w (session_of (T.staged stage.old).files user) command) (session_of (T.staged stage.old).files user)
-        (session_of (T.staged stage.new).files user) w result store.old.held store.new.held (H.state host.old) (H.state host.new) }
+    ensures other { (refusal : Refusal) → if_built command ≡ Err refusal → IsOther refusal result store.old store.new
+        (T.staged stage.old) (T.staged stage.new) (H.state host.old) (H.state host.new) }
+    ensures acts { (w : World) → if_built command ≡ Ok command → (T.staged stage.old).tells ≡ true → IsAtWorld w store.old.held (H.state host.old)
+        → Acts (permitted w (session_of (T.staged stage.old).files user.now) command) (session_of (T.staged stage.old).files user.now)
+        (session_of (T.staged stage.new).files user.now) w result store.old.held store.new.held (H.state host.old) (H.state host.new) }
 {
     match command {
         Command::Init { cvd, schema, file } => init(alloc, store, host, stage, cvd, schema, file),
@@ -97,6 +100,7 @@ fn answer<H: Host, T: Stage>(
             file,
             table: _,
         } => checkout(alloc, store, host, stage, cvd, vids.as_slice(), file),
+        Command::Run { text } => run_query(alloc, store, host, user, &text),
         Command::Log { cvd } => Ok(log(alloc, store, cvd)?),
         Command::Ls => Ok(ls(alloc, store)?),
         Command::DropCvd { cvd } => drop_cvd(store, host, cvd),
@@ -159,15 +163,15 @@ pub fn serve<H: Host, T: Stage>(
     ensures attended { Attended (T.staged stage.old) (T.staged stage.new) }
     ensures still { IsReading (line_asked user.old line.now) → store.new.held ≡ store.old.held }
     ensures fetched { (H.state host.new).fetched
-        ≤ (H.state host.old).fetched + may_fetch store.old.held.numbers (line_asked user.old line.now) }
-    ensures unread { (off : StoreErr) → line_off store.old.held.numbers (line_asked user.old line.now) ≡ Some off
+        ≤ (H.state host.old).fetched + may_fetch store.old.held.numbers user.old (line_asked user.old line.now) }
+    ensures unread { is_off store.old.held.numbers user.old (line_asked user.old line.now) ≡ true
         → (H.state host.new).fetched ≡ (H.state host.old).fetched }
     ensures cause { IsErrOf result EndErr.Host → Rose (H.state host.old).faults (H.state host.new).faults }
     ensures stage { IsErrOf result EndErr.Stage → Rose (T.staged stage.old).faults (T.staged stage.new).faults }
     ensures damaged { IfErr result (IsDamageOf (λ page. (command : CommandValue) × (line_asked user.old line.now ≡ Asks command)
-        × IsDamaged command (T.staged stage.old) store.old.held (H.state host.new) page)) }
+        × IsDamaged user.old command (T.staged stage.old) store.old.held (H.state host.new) page)) }
     ensures whole { (command : CommandValue) (page : ℕ) → line_asked user.old line.now ≡ Asks command → (H.state host.old).tells ≡ true
-        → OnOk result (MeetsDamage command (T.staged stage.old) store.old.held (H.state host.old) page → ⊥) }
+        → OnOk result (MeetsDamage user.old command (T.staged stage.old) store.old.held (H.state host.old) page → ⊥) }
     ensures idle { IfErr result (λ why. IsIdle why store.old store.new (T.staged stage.old) (T.staged stage.new) (H.state host.old) (H.state host.new)) }
     ensures undamaged { (w : World) → IsAtWorld w store.old.held (H.state host.old) → IfErr result IsNoDamage }
     ensures usable { OnOk result (MayCall store.new (H.state host.new)) }
@@ -187,7 +191,7 @@ pub fn serve<H: Host, T: Stage>(
     match asked(alloc, line, user) {
         Ok(None) => Ok(Served::Comment),
         Ok(Some(command)) => {
-            let reply = answer(alloc, store, host, stage, command)?;
+            let reply = answer(alloc, store, host, stage, user, command)?;
             say(alloc, host, reply)
         }
         Err(off) => {

@@ -33,7 +33,7 @@ use Rattle.law_runs.specs.Stops.{IsDue, IsFound, printed_of}
 use Rattle.ov_model.specs.Act.{Session}
 use Rattle.ov_model.proofs.Replying.{says_some}
 use Rattle.ov_model.specs.Course.{Item, SaysSome, Space, line_served, play, served}
-use Rattle.ov_model.specs.Forms.{built_forms}
+use Rattle.ov_model.specs.BuiltShapes.{served_forms}
 use Rattle.ov_model.specs.Line.{Refused, line_of}
 use Rattle.ov_model.specs.Words.{lines_of}
 use Rattle.ov_model.specs.World.{World}
@@ -61,14 +61,14 @@ use Rattle.ov_host.specs.Source.{Script}
 
 -- ---- what is kept of a line says what it is
 
-pub long_line : (line : List ℕ) → 65536 < length line → line_of built_forms line ≡ Refused LongLine
+pub long_line : (line : List ℕ) → 65536 < length line → line_of served_forms line ≡ Refused LongLine
 long_line line long = cond-true (nat_lt 65536 (length line)) (Refused LongLine) _ (lt-ltb 65536 (length line) long)
 
-pub kept_line : (line : List ℕ) → line_of built_forms (take 65537 line) ≡ line_of built_forms line
+pub kept_line : (line : List ℕ) → line_of served_forms (take 65537 line) ≡ line_of served_forms line
 kept_line line =
     elim (cases_lt 65537 (length line)) [
       | inl long ↦ long_line (take 65537 line) (omega (arith, length-take 65537 line)) ∙ sym (long_line line (omega arith))
-      | inr short ↦ ap (line_of built_forms) (take_all 65537 line short)
+      | inr short ↦ ap (line_of served_forms) (take_all 65537 line short)
     ]
 
 pub serves_kept : (steps : ℕ) (w : World) (s t : Session) (line : List ℕ) (ok refused : Bool) (before now : Held) (old new : State)
@@ -293,7 +293,7 @@ module _ (steps : ℕ) (w : World) (old mid new : Ends) (told : IsTold w old) (h
   items_of space = (course_of steps w old space).items
 
   some : (space : Space) → SaysSome (items_of space)
-  some space = says_some built_forms steps w (session_at old) (lines_of old.script.left) space (begun_where w (as_read old.host.tape.disk) told.stands)
+  some space = says_some served_forms steps w (session_at old) (lines_of old.script.left) space (begun_where w (as_read old.host.tape.disk) told.stands)
 
   stops_by : (space : Space) → Only mid.host.tape new.host.tape (IsFound w (printed_of mid.host) (items_of space))
       → (c : Image) → left_since new.host.tape (clock old.host.tape) c → IsDue w (printed_of old.host) (items_of space) c
@@ -348,13 +348,13 @@ module _ (steps : ℕ) (w : World) (old mid new : Ends) (told : IsTold w old) (h
 
 -- ---- a store that wasn't opened
 
-licensed_none : (entry : Entry) (past : List Made) (n : ℕ) (w : World) (s : Session) (lines : List (List ℕ)) → Licensed entry past built_forms n w s lines []
+licensed_none : (entry : Entry) (past : List Made) (n : ℕ) (w : World) (s : Session) (lines : List (List ℕ)) → Licensed entry past served_forms n w s lines []
 licensed_none entry past n w s [] = tt
 licensed_none entry past n w s (line ∷ lines) = (
-  line_licensed n entry past w s (line_of built_forms line),
-  subst (λ (space : Space). Licensed entry (past ++ made_by w (served built_forms n w s line []).items) built_forms n
-      (served built_forms n w s line []).world (served built_forms n w s line []).session lines space) (sym (line_leaves n w s (line_of built_forms line)))
-      (licensed_none entry (past ++ made_by w (served built_forms n w s line []).items) n (served built_forms n w s line []).world (served built_forms n w s line []).session lines),
+  line_licensed n entry past w s (line_of served_forms line),
+  subst (λ (space : Space). Licensed entry (past ++ made_by w (served served_forms n w s line []).items) served_forms n
+      (served served_forms n w s line []).world (served served_forms n w s line []).session lines space) (sym (line_leaves n w s (line_of served_forms line)))
+      (licensed_none entry (past ++ made_by w (served served_forms n w s line []).items) n (served served_forms n w s line []).world (served served_forms n w s line []).session lines),
 )
 
 module _ (steps : ℕ) (w : World) (old new : Ends) (told : IsTold w old) (opening : Only old.host.tape new.host.tape (IsWorld w (printed_of old.host))) where
@@ -363,7 +363,7 @@ module _ (steps : ℕ) (w : World) (old new : Ends) (told : IsTold w old) (openi
     space = [];
     licensed = λ entry is. licensed_none entry [] steps w (session_at old) (lines_of old.script.left);
     stops = stops_unopened w old.host new.host (course_of steps w old []).items
-        (says_some built_forms steps w (session_at old) (lines_of old.script.left) [] (begun_where w (as_read old.host.tape.disk) told.stands)) opening;
+        (says_some served_forms steps w (session_at old) (lines_of old.script.left) [] (begun_where w (as_read old.host.tape.disk) told.stands)) opening;
   }
 
   plays_opening : (off : OpenErr) → IsOutside off → Plays (status_by_opening off) steps w old new

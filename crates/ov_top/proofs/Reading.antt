@@ -17,7 +17,7 @@ use Rattle.ov_files.specs.Files.{file_rows}
 use Rattle.ov_value.specs.Shapes.{Shape}
 use Rattle.ov_core.specs.Held.{Held, IsByJournal}
 use Rattle.ov_model.specs.Book.{Row}
-use Rattle.ov_model.specs.Forms.{built_forms}
+use Rattle.ov_model.specs.BuiltShapes.{served_forms}
 use Rattle.ov_model.specs.Line.{Asks, Refused, line_of}
 use Rattle.ov_model.specs.Users.{line_by}
 use Rattle.ov_model.specs.Words.{lines_of}
@@ -37,7 +37,7 @@ use Rattle.ov_script.specs.declared.reader.ReadErr.{ReadErr}
 use Rattle.ov_script.specs.declared.reader.ReadErr.TheVariants as reading
 use Rattle.ov_script.proofs.Readers.{next_lines}
 use Rattle.ov_top.specs.Errors.{by_reading, by_serving}
-use Rattle.ov_top.specs.Running.{AreReading, IsLineOf, IsRunDamage, IsUnharmed, line_of_run, reads}
+use Rattle.ov_top.specs.Running.{AreReading, IsLineOf, IsRunDamage, IsUnharmed, line_of_run, reads, user_of_run}
 use Rattle.ov_top.proofs.Lined.{kept_line, long_line}
 
 -- ---- lines, as they were kept
@@ -45,7 +45,7 @@ use Rattle.ov_top.proofs.Lined.{kept_line, long_line}
 pub line_kept : (user x kept line : List ℕ) → user ≡ codes "admin" → x ≡ kept → kept ≡ take 65537 line → line_asked user x ≡ line_of_run line
 line_kept user x kept line first value keeps =
     ap (λ (u : List ℕ). line_asked u x) first
-    ∙ ap (line_by (codes "admin")) (ap (line_of built_forms) (value ∙ keeps) ∙ kept_line line)
+    ∙ ap (line_by (codes "admin")) (ap (line_of served_forms) (value ∙ keeps) ∙ kept_line line)
 
 -- a line that asks for something was kept whole
 asked_whole : (x line : List ℕ) (command : Command) → x ≡ take 65537 line → line_of_run x ≡ Asks command → x ≡ line
@@ -86,17 +86,19 @@ pub fetches_all : (before now : Held) (all left : List (List ℕ)) (old new : St
 fetches_all before now all left old new is = omega (arith, is.bound)
 
 module _ (before now : Held) (all left later : List (List ℕ)) (user x line : List ℕ) (old mid new : State) (so : Fetches before now all left old mid)
-    (next : left ≡ line ∷ later) (kept : line_asked user x ≡ line_of_run line)
-    (fetched : new.fetched ≤ mid.fetched + may_fetch now.numbers (line_asked user x)) where
+    (first : user ≡ user_of_run) (next : left ≡ line ∷ later) (kept : line_asked user x ≡ line_of_run line)
+    (fetched : new.fetched ≤ mid.fetched + may_fetch now.numbers user (line_asked user x)) where
   there : Fetches before now all (line ∷ later) old mid
   there = subst (λ (ls : List (List ℕ)). Fetches before now all ls old mid) next so
 
-  same_bound : may_fetch now.numbers (line_asked user x) ≡ may_fetch before.numbers (line_of_run line)
-  same_bound = ap (λ (h : Held). may_fetch h.numbers (line_asked user x)) so.same ∙ ap (may_fetch before.numbers) kept
+  same_bound : may_fetch now.numbers user (line_asked user x) ≡ may_fetch before.numbers user_of_run (line_of_run line)
+  same_bound =
+      ap (λ (h : Held). may_fetch h.numbers user (line_asked user x)) so.same
+      ∙ ap (λ (u : List ℕ). may_fetch before.numbers u (line_asked user x)) first ∙ ap (may_fetch before.numbers user_of_run) kept
 
   still_bound : new.fetched + reads before.numbers later ≤ old.fetched + reads before.numbers all
   still_bound =
-      let split : reads before.numbers (line ∷ later) ≡ may_fetch before.numbers (line_of_run line) + reads before.numbers later = refl
+      let split : reads before.numbers (line ∷ later) ≡ may_fetch before.numbers user_of_run (line_of_run line) + reads before.numbers later = refl
       in omega (arith, fetched, same_bound, split, there.bound)
 
   pub fetches_more : (held : Held) → (IsReading (line_asked user x) → held ≡ now) → Fetches before held all later old new
@@ -136,33 +138,33 @@ module _ (stage staged : Staged) (files : staged.files ≡ stage.files) (told : 
   set_as file rows P (Some set) is = (rows_as set.schema file rows is.0, is.1)
 
   -- what is read of the stage is the same
-  damaged_as : (command : Command) → IsDamaged command stage held s page → IsDamaged command staged held s page
-  damaged_as (asks.Checkout cvd vids file table) is = is
-  damaged_as (asks.Commit cvd vids file message added) is = (is.0, is.1, set_as file is.0 _ _ is.2)
-  damaged_as (asks.Init cvd schema file) is = absurd is
-  damaged_as (asks.CommitStaged user table message) is = absurd is
-  damaged_as (asks.Run text) is = absurd is
-  damaged_as (asks.Optimize cvd p q) is = absurd is
-  damaged_as (asks.OptimizeWithin cvd budget) is = absurd is
-  damaged_as (asks.Advise cvd budget a b) is = absurd is
-  damaged_as (asks.Migrate count) is = absurd is
-  damaged_as (asks.Layout cvd) is = absurd is
-  damaged_as (asks.Log cvd) is = absurd is
-  damaged_as asks.Ls is = absurd is
-  damaged_as (asks.DropCvd cvd) is = absurd is
-  damaged_as asks.Checkpoint is = absurd is
-  damaged_as (asks.Generate cvd seed rows versions) is = absurd is
-  damaged_as (asks.CreateUser name) is = absurd is
-  damaged_as (asks.Config name) is = absurd is
-  damaged_as asks.Whoami is = absurd is
-  damaged_as (asks.Unstage user table) is = absurd is
-  damaged_as asks.Tables is = absurd is
+  damaged_as : (user : List ℕ) (command : Command) → IsDamaged user command stage held s page → IsDamaged user command staged held s page
+  damaged_as user (asks.Checkout cvd vids file table) is = is
+  damaged_as user (asks.Commit cvd vids file message added) is = (is.0, is.1, set_as file is.0 _ _ is.2)
+  damaged_as user (asks.Init cvd schema file) is = absurd is
+  damaged_as user (asks.CommitStaged owner table message) is = absurd is
+  damaged_as user (asks.Run text) is = is
+  damaged_as user (asks.Optimize cvd p q) is = absurd is
+  damaged_as user (asks.OptimizeWithin cvd budget) is = absurd is
+  damaged_as user (asks.Advise cvd budget a b) is = absurd is
+  damaged_as user (asks.Migrate count) is = absurd is
+  damaged_as user (asks.Layout cvd) is = absurd is
+  damaged_as user (asks.Log cvd) is = absurd is
+  damaged_as user asks.Ls is = absurd is
+  damaged_as user (asks.DropCvd cvd) is = absurd is
+  damaged_as user asks.Checkpoint is = absurd is
+  damaged_as user (asks.Generate cvd seed rows versions) is = absurd is
+  damaged_as user (asks.CreateUser name) is = absurd is
+  damaged_as user (asks.Config name) is = absurd is
+  damaged_as user asks.Whoami is = absurd is
+  damaged_as user (asks.Unstage owner table) is = absurd is
+  damaged_as user asks.Tables is = absurd is
 
 module _ (user x : List ℕ) (first : user ≡ codes "admin") (before now : Kept) (script : Script) (stage staged : Staged) (old new : State) (told : staged.tells ≡ stage.tells)
     (numbers : old.tells ≡ true → IsByJournal before.held old)
     (among : (command : Command) → line_asked user x ≡ Asks command → script.tells ≡ true → IsLineOf script.left x) where
   pub run_damage : (e : EndErr)
-      → IsDamageOf (λ page. (command : Command) × (line_asked user x ≡ Asks command) × IsDamaged command stage before.held new page) e
+      → IsDamageOf (λ page. (command : Command) × (line_asked user x ≡ Asks command) × IsDamaged user command stage before.held new page) e
       → IsIdle e before now stage staged old new → IsRunDamage script staged new (by_serving e)
   run_damage ending.Host is idle = tt
   run_damage ending.Stage is idle = tt
@@ -176,7 +178,8 @@ module _ (user x : List ℕ) (first : user ≡ codes "admin") (before now : Kept
       asks = ap (λ (u : List ℕ). line_asked u x) (sym first) ∙ is.1.1;
       held = before.held;
       numbers = λ tells. let tells_old : old.tells ≡ true = sym idle.0.looked.told ∙ tells in by_looked before.held old new idle.0.looked tells_old (numbers tells_old);
-      damaged = damaged_as stage staged idle.1 told before.held new at is.1.0 is.1.2;
+      damaged = subst (λ (u : List ℕ). IsDamaged u is.1.0 staged before.held new at) first
+          (damaged_as stage staged idle.1 told before.held new at user is.1.0 is.1.2);
     },
   )
 

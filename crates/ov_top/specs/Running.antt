@@ -53,9 +53,13 @@ AllServed steps w s t lines taken still (Err running.Input) before old new =
 AllServed steps w s t lines taken still (Err running.TooLong) before old new = IsHalted steps w s t taken lines before old new
 AllServed steps w s t lines taken still (Err _) before old new = Runs steps w s lines before old new
 
--- what a line of a run says: a run begins as this user, and no command that the program has changes the user
+-- a run begins as this user, and no command that the program has changes the user
+abbrev pub user_of_run : List ℕ
+user_of_run = codes "admin"
+
+-- what a line of a run says
 abbrev pub line_of_run : List ℕ → Line
-line_of_run text = line_asked (codes "admin") text
+line_of_run text = line_asked user_of_run text
 
 -- ---- damage
 
@@ -72,7 +76,7 @@ pub record ReadsDamage (script : Script) (stage : Staged) (s : State) (page : �
   pub asks : line_of_run line ≡ Asks command
   pub held : Held
   pub numbers : s.tells ≡ true → IsByJournal held s
-  pub damaged : IsDamaged command stage held s page
+  pub damaged : IsDamaged user_of_run command stage held s page
 
 abbrev pub IsRunDamage : Script → Staged → State → RunErr → Type 0
 IsRunDamage script stage s (running.Damaged area at) = (area ≡ Pages) × ReadsDamage script stage s at
@@ -91,7 +95,7 @@ AreReading (line ∷ lines) = IsReading (line_of_run line) × AreReading lines
 
 abbrev pub reads : Numbers Extent Extent → List (List ℕ) → ℕ
 reads n [] = 0
-reads n (line ∷ lines) = may_fetch n (line_of_run line) + reads n lines
+reads n (line ∷ lines) = may_fetch n user_of_run (line_of_run line) + reads n lines
 
 abbrev pub status_by : Result Bool RunErr → Status
 status_by (Ok false) = Done

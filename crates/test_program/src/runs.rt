@@ -1,7 +1,7 @@
 //! Scripts with their files, and what they print.
 use crate::ends::{files, run_words};
 use crate::scripts::{
-    AGAIN, DROP, INIT, KEYS, Line, NOBODY, OFF_LINES, PEOPLE, READ_AND_WRITTEN, THERE_AND_BACK,
+    AGAIN, DROP, INIT, KEYS, Line, NOBODY, OFF_LINES, PEOPLE, QUERIES, READ_AND_WRITTEN, THERE_AND_BACK,
 };
 use crate::{Trial, run_fresh};
 use ov_host::Area;
@@ -34,7 +34,7 @@ fn prints(alloc: Global, lines: &[Line], status: Status) -> Result<bool, AllocEr
     Ok(t.status == status && t.host.printed() == printed.as_slice())
 }
 
-const SCRIPTS: [(&[Line], Status); 8] = [
+const SCRIPTS: [(&[Line], Status); 9] = [
     (&[], Status::Done),
     (&[INIT], Status::Done),
     (&PEOPLE, Status::Refused),
@@ -43,6 +43,7 @@ const SCRIPTS: [(&[Line], Status); 8] = [
     (&READ_AND_WRITTEN, Status::Refused),
     (&THERE_AND_BACK, Status::Done),
     (&KEYS, Status::Refused),
+    (&QUERIES, Status::Refused),
 ];
 
 #[test]

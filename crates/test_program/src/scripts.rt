@@ -145,10 +145,7 @@ pub const OFF_LINES: [Line; 15] = [
     ),
     ("layout people\n", "error 51: unknown command\n"),
     ("optimize people -d 1/2\n", "error 51: unknown command\n"),
-    (
-        "run SELECT * FROM CVD people\n",
-        "error 51: unknown command\n",
-    ),
+    ("migrate 3\n", "error 51: unknown command\n"),
     ("\"\n", "error 58: a quote is not closed\n"),
     ("frob", "error 51: unknown command\n"),
 ];
@@ -275,4 +272,50 @@ pub const KEYS: [Line; 4] = [
         "init parts -s a:text,b:int,ok:flag -k b,a -f part.csv\n",
         "error 14: row 2 repeats a key\n",
     ),
+];
+
+/// Queries over one, two and all versions. A quote in one is no open quote of the line, what is behind the dataset's drop finds
+/// none, and a shape that isn't built is no query.
+pub const QUERIES: [Line; 14] = [
+    INIT,
+    RAISE,
+    (
+        "run SELECT * FROM VERSION 2 OF CVD people WHERE score > 20 ORDER BY score DESC\n",
+        "3,cy,30\n2,bob,25\n(2 rows)\n",
+    ),
+    (
+        "run SELECT vid, id, score FROM VERSION 2, 1 OF CVD people WHERE name = 'bob'\n",
+        "2,2,25\n1,2,20\n(2 rows)\n",
+    ),
+    (
+        "run SELECT vid, COUNT(*), SUM(score) FROM CVD people GROUP BY vid\n",
+        "1,2,30\n2,3,65\n(2 rows)\n",
+    ),
+    (
+        " run\tselect \"name\" from version 1 of cvd people limit 1;\n",
+        "ann\n(1 rows)\n",
+    ),
+    (
+        "run SELECT \"name FROM CVD people\n",
+        "error 40: byte 7 begins no token\n",
+    ),
+    ("run\n", "error 41: not a query\n"),
+    (
+        "run SELECT * FROM ANCESTORS(2) OF CVD people\n",
+        "error 41: not a query\n",
+    ),
+    (
+        "run SELECT LEFT.id FROM VERSION 1 OF CVD people JOIN VERSION 2 OF CVD people ON LEFT.id = RIGHT.id\n",
+        "error 41: not a query\n",
+    ),
+    (
+        "run SELECT * FROM VERSION 3, 3 OF CVD people\n",
+        "error 12: no version 3\n",
+    ),
+    DROP,
+    (
+        "run SELECT * FROM CVD people\n",
+        "error 10: no dataset people\n",
+    ),
+    INIT,
 ];

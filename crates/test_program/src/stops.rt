@@ -8,10 +8,11 @@ use std::alloc::{AllocError, Global};
 use std::test::Fail;
 
 // Each has one reply, and makes one move at most.
-const LINES: [&str; 8] = [
+const LINES: [&str; 9] = [
     "init people -s id:int,name:text,score:int -k id -f a.csv\n",
     "commit people -v 1 -f b.csv -m raise\n",
     "checkout people -v 1,2\n",
+    "run SELECT vid, COUNT(*), SUM(score) FROM CVD people GROUP BY vid\n",
     "commit people -v 7 -f b.csv -m none\n",
     "commit people -v 1,2 -f m.csv -m both\n",
     "init other -s id:int,name:text,score:int -k id -f b.csv\n",

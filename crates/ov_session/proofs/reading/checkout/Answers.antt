@@ -79,20 +79,20 @@ returns-in-Err-clause-idle g c =
 
 pub returns-in-Ok-clause-damaged : goal.returns-in-Ok-clause-damaged
 returns-in-Ok-clause-damaged g c =
-    spared_damaged c.args.store.now.held c.as_str.result.now c.args.cvd c.args.vids.now (g.T.Stage.staged c.args.stage.now) c.args.file (g.H.Host.state c.args.host.now) (g.H.Host.state c.merged.new.host) c.as_str.ensures.text c.merged.ensures.looked
+    spared_damaged c.args.store.now.held c.as_str.result.now c.args.cvd c.args.vids.now (g.H.Host.state c.args.host.now) (g.H.Host.state c.merged.new.host) c.as_str.ensures.text c.merged.ensures.looked
     c.give.result c.give.ensures.stage_alone
 
 pub returns-in-Err-clause-damaged : goal.returns-in-Err-clause-damaged
 returns-in-Err-clause-damaged g c =
-    scan_damaged c.args.store.now.held c.as_str.result.now c.args.cvd c.args.vids.now (g.T.Stage.staged c.args.stage.now) c.args.file (g.H.Host.state c.args.host.now) (g.H.Host.state c.merged.new.host) c.as_str.ensures.text c.merged.ensures.looked
+    scan_damaged c.args.store.now.held c.as_str.result.now c.args.cvd c.args.vids.now (g.H.Host.state c.args.host.now) (g.H.Host.state c.merged.new.host) c.as_str.ensures.text c.merged.ensures.looked
     c.in-Err.off c.refused.result c.refused.ensures.end c.in-Err.ensures.why
 
 pub returns-in-Ok-clause-whole : goal.returns-in-Ok-clause-whole
 returns-in-Ok-clause-whole g c = λ page told.
-    given_whole c.args.store.now.held c.as_str.result.now c.args.cvd c.args.vids.now c.args.file (g.T.Stage.staged c.args.stage.now) (g.H.Host.state c.args.host.now) (g.H.Host.state c.merged.new.host) page c.as_str.ensures.text c.give.result
+    given_whole c.args.store.now.held c.as_str.result.now c.args.cvd c.args.vids.now (g.H.Host.state c.args.host.now) (g.H.Host.state c.merged.new.host) page c.as_str.ensures.text c.give.result
     (c.in-Ok.ensures.whole page told)
 
 pub returns-in-Err-clause-whole : goal.returns-in-Err-clause-whole
 returns-in-Err-clause-whole g c = λ page told.
-    refused_whole c.args.store.now.held c.as_str.result.now c.args.cvd c.args.vids.now c.args.file (g.T.Stage.staged c.args.stage.now) (g.H.Host.state c.args.host.now) (g.H.Host.state c.merged.new.host) page c.as_str.ensures.text c.in-Err.off
+    refused_whole c.args.store.now.held c.as_str.result.now c.args.cvd c.args.vids.now (g.H.Host.state c.args.host.now) (g.H.Host.state c.merged.new.host) page c.as_str.ensures.text c.in-Err.off
     c.refused.result c.in-Err.ensures.why c.refused.ensures.reply

@@ -8,74 +8,80 @@ use Rattle.ov_model.specs.Deed.{permitted}
 use Rattle.ov_model.specs.declared.command.Command.{Command}
 use Rattle.ov_session.proofs.Dealing.{checkout_asked, commit_asked}
 use Rattle.ov_session.specs.Commands.{Acts}
-use Rattle.std.proofs.Common.{◌+◌, ℕ, List, Some}
+use Rattle.std.proofs.Common.{◌+◌, ℕ, List, Some, true}
 use Rattle.std.specs.Prelude.{◌≤◌}
-use Rattle.ov_session.proofs.Bounds.{fetched_allowed, fetched_none, fetched_still}
+use Rattle.ov_session.proofs.Bounds.{fetched_allowed, fetched_none, fetched_still, off_there}
 use Rattle.ov_session.proofs.Replying.{seen_missed}
-use Rattle.ov_session.proofs.Standing.{at_looked, at_still, idle_spared, on_any}
-use Rattle.ov_session.specs.Bounds.{IsReadingCommand, bytes_in, command_fetch, command_off, if_allowed}
+use Rattle.ov_session.proofs.Standing.{at_looked, at_still, idle_spared, on_any, result_unmoved}
+use Rattle.ov_session.specs.Bounds.{IsReadingCommand, bytes_in, command_fetch, if_allowed, is_command_off}
 use Rattle.ov_store.specs.Committing.{parents_off_in}
 use Rattle.ov_store.specs.Scanning.{scan_off, set_in}
 use Rattle.ov_session.proofs.Numbering.{journal_looked}
-use Rattle.ov_session.specs.Commands.{IsDamaged, MeetsDamage}
+use Rattle.ov_session.specs.Commands.{IsScanDamaged, MeetsDamage}
 use Rattle.ov_model.specs.declared.command.Command.TheVariants as asks
-use Rattle.std.specs.Prelude.{OnOk}
+use Rattle.ov_model.specs.BuiltShapes.{if_built}
+use Rattle.ov_model.specs.declared.refusal.Refusal.{Refusal}
+use Rattle.ov_query.specs.Queries.{query_fetch, query_off}
+use Rattle.ov_session.proofs.Querying.{query_acts, query_other}
+use Rattle.ov_session.proofs.Shaping.{done, off, ok_err}
+use Rattle.ov_session.specs.Commands.{IsDamageOf, IsDamaged}
+use Rattle.std.specs.Prelude.{Err, IfErr, IfOk, OnOk, Option}
 use Rattle.ov_session.proofs.serving.answer.Goals as goal
 
 pub returns-in-Init-clause-acts : goal.returns-in-Init-clause-acts
-returns-in-Init-clause-acts g c = λ w user told at.
-    let s = session_of (g.T.Stage.staged c.args.stage.now).files user
-    in subst (λ (command : Command). Acts (permitted w s command) s (session_of (g.T.Stage.staged c.init.new.stage).files user) w c.init.result
+returns-in-Init-clause-acts g c = λ w built told at.
+    let s = session_of (g.T.Stage.staged c.args.stage.now).files c.args.user.now
+    in subst (λ (command : Command). Acts (permitted w s command) s (session_of (g.T.Stage.staged c.init.new.stage).files c.args.user.now) w c.init.result
     c.args.store.now.held c.init.new.store.held (g.H.Host.state c.args.host.now) (g.H.Host.state c.init.new.host)) (sym c.in-Init.is)
-    (c.init.ensures.acts w user told at)
+    (c.init.ensures.acts w c.args.user.now told at)
 
 pub returns-in-Commit-clause-acts : goal.returns-in-Commit-clause-acts
-returns-in-Commit-clause-acts g c = λ w user told at.
-    let s = session_of (g.T.Stage.staged c.args.stage.now).files user
-    in let t = session_of (g.T.Stage.staged c.commit.new.stage).files user
+returns-in-Commit-clause-acts g c = λ w built told at.
+    let s = session_of (g.T.Stage.staged c.args.stage.now).files c.args.user.now
+    in let t = session_of (g.T.Stage.staged c.commit.new.stage).files c.args.user.now
     in let asked = subst IsAsked c.in-Commit.is c.requires.asked
     in subst (λ (command : Command). Acts (permitted w s command) s t w c.commit.result
     c.args.store.now.held c.commit.new.store.held (g.H.Host.state c.args.host.now) (g.H.Host.state c.commit.new.host)) (sym c.in-Commit.is)
     (commit_asked w s t c.in-Commit.cvd c.commit.result c.args.store.now.held c.commit.new.store.held (g.H.Host.state c.args.host.now) (g.H.Host.state c.commit.new.host)
     c.in-Commit.vids c.as_slice.result.now c.in-Commit.file c.in-Commit.message c.in-Commit.added c.as_slice.ensures asked.2
-    (c.commit.ensures.acts w user told at))
+    (c.commit.ensures.acts w c.args.user.now told at))
 
 pub returns-in-Checkout-clause-acts : goal.returns-in-Checkout-clause-acts
-returns-in-Checkout-clause-acts g c = λ w user told at.
-    let s = session_of (g.T.Stage.staged c.args.stage.now).files user
-    in let t = session_of (g.T.Stage.staged c.checkout.new.stage).files user
+returns-in-Checkout-clause-acts g c = λ w built told at.
+    let s = session_of (g.T.Stage.staged c.args.stage.now).files c.args.user.now
+    in let t = session_of (g.T.Stage.staged c.checkout.new.stage).files c.args.user.now
     in let asked = subst IsAsked c.in-Checkout.is c.requires.asked
     in subst (λ (command : Command). Acts (permitted w s command) s t w c.checkout.result
     c.args.store.now.held c.args.store.now.held (g.H.Host.state c.args.host.now) (g.H.Host.state c.checkout.new.host)) (sym c.in-Checkout.is)
     (checkout_asked w s t c.in-Checkout.cvd c.checkout.result c.args.store.now.held c.args.store.now.held (g.H.Host.state c.args.host.now) (g.H.Host.state c.checkout.new.host)
     c.in-Checkout.vids c.as_slice-in-Checkout.result.now c.in-Checkout.file c.in-Checkout.table c.as_slice-in-Checkout.ensures asked.1
-    (c.checkout.ensures.acts w user told at))
+    (c.checkout.ensures.acts w c.args.user.now told at))
 
 pub returns-in_err-log-in-Log-clause-acts : goal.returns-in_err-log-in-Log-clause-acts
-returns-in_err-log-in-Log-clause-acts g c = λ w user told at.
-    let s = session_of (g.T.Stage.staged c.args.stage.now).files user
+returns-in_err-log-in-Log-clause-acts g c = λ w built told at.
+    let s = session_of (g.T.Stage.staged c.args.stage.now).files c.args.user.now
     in let fact : Breaks (permitted w s c.args.command) s w (g.H.Host.state c.args.host.now) (g.H.Host.state c.args.host.now)
     = breaks_looked (permitted w s c.args.command) s w c.args.store.now.held (g.H.Host.state c.args.host.now) (g.H.Host.state c.args.host.now) at refl
     in search (rules, fact)
 
 pub returns-in-Log-clause-acts : goal.returns-in-Log-clause-acts
-returns-in-Log-clause-acts g c = λ w user told at.
-    let s = session_of (g.T.Stage.staged c.args.stage.now).files user
+returns-in-Log-clause-acts g c = λ w built told at.
+    let s = session_of (g.T.Stage.staged c.args.stage.now).files c.args.user.now
     in subst (λ (command : Command). Does (permitted w s command) s s w c.in_ok-log-in-Log.field-0
     c.args.store.now.held c.args.store.now.held (g.H.Host.state c.args.host.now) (g.H.Host.state c.args.host.now)) (sym c.in-Log.is)
     (does_told _ s s w c.in_ok-log-in-Log.field-0 c.args.store.now.held (g.H.Host.state c.args.host.now) (g.H.Host.state c.args.host.now)
     (c.in_ok-log-in-Log.ensures.told w s (g.H.Host.state c.args.host.now) at) at refl refl)
 
 pub returns-in_err-ls-in-Ls-clause-acts : goal.returns-in_err-ls-in-Ls-clause-acts
-returns-in_err-ls-in-Ls-clause-acts g c = λ w user told at.
-    let s = session_of (g.T.Stage.staged c.args.stage.now).files user
+returns-in_err-ls-in-Ls-clause-acts g c = λ w built told at.
+    let s = session_of (g.T.Stage.staged c.args.stage.now).files c.args.user.now
     in let fact : Breaks (permitted w s c.args.command) s w (g.H.Host.state c.args.host.now) (g.H.Host.state c.args.host.now)
     = breaks_looked (permitted w s c.args.command) s w c.args.store.now.held (g.H.Host.state c.args.host.now) (g.H.Host.state c.args.host.now) at refl
     in search (rules, fact)
 
 pub returns-in-Ls-clause-acts : goal.returns-in-Ls-clause-acts
-returns-in-Ls-clause-acts g c = λ w user told at.
-    let s = session_of (g.T.Stage.staged c.args.stage.now).files user
+returns-in-Ls-clause-acts g c = λ w built told at.
+    let s = session_of (g.T.Stage.staged c.args.stage.now).files c.args.user.now
     in subst (λ (command : Command). Does (permitted w s command) s s w c.in_ok-ls-in-Ls.field-0
     c.args.store.now.held c.args.store.now.held (g.H.Host.state c.args.host.now) (g.H.Host.state c.args.host.now)) (sym c.in-Ls.is)
     (does_told _ s s w c.in_ok-ls-in-Ls.field-0 c.args.store.now.held (g.H.Host.state c.args.host.now) (g.H.Host.state c.args.host.now)
@@ -85,17 +91,17 @@ pub returns-in-Init-clause-fetched : goal.returns-in-Init-clause-fetched
 returns-in-Init-clause-fetched g c = fetched_still (g.H.Host.state c.args.host.now) (g.H.Host.state c.init.new.host) _ c.init.ensures.fetched
 
 pub returns-in-Init-clause-unread : goal.returns-in-Init-clause-unread
-returns-in-Init-clause-unread g c = λ off is. c.init.ensures.fetched
+returns-in-Init-clause-unread g c = λ is. c.init.ensures.fetched
 
 pub returns-in-DropCvd-clause-fetched : goal.returns-in-DropCvd-clause-fetched
 returns-in-DropCvd-clause-fetched g c = fetched_still (g.H.Host.state c.args.host.now) (g.H.Host.state c.drop_cvd.new.host) _ c.drop_cvd.ensures.fetched
 
 pub returns-in-DropCvd-clause-unread : goal.returns-in-DropCvd-clause-unread
-returns-in-DropCvd-clause-unread g c = λ off is. c.drop_cvd.ensures.fetched
+returns-in-DropCvd-clause-unread g c = λ is. c.drop_cvd.ensures.fetched
 
 pub returns-in-Commit-clause-fetched : goal.returns-in-Commit-clause-fetched
 returns-in-Commit-clause-fetched g c =
-    subst (λ (command : Command). (g.H.Host.state c.commit.new.host).fetched ≤ (g.H.Host.state c.args.host.now).fetched + command_fetch c.args.store.now.held.numbers command) (sym c.in-Commit.is)
+    subst (λ (command : Command). (g.H.Host.state c.commit.new.host).fetched ≤ (g.H.Host.state c.args.host.now).fetched + command_fetch c.args.store.now.held.numbers c.args.user.now command) (sym c.in-Commit.is)
     (subst (λ (v : List ℕ). (g.H.Host.state c.commit.new.host).fetched ≤ (g.H.Host.state c.args.host.now).fetched
     + if_allowed (parents_off_in (set_in c.args.store.now.held.numbers c.in-Commit.cvd) v) (bytes_in (set_in c.args.store.now.held.numbers c.in-Commit.cvd) v)) c.as_slice.ensures
     (fetched_allowed (parents_off_in (set_in c.args.store.now.held.numbers c.in-Commit.cvd) c.as_slice.result.now) (bytes_in (set_in c.args.store.now.held.numbers c.in-Commit.cvd) c.as_slice.result.now)
@@ -103,14 +109,15 @@ returns-in-Commit-clause-fetched g c =
     (λ off is. ap (λ (s : State). s.fetched) (c.commit.ensures.unread off is))))
 
 pub returns-in-Commit-clause-unread : goal.returns-in-Commit-clause-unread
-returns-in-Commit-clause-unread g c = λ off is.
-    ap (λ (s : State). s.fetched) (c.commit.ensures.unread off
-    (subst (λ (v : List ℕ). parents_off_in (set_in c.args.store.now.held.numbers c.in-Commit.cvd) v ≡ Some off) (sym c.as_slice.ensures)
-    (subst (λ (command : Command). command_off c.args.store.now.held.numbers command ≡ Some off) c.in-Commit.is is)))
+returns-in-Commit-clause-unread g c = λ is.
+    let there = off_there (parents_off_in (set_in c.args.store.now.held.numbers c.in-Commit.cvd) c.in-Commit.vids.items)
+    (subst (λ (command : Command). is_command_off c.args.store.now.held.numbers c.args.user.now command ≡ true) c.in-Commit.is is)
+    in ap (λ (s : State). s.fetched) (c.commit.ensures.unread there.0
+    (subst (λ (v : List ℕ). parents_off_in (set_in c.args.store.now.held.numbers c.in-Commit.cvd) v ≡ Some there.0) (sym c.as_slice.ensures) there.1))
 
 pub returns-in-Checkout-clause-fetched : goal.returns-in-Checkout-clause-fetched
 returns-in-Checkout-clause-fetched g c =
-    subst (λ (command : Command). (g.H.Host.state c.checkout.new.host).fetched ≤ (g.H.Host.state c.args.host.now).fetched + command_fetch c.args.store.now.held.numbers command) (sym c.in-Checkout.is)
+    subst (λ (command : Command). (g.H.Host.state c.checkout.new.host).fetched ≤ (g.H.Host.state c.args.host.now).fetched + command_fetch c.args.store.now.held.numbers c.args.user.now command) (sym c.in-Checkout.is)
     (subst (λ (v : List ℕ). (g.H.Host.state c.checkout.new.host).fetched ≤ (g.H.Host.state c.args.host.now).fetched
     + if_allowed (scan_off c.args.store.now.held.numbers c.in-Checkout.cvd v) (bytes_in (set_in c.args.store.now.held.numbers c.in-Checkout.cvd) v)) c.as_slice-in-Checkout.ensures
     (fetched_allowed (scan_off c.args.store.now.held.numbers c.in-Checkout.cvd c.as_slice-in-Checkout.result.now) (bytes_in (set_in c.args.store.now.held.numbers c.in-Checkout.cvd) c.as_slice-in-Checkout.result.now)
@@ -118,10 +125,11 @@ returns-in-Checkout-clause-fetched g c =
     (λ off is. ap (λ (s : State). s.fetched) (c.checkout.ensures.unread off is))))
 
 pub returns-in-Checkout-clause-unread : goal.returns-in-Checkout-clause-unread
-returns-in-Checkout-clause-unread g c = λ off is.
-    ap (λ (s : State). s.fetched) (c.checkout.ensures.unread off
-    (subst (λ (v : List ℕ). scan_off c.args.store.now.held.numbers c.in-Checkout.cvd v ≡ Some off) (sym c.as_slice-in-Checkout.ensures)
-    (subst (λ (command : Command). command_off c.args.store.now.held.numbers command ≡ Some off) c.in-Checkout.is is)))
+returns-in-Checkout-clause-unread g c = λ is.
+    let there = off_there (scan_off c.args.store.now.held.numbers c.in-Checkout.cvd c.in-Checkout.vids.items)
+    (subst (λ (command : Command). is_command_off c.args.store.now.held.numbers c.args.user.now command ≡ true) c.in-Checkout.is is)
+    in ap (λ (s : State). s.fetched) (c.checkout.ensures.unread there.0
+    (subst (λ (v : List ℕ). scan_off c.args.store.now.held.numbers c.in-Checkout.cvd v ≡ Some there.0) (sym c.as_slice-in-Checkout.ensures) there.1))
 
 pub returns-in-Checkout-clause-at : goal.returns-in-Checkout-clause-at
 returns-in-Checkout-clause-at g c = λ w at.
@@ -180,28 +188,28 @@ returns-in-Ls-clause-by_journal g c = λ by fine. by
 
 pub returns-in-Init-clause-whole : goal.returns-in-Init-clause-whole
 returns-in-Init-clause-whole g c = λ page told.
-    on_any _ c.init.result (subst (λ (command : Command). MeetsDamage command (g.T.Stage.staged c.args.stage.now) c.args.store.now.held (g.H.Host.state c.args.host.now) page → ⊥) (sym c.in-Init.is) (λ met. met))
+    on_any _ c.init.result (subst (λ (command : Command). MeetsDamage c.args.user.now command (g.T.Stage.staged c.args.stage.now) c.args.store.now.held (g.H.Host.state c.args.host.now) page → ⊥) (sym c.in-Init.is) (λ met. met))
 
 pub returns-in-Commit-clause-whole : goal.returns-in-Commit-clause-whole
 returns-in-Commit-clause-whole g c = λ page told.
-    on_any _ c.commit.result (subst (λ (command : Command). MeetsDamage command (g.T.Stage.staged c.args.stage.now) c.args.store.now.held (g.H.Host.state c.args.host.now) page → ⊥) (sym c.in-Commit.is) (λ met. met))
+    on_any _ c.commit.result (subst (λ (command : Command). MeetsDamage c.args.user.now command (g.T.Stage.staged c.args.stage.now) c.args.store.now.held (g.H.Host.state c.args.host.now) page → ⊥) (sym c.in-Commit.is) (λ met. met))
 
 pub returns-in-DropCvd-clause-whole : goal.returns-in-DropCvd-clause-whole
 returns-in-DropCvd-clause-whole g c = λ page told.
-    on_any _ c.drop_cvd.result (subst (λ (command : Command). MeetsDamage command (g.T.Stage.staged c.args.stage.now) c.args.store.now.held (g.H.Host.state c.args.host.now) page → ⊥) (sym c.in-DropCvd.is) (λ met. met))
+    on_any _ c.drop_cvd.result (subst (λ (command : Command). MeetsDamage c.args.user.now command (g.T.Stage.staged c.args.stage.now) c.args.store.now.held (g.H.Host.state c.args.host.now) page → ⊥) (sym c.in-DropCvd.is) (λ met. met))
 
 pub returns-in-Log-clause-whole : goal.returns-in-Log-clause-whole
 returns-in-Log-clause-whole g c = λ page told.
-    subst (λ (command : Command). MeetsDamage command (g.T.Stage.staged c.args.stage.now) c.args.store.now.held (g.H.Host.state c.args.host.now) page → ⊥) (sym c.in-Log.is) (λ met. met)
+    subst (λ (command : Command). MeetsDamage c.args.user.now command (g.T.Stage.staged c.args.stage.now) c.args.store.now.held (g.H.Host.state c.args.host.now) page → ⊥) (sym c.in-Log.is) (λ met. met)
 
 pub returns-in-Ls-clause-whole : goal.returns-in-Ls-clause-whole
 returns-in-Ls-clause-whole g c = λ page told.
-    subst (λ (command : Command). MeetsDamage command (g.T.Stage.staged c.args.stage.now) c.args.store.now.held (g.H.Host.state c.args.host.now) page → ⊥) (sym c.in-Ls.is) (λ met. met)
+    subst (λ (command : Command). MeetsDamage c.args.user.now command (g.T.Stage.staged c.args.stage.now) c.args.store.now.held (g.H.Host.state c.args.host.now) page → ⊥) (sym c.in-Ls.is) (λ met. met)
 
 pub returns-in-Checkout-clause-whole : goal.returns-in-Checkout-clause-whole
 returns-in-Checkout-clause-whole g c = λ page told.
-    subst (λ (command : Command). OnOk c.checkout.result (MeetsDamage command (g.T.Stage.staged c.args.stage.now) c.args.store.now.held (g.H.Host.state c.args.host.now) page → ⊥)) (sym c.in-Checkout.is)
-    (subst (λ (v : List ℕ). OnOk c.checkout.result (IsDamaged (asks.Checkout c.in-Checkout.cvd v c.in-Checkout.file c.in-Checkout.table) (g.T.Stage.staged c.args.stage.now) c.args.store.now.held (g.H.Host.state c.args.host.now) page → ⊥))
+    subst (λ (command : Command). OnOk c.checkout.result (MeetsDamage c.args.user.now command (g.T.Stage.staged c.args.stage.now) c.args.store.now.held (g.H.Host.state c.args.host.now) page → ⊥)) (sym c.in-Checkout.is)
+    (subst (λ (v : List ℕ). OnOk c.checkout.result (IsScanDamaged c.in-Checkout.cvd v c.args.store.now.held (g.H.Host.state c.args.host.now) page → ⊥))
     c.as_slice-in-Checkout.ensures (c.checkout.ensures.whole page told))
 
 -- ---- what changes no store
@@ -214,3 +222,83 @@ returns-in-Commit-clause-still g c = λ is. absurd (subst IsReadingCommand c.in-
 
 pub returns-in-DropCvd-clause-still : goal.returns-in-DropCvd-clause-still
 returns-in-DropCvd-clause-still g c = λ is. absurd (subst IsReadingCommand c.in-DropCvd.is is)
+
+-- ---- of a shape that is built
+
+pub returns-in-Init-clause-other : goal.returns-in-Init-clause-other
+returns-in-Init-clause-other g c = λ refusal is. absurd (ok_err _ refusal (subst (λ (command : Command). if_built command ≡ off refusal) c.in-Init.is is))
+
+pub returns-in-Commit-clause-other : goal.returns-in-Commit-clause-other
+returns-in-Commit-clause-other g c = λ refusal is. absurd (ok_err _ refusal (subst (λ (command : Command). if_built command ≡ off refusal) c.in-Commit.is is))
+
+pub returns-in-Checkout-clause-other : goal.returns-in-Checkout-clause-other
+returns-in-Checkout-clause-other g c = λ refusal is. absurd (ok_err _ refusal (subst (λ (command : Command). if_built command ≡ off refusal) c.in-Checkout.is is))
+
+pub returns-in-DropCvd-clause-other : goal.returns-in-DropCvd-clause-other
+returns-in-DropCvd-clause-other g c = λ refusal is. absurd (ok_err _ refusal (subst (λ (command : Command). if_built command ≡ off refusal) c.in-DropCvd.is is))
+
+pub returns-in_err-log-in-Log-clause-other : goal.returns-in_err-log-in-Log-clause-other
+returns-in_err-log-in-Log-clause-other g c = λ refusal is. absurd (ok_err _ refusal (subst (λ (command : Command). if_built command ≡ off refusal) c.in-Log.is is))
+
+pub returns-in-Log-clause-other : goal.returns-in-Log-clause-other
+returns-in-Log-clause-other g c = λ refusal is. absurd (ok_err _ refusal (subst (λ (command : Command). if_built command ≡ off refusal) c.in-Log.is is))
+
+pub returns-in_err-ls-in-Ls-clause-other : goal.returns-in_err-ls-in-Ls-clause-other
+returns-in_err-ls-in-Ls-clause-other g c = λ refusal is. absurd (ok_err _ refusal (subst (λ (command : Command). if_built command ≡ off refusal) c.in-Ls.is is))
+
+pub returns-in-Ls-clause-other : goal.returns-in-Ls-clause-other
+returns-in-Ls-clause-other g c = λ refusal is. absurd (ok_err _ refusal (subst (λ (command : Command). if_built command ≡ off refusal) c.in-Ls.is is))
+
+-- ---- a query
+
+pub returns-in-Run-clause-still : goal.returns-in-Run-clause-still
+returns-in-Run-clause-still g c = λ is. refl
+
+pub returns-in-Run-clause-fetched : goal.returns-in-Run-clause-fetched
+returns-in-Run-clause-fetched g c =
+    subst (λ (command : Command). (g.H.Host.state c.run_query.new.host).fetched ≤ (g.H.Host.state c.args.host.now).fetched + command_fetch c.args.store.now.held.numbers c.args.user.now command)
+    (sym c.in-Run.is) c.run_query.ensures.fetched
+
+pub returns-in-Run-clause-unread : goal.returns-in-Run-clause-unread
+returns-in-Run-clause-unread g c = λ is.
+    let there = off_there (query_off c.args.store.now.held.numbers c.args.user.now c.in-Run.text)
+    (subst (λ (command : Command). is_command_off c.args.store.now.held.numbers c.args.user.now command ≡ true) c.in-Run.is is)
+    in ap (λ (s : State). s.fetched) (c.run_query.ensures.unread there.0 there.1)
+
+pub returns-in-Run-clause-whole : goal.returns-in-Run-clause-whole
+returns-in-Run-clause-whole g c = λ page told.
+    subst (λ (command : Command). OnOk c.run_query.result (MeetsDamage c.args.user.now command (g.T.Stage.staged c.args.stage.now) c.args.store.now.held (g.H.Host.state c.args.host.now) page → ⊥)) (sym c.in-Run.is)
+    (c.run_query.ensures.whole page told)
+
+pub returns-in-Run-clause-damaged : goal.returns-in-Run-clause-damaged
+returns-in-Run-clause-damaged g c =
+    subst (λ (command : Command). IfErr c.run_query.result (IsDamageOf (IsDamaged c.args.user.now command (g.T.Stage.staged c.args.stage.now) c.args.store.now.held (g.H.Host.state c.run_query.new.host)))) (sym c.in-Run.is)
+    c.run_query.ensures.damaged
+
+pub returns-in-Run-clause-by_journal : goal.returns-in-Run-clause-by_journal
+returns-in-Run-clause-by_journal g c = λ by fine.
+    journal_looked c.args.store.now.held (g.H.Host.state c.args.host.now) (g.H.Host.state c.run_query.new.host) c.run_query.ensures.looked by
+
+pub returns-in-Run-clause-at : goal.returns-in-Run-clause-at
+returns-in-Run-clause-at g c = λ w at.
+    on_any _ c.run_query.result (at_looked w c.args.store.now.held (g.H.Host.state c.args.host.now) (g.H.Host.state c.run_query.new.host) at c.run_query.ensures.looked)
+
+pub returns-in-Run-clause-missed : goal.returns-in-Run-clause-missed
+returns-in-Run-clause-missed g c = seen_missed _ c.run_query.result c.run_query.ensures.seen
+
+pub returns-in-Run-clause-idle : goal.returns-in-Run-clause-idle
+returns-in-Run-clause-idle g c =
+    result_unmoved c.args.store.now c.args.store.now (g.T.Stage.staged c.args.stage.now) (g.T.Stage.staged c.args.stage.now) (g.H.Host.state c.args.host.now) (g.H.Host.state c.run_query.new.host) c.run_query.result
+    (record { store = refl; looked = c.run_query.ensures.looked }) refl
+
+pub returns-in-Run-clause-other : goal.returns-in-Run-clause-other
+returns-in-Run-clause-other g c = λ refusal is.
+    query_other c.args.store.now.held c.args.user.now c.in-Run.text c.args.store.now (g.T.Stage.staged c.args.stage.now) (g.H.Host.state c.args.host.now) (g.H.Host.state c.run_query.new.host)
+    refusal c.run_query.result (subst (λ (command : Command). if_built command ≡ off refusal) c.in-Run.is is) c.run_query.ensures.unread c.run_query.ensures.reply c.run_query.ensures.memory
+
+pub returns-in-Run-clause-acts : goal.returns-in-Run-clause-acts
+returns-in-Run-clause-acts g c = λ w built told at.
+    let s = session_of (g.T.Stage.staged c.args.stage.now).files c.args.user.now
+    in subst (λ (command : Command). Acts (permitted w s command) s s w c.run_query.result c.args.store.now.held c.args.store.now.held (g.H.Host.state c.args.host.now) (g.H.Host.state c.run_query.new.host)) (sym c.in-Run.is)
+    (query_acts w s c.in-Run.text c.args.store.now.held (g.H.Host.state c.args.host.now) (g.H.Host.state c.run_query.new.host) at c.run_query.ensures.looked
+    (subst (λ (command : Command). if_built command ≡ done command) c.in-Run.is built) c.run_query.result (c.run_query.ensures.told w s at refl))

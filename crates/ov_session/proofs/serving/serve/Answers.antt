@@ -1,5 +1,5 @@
 use Rattle.std.proofs.Common.{◌≡◌, ◌∙◌, false, sym, ap, arith, refl, subst, rules}
-use Rattle.std.specs.Prelude.{Err, Result, is_ok}
+use Rattle.std.specs.Prelude.{Err, Option, Result, is_ok}
 use Rattle.ov_cmd.specs.Asked.{AsksBuilt}
 use Rattle.ov_cmd.specs.Said.{said}
 use Rattle.ov_session.specs.declared.errors.EndErr.{EndErr}
@@ -7,7 +7,9 @@ use Rattle.ov_session.specs.declared.serving.Served.{Served}
 use Rattle.ov_session.specs.Asking.{line_asked, refusal_to}
 use Rattle.law_runs.specs.Serving.{Serves, session_of}
 use Rattle.ov_model.specs.Line.{Asks, Refused}
-use Rattle.ov_session.proofs.Saying.{comment_none, line_unserved, says_broken, says_comment, says_refusal, says_reply}
+use Rattle.ov_session.proofs.Saying.{comment_none, line_unserved, says_comment, says_refusal}
+use Rattle.ov_session.proofs.Shaping.{broken_shaped, comment_shaped, damaged_shaped, fetched_shaped, reply_shaped, served_shaped, still_shaped, unread_shaped, whole_shaped}
+use Rattle.ov_model.specs.BuiltShapes.{served_line}
 use Rattle.ov_session.specs.Commands.{IsNoDamage, is_comment_in, is_refused}
 use Rattle.std.proofs.Common.{◌+◌, ℕ, Some}
 use Rattle.std.specs.Prelude.{◌≤◌}
@@ -16,7 +18,7 @@ use Rattle.ov_model.specs.declared.reply.Reply.TheVariants as says
 use Rattle.ov_session.proofs.Bounds.{fetched_none, fetched_still}
 use Rattle.ov_session.proofs.Replying.{asked_seen, is_replied, refused_missed}
 use Rattle.ov_session.proofs.Standing.{at_said, idle_unsaid, on_any}
-use Rattle.ov_session.specs.Bounds.{IsReading, line_off, may_fetch}
+use Rattle.ov_session.specs.Bounds.{may_fetch}
 use Rattle.ov_session.specs.Replying.{IsReplyTo}
 use Rattle.ov_session.specs.Standing.{IsIdle}
 use Rattle.ov_session.proofs.Numbering.{journal_said}
@@ -40,10 +42,10 @@ returns-in_err-reply-in-Ok-Some-clause-undamaged g c = λ w at.
 pub returns-in_err-reply-in-Ok-Some-clause-damaged : goal.returns-in_err-reply-in-Ok-Some-clause-damaged
 returns-in_err-reply-in-Ok-Some-clause-damaged g c =
     let IsMet : ℕ → Type 0 = λ page. (command : Command) × (line_asked c.args.user.now c.args.line.now ≡ Asks command)
-    × IsDamaged command (g.T.Stage.staged c.args.stage.now) c.args.store.now.held (g.H.Host.state c.answer.new.host) page
+    × IsDamaged c.args.user.now command (g.T.Stage.staged c.args.stage.now) c.args.store.now.held (g.H.Host.state c.answer.new.host) page
     in let fact : IsDamageOf IsMet c.in_err-reply-in-Ok-Some.field-0.0
-    = damage_wider (IsDamaged c.in-Ok-Some.command (g.T.Stage.staged c.args.stage.now) c.args.store.now.held (g.H.Host.state c.answer.new.host)) IsMet c.in_err-reply-in-Ok-Some.field-0.0
-    (λ page met. (c.in-Ok-Some.command, c.in-Ok-Some.ensures.ok ∙ ap said c.in-Ok-Some.field-0-is, met)) c.in_err-reply-in-Ok-Some.ensures.damaged
+    = damaged_shaped c.args.user.now c.in-Ok-Some.command (line_asked c.args.user.now c.args.line.now) (c.in-Ok-Some.ensures.ok ∙ ap (λ (o : Option Command). served_line (said o)) c.in-Ok-Some.field-0-is)
+    c.args.store.now c.answer.new.store (g.T.Stage.staged c.args.stage.now) (g.T.Stage.staged c.answer.new.stage) (g.H.Host.state c.args.host.now) (g.H.Host.state c.answer.new.host) c.in_err-reply-in-Ok-Some.field-0.0 c.in_err-reply-in-Ok-Some.ensures.other c.in_err-reply-in-Ok-Some.ensures.damaged
     in let is : c.from_residual.result ≡ Err c.in_err-reply-in-Ok-Some.field-0.0 = search rules
     in subst (λ (r : Result Served EndErr). IfErr r (IsDamageOf IsMet)) (sym is) fact
 
@@ -52,9 +54,9 @@ returns-in_err-reply-in-Ok-Some-clause-serves g c = λ w told at.
     let s = session_of (g.T.Stage.staged c.args.stage.now).files c.args.user.now
     in let t = session_of (g.T.Stage.staged c.answer.new.stage).files c.args.user.now
     in let fact : Serves c.args.steps w s t c.args.line.now false false c.args.store.now.held c.answer.new.store.held (g.H.Host.state c.args.host.now) (g.H.Host.state c.answer.new.host)
-    = says_broken c.args.steps w s t c.args.line.now c.in-Ok-Some.command c.args.store.now.held c.answer.new.store.held
-    (g.H.Host.state c.args.host.now) (g.H.Host.state c.answer.new.host) (c.in-Ok-Some.ensures.ok ∙ ap said c.in-Ok-Some.field-0-is)
-    (c.in_err-reply-in-Ok-Some.ensures.acts w c.args.user.now told at)
+    = broken_shaped c.args.user.now c.in-Ok-Some.command (line_asked c.args.user.now c.args.line.now) (c.in-Ok-Some.ensures.ok ∙ ap (λ (o : Option Command). served_line (said o)) c.in-Ok-Some.field-0-is)
+    c.args.store.now c.answer.new.store (g.T.Stage.staged c.args.stage.now) (g.T.Stage.staged c.answer.new.stage) (g.H.Host.state c.args.host.now) (g.H.Host.state c.answer.new.host) c.in_err-reply-in-Ok-Some.field-0.0 c.in_err-reply-in-Ok-Some.ensures.other
+    c.args.steps w c.args.line.now refl at (λ built. c.in_err-reply-in-Ok-Some.ensures.acts w built told at)
     in let is : c.from_residual.result ≡ Err c.in_err-reply-in-Ok-Some.field-0.0 = search rules
     in subst (λ (r : Result Served EndErr). Serves c.args.steps w s t c.args.line.now (is_ok r) (is_refused r) c.args.store.now.held c.answer.new.store.held
     (g.H.Host.state c.args.host.now) (g.H.Host.state c.answer.new.host)) (sym is) fact
@@ -69,24 +71,24 @@ returns-in_err-refusal-in-Err-clause-serves g c = λ w told at.
     (g.H.Host.state c.args.host.now) (g.H.Host.state c.args.host.now)) (sym is) fact
 
 pub returns-in-Ok-None-clause-comment : goal.returns-in-Ok-None-clause-comment
-returns-in-Ok-None-clause-comment g c = sym (ap is_comment_in (c.in-Ok-None.ensures.ok ∙ ap said c.in-Ok-None.field-0-is))
+returns-in-Ok-None-clause-comment g c = sym (ap is_comment_in (c.in-Ok-None.ensures.ok ∙ ap (λ (o : Option Command). served_line (said o)) c.in-Ok-None.field-0-is))
 
 pub returns-in-Ok-None-clause-serves : goal.returns-in-Ok-None-clause-serves
 returns-in-Ok-None-clause-serves g c = λ w told at.
     says_comment c.args.steps w (session_of (g.T.Stage.staged c.args.stage.now).files c.args.user.now) c.args.line.now c.args.store.now.held
-    (g.H.Host.state c.args.host.now) (c.in-Ok-None.ensures.ok ∙ ap said c.in-Ok-None.field-0-is) at
+    (g.H.Host.state c.args.host.now) (c.in-Ok-None.ensures.ok ∙ ap (λ (o : Option Command). served_line (said o)) c.in-Ok-None.field-0-is) at
 
 pub returns-in_ok-reply-in-Ok-Some-clause-comment : goal.returns-in_ok-reply-in-Ok-Some-clause-comment
 returns-in_ok-reply-in-Ok-Some-clause-comment g c =
-    comment_none (Asks c.in-Ok-Some.command) (line_asked c.args.user.now c.args.line.now) _ c.say.result (sym (c.in-Ok-Some.ensures.ok ∙ ap said c.in-Ok-Some.field-0-is)) refl c.say.ensures.served
+    comment_shaped c.args.user.now c.in-Ok-Some.command (line_asked c.args.user.now c.args.line.now) (c.in-Ok-Some.ensures.ok ∙ ap (λ (o : Option Command). served_line (said o)) c.in-Ok-Some.field-0-is) _ c.say.result c.say.ensures.served
 
 pub returns-in_ok-reply-in-Ok-Some-clause-serves : goal.returns-in_ok-reply-in-Ok-Some-clause-serves
 returns-in_ok-reply-in-Ok-Some-clause-serves g c = λ w told at.
-    says_reply c.args.steps w (session_of (g.T.Stage.staged c.args.stage.now).files c.args.user.now) (session_of (g.T.Stage.staged c.answer.new.stage).files c.args.user.now)
-    c.args.line.now c.in-Ok-Some.command c.in_ok-reply-in-Ok-Some.reply c.args.store.now.held c.answer.new.store.held
-    (g.H.Host.state c.args.host.now) (g.H.Host.state c.answer.new.host) (g.H.Host.state c.say.new.host) (c.in-Ok-Some.ensures.ok ∙ ap said c.in-Ok-Some.field-0-is)
-    (c.in_ok-reply-in-Ok-Some.ensures.acts w c.args.user.now told at) c.say.result
+    served_shaped c.args.user.now c.in-Ok-Some.command (line_asked c.args.user.now c.args.line.now) (c.in-Ok-Some.ensures.ok ∙ ap (λ (o : Option Command). served_line (said o)) c.in-Ok-Some.field-0-is)
+    c.args.store.now c.answer.new.store (g.T.Stage.staged c.args.stage.now) (g.T.Stage.staged c.answer.new.stage) (g.H.Host.state c.args.host.now) (g.H.Host.state c.answer.new.host) c.in_ok-reply-in-Ok-Some.reply c.in_ok-reply-in-Ok-Some.ensures.other
+    c.args.steps w c.args.line.now refl at (g.H.Host.state c.say.new.host) c.say.result
     (record { answer = c.say.ensures.served; why = c.say.ensures.host_alone; silent = c.say.ensures.unsaid; printed = c.say.ensures.said })
+    (λ built. c.in_ok-reply-in-Ok-Some.ensures.acts w built told at)
 
 pub returns-in_ok-refusal-in-Err-clause-comment : goal.returns-in_ok-refusal-in-Err-clause-comment
 returns-in_ok-refusal-in-Err-clause-comment g c =
@@ -111,7 +113,8 @@ returns-in_ok-reply-in-Ok-Some-clause-goes g c = record {
 
 pub returns-in_err-reply-in-Ok-Some-clause-fetched : goal.returns-in_err-reply-in-Ok-Some-clause-fetched
 returns-in_err-reply-in-Ok-Some-clause-fetched g c =
-    subst (λ (l : Line). (g.H.Host.state c.answer.new.host).fetched ≤ (g.H.Host.state c.args.host.now).fetched + may_fetch c.args.store.now.held.numbers l) (sym (c.in-Ok-Some.ensures.ok ∙ ap said c.in-Ok-Some.field-0-is)) c.answer.ensures.fetched
+    fetched_shaped c.args.user.now c.in-Ok-Some.command (line_asked c.args.user.now c.args.line.now) (c.in-Ok-Some.ensures.ok ∙ ap (λ (o : Option Command). served_line (said o)) c.in-Ok-Some.field-0-is)
+    c.args.store.now c.answer.new.store (g.T.Stage.staged c.args.stage.now) (g.T.Stage.staged c.answer.new.stage) (g.H.Host.state c.args.host.now) (g.H.Host.state c.answer.new.host) c.answer.result c.answer.ensures.other c.answer.ensures.fetched
 
 pub returns-in_err-refusal-in-Err-clause-fetched : goal.returns-in_err-refusal-in-Err-clause-fetched
 returns-in_err-refusal-in-Err-clause-fetched g c = fetched_none _ _
@@ -121,22 +124,25 @@ returns-in-Ok-None-clause-fetched g c = fetched_none _ _
 
 pub returns-in_ok-reply-in-Ok-Some-clause-fetched : goal.returns-in_ok-reply-in-Ok-Some-clause-fetched
 returns-in_ok-reply-in-Ok-Some-clause-fetched g c =
-    subst (λ (n : ℕ). n ≤ (g.H.Host.state c.args.host.now).fetched + may_fetch c.args.store.now.held.numbers (line_asked c.args.user.now c.args.line.now)) (sym c.say.ensures.fetched)
-    (subst (λ (l : Line). (g.H.Host.state c.answer.new.host).fetched ≤ (g.H.Host.state c.args.host.now).fetched + may_fetch c.args.store.now.held.numbers l) (sym (c.in-Ok-Some.ensures.ok ∙ ap said c.in-Ok-Some.field-0-is)) c.answer.ensures.fetched)
+    subst (λ (n : ℕ). n ≤ (g.H.Host.state c.args.host.now).fetched + may_fetch c.args.store.now.held.numbers c.args.user.now (line_asked c.args.user.now c.args.line.now)) (sym c.say.ensures.fetched)
+    (fetched_shaped c.args.user.now c.in-Ok-Some.command (line_asked c.args.user.now c.args.line.now) (c.in-Ok-Some.ensures.ok ∙ ap (λ (o : Option Command). served_line (said o)) c.in-Ok-Some.field-0-is)
+    c.args.store.now c.answer.new.store (g.T.Stage.staged c.args.stage.now) (g.T.Stage.staged c.answer.new.stage) (g.H.Host.state c.args.host.now) (g.H.Host.state c.answer.new.host) c.answer.result c.answer.ensures.other c.answer.ensures.fetched)
 
 pub returns-in_ok-refusal-in-Err-clause-fetched : goal.returns-in_ok-refusal-in-Err-clause-fetched
 returns-in_ok-refusal-in-Err-clause-fetched g c = fetched_still (g.H.Host.state c.args.host.now) (g.H.Host.state c.say-in-Err.new.host) _ c.say-in-Err.ensures.fetched
 
 pub returns-in_err-reply-in-Ok-Some-clause-unread : goal.returns-in_err-reply-in-Ok-Some-clause-unread
-returns-in_err-reply-in-Ok-Some-clause-unread g c = λ off is.
-    c.answer.ensures.unread off (subst (λ (l : Line). line_off c.args.store.now.held.numbers l ≡ Some off) (c.in-Ok-Some.ensures.ok ∙ ap said c.in-Ok-Some.field-0-is) is)
+returns-in_err-reply-in-Ok-Some-clause-unread g c =
+    unread_shaped c.args.user.now c.in-Ok-Some.command (line_asked c.args.user.now c.args.line.now) (c.in-Ok-Some.ensures.ok ∙ ap (λ (o : Option Command). served_line (said o)) c.in-Ok-Some.field-0-is)
+    c.args.store.now c.answer.new.store (g.T.Stage.staged c.args.stage.now) (g.T.Stage.staged c.answer.new.stage) (g.H.Host.state c.args.host.now) (g.H.Host.state c.answer.new.host) c.answer.result c.answer.ensures.other c.answer.ensures.unread
 
 pub returns-in_ok-reply-in-Ok-Some-clause-unread : goal.returns-in_ok-reply-in-Ok-Some-clause-unread
-returns-in_ok-reply-in-Ok-Some-clause-unread g c = λ off is.
-    c.say.ensures.fetched ∙ c.answer.ensures.unread off (subst (λ (l : Line). line_off c.args.store.now.held.numbers l ≡ Some off) (c.in-Ok-Some.ensures.ok ∙ ap said c.in-Ok-Some.field-0-is) is)
+returns-in_ok-reply-in-Ok-Some-clause-unread g c = λ is.
+    c.say.ensures.fetched ∙ unread_shaped c.args.user.now c.in-Ok-Some.command (line_asked c.args.user.now c.args.line.now) (c.in-Ok-Some.ensures.ok ∙ ap (λ (o : Option Command). served_line (said o)) c.in-Ok-Some.field-0-is)
+    c.args.store.now c.answer.new.store (g.T.Stage.staged c.args.stage.now) (g.T.Stage.staged c.answer.new.stage) (g.H.Host.state c.args.host.now) (g.H.Host.state c.answer.new.host) c.answer.result c.answer.ensures.other c.answer.ensures.unread is
 
 pub returns-in_ok-refusal-in-Err-clause-unread : goal.returns-in_ok-refusal-in-Err-clause-unread
-returns-in_ok-refusal-in-Err-clause-unread g c = λ off is. c.say-in-Err.ensures.fetched
+returns-in_ok-refusal-in-Err-clause-unread g c = λ is. c.say-in-Err.ensures.fetched
 
 -- ---- where it leaves the store
 
@@ -175,7 +181,8 @@ returns-in-Ok-None-clause-replied g c = refl
 pub returns-in_ok-reply-in-Ok-Some-clause-replied : goal.returns-in_ok-reply-in-Ok-Some-clause-replied
 returns-in_ok-reply-in-Ok-Some-clause-replied g c =
     is_replied (line_asked c.args.user.now c.args.line.now) c.in_ok-reply-in-Ok-Some.reply c.args.store.now.held (g.T.Stage.staged c.args.stage.now) (g.T.Stage.staged c.answer.new.stage) (g.H.Host.state c.args.host.now) (g.H.Host.state c.answer.new.host) (g.H.Host.state c.say.new.host)
-    (subst (λ (l : Line). IsReplyTo l c.in_ok-reply-in-Ok-Some.reply) (sym (c.in-Ok-Some.ensures.ok ∙ ap said c.in-Ok-Some.field-0-is)) tt) c.answer.ensures.goes.told
+    (reply_shaped c.args.user.now c.in-Ok-Some.command (line_asked c.args.user.now c.args.line.now) (c.in-Ok-Some.ensures.ok ∙ ap (λ (o : Option Command). served_line (said o)) c.in-Ok-Some.field-0-is)
+    c.args.store.now c.answer.new.store (g.T.Stage.staged c.args.stage.now) (g.T.Stage.staged c.answer.new.stage) (g.H.Host.state c.args.host.now) (g.H.Host.state c.answer.new.host) c.in_ok-reply-in-Ok-Some.reply c.in_ok-reply-in-Ok-Some.ensures.other) c.answer.ensures.goes.told
     (λ some. (c.in_ok-reply-in-Ok-Some.ensures.at some.0 some.1).printed) c.in_ok-reply-in-Ok-Some.ensures.missed c.say.result
     (record { answer = c.say.ensures.served; why = c.say.ensures.host_alone; silent = c.say.ensures.unsaid; printed = c.say.ensures.said })
 
@@ -214,13 +221,13 @@ returns-in_ok-refusal-in-Err-clause-by_journal g c = λ by fine.
 -- ---- an answer met no damage
 
 pub returns-in-Ok-None-clause-whole : goal.returns-in-Ok-None-clause-whole
-returns-in-Ok-None-clause-whole g c = λ command page asked told. absurd (comment_asks command (sym (c.in-Ok-None.ensures.ok ∙ ap said c.in-Ok-None.field-0-is) ∙ asked))
+returns-in-Ok-None-clause-whole g c = λ command page asked told. absurd (comment_asks command (sym (c.in-Ok-None.ensures.ok ∙ ap (λ (o : Option Command). served_line (said o)) c.in-Ok-None.field-0-is) ∙ asked))
 
 pub returns-in_ok-reply-in-Ok-Some-clause-whole : goal.returns-in_ok-reply-in-Ok-Some-clause-whole
 returns-in_ok-reply-in-Ok-Some-clause-whole g c = λ command page asked told.
-    on_any _ c.say.result
-    (subst (λ (asked : Command). MeetsDamage asked (g.T.Stage.staged c.args.stage.now) c.args.store.now.held (g.H.Host.state c.args.host.now) page → ⊥) (same_command c.in-Ok-Some.command command (sym (c.in-Ok-Some.ensures.ok ∙ ap said c.in-Ok-Some.field-0-is) ∙ asked))
-    (c.in_ok-reply-in-Ok-Some.ensures.whole page told))
+    whole_shaped c.args.user.now c.in-Ok-Some.command (line_asked c.args.user.now c.args.line.now) (c.in-Ok-Some.ensures.ok ∙ ap (λ (o : Option Command). served_line (said o)) c.in-Ok-Some.field-0-is)
+    c.args.store.now c.answer.new.store (g.T.Stage.staged c.args.stage.now) (g.T.Stage.staged c.answer.new.stage) (g.H.Host.state c.args.host.now) (g.H.Host.state c.answer.new.host) c.in_ok-reply-in-Ok-Some.reply c.in_ok-reply-in-Ok-Some.ensures.other command page c.say.result asked
+    (c.in_ok-reply-in-Ok-Some.ensures.whole page told)
 
 pub returns-in_ok-refusal-in-Err-clause-whole : goal.returns-in_ok-refusal-in-Err-clause-whole
 returns-in_ok-refusal-in-Err-clause-whole g c = λ command page asked told. absurd (refused_asks c.in_ok-refusal-in-Err.field-0 command (sym (c.in-Err.ensures.err c.in_ok-refusal-in-Err.ensures.some ∙ ap Refused (sym c.in_ok-refusal-in-Err.ensures.refusal)) ∙ asked))
@@ -228,7 +235,11 @@ returns-in_ok-refusal-in-Err-clause-whole g c = λ command page asked told. absu
 -- ---- what changes no store
 
 pub returns-in_err-reply-in-Ok-Some-clause-still : goal.returns-in_err-reply-in-Ok-Some-clause-still
-returns-in_err-reply-in-Ok-Some-clause-still g c = λ is. c.answer.ensures.still (subst IsReading (c.in-Ok-Some.ensures.ok ∙ ap said c.in-Ok-Some.field-0-is) is)
+returns-in_err-reply-in-Ok-Some-clause-still g c =
+    still_shaped c.args.user.now c.in-Ok-Some.command (line_asked c.args.user.now c.args.line.now) (c.in-Ok-Some.ensures.ok ∙ ap (λ (o : Option Command). served_line (said o)) c.in-Ok-Some.field-0-is)
+    c.args.store.now c.answer.new.store (g.T.Stage.staged c.args.stage.now) (g.T.Stage.staged c.answer.new.stage) (g.H.Host.state c.args.host.now) (g.H.Host.state c.answer.new.host) c.answer.result c.answer.ensures.other c.answer.ensures.still
 
 pub returns-in_ok-reply-in-Ok-Some-clause-still : goal.returns-in_ok-reply-in-Ok-Some-clause-still
-returns-in_ok-reply-in-Ok-Some-clause-still g c = λ is. c.answer.ensures.still (subst IsReading (c.in-Ok-Some.ensures.ok ∙ ap said c.in-Ok-Some.field-0-is) is)
+returns-in_ok-reply-in-Ok-Some-clause-still g c =
+    still_shaped c.args.user.now c.in-Ok-Some.command (line_asked c.args.user.now c.args.line.now) (c.in-Ok-Some.ensures.ok ∙ ap (λ (o : Option Command). served_line (said o)) c.in-Ok-Some.field-0-is)
+    c.args.store.now c.answer.new.store (g.T.Stage.staged c.args.stage.now) (g.T.Stage.staged c.answer.new.stage) (g.H.Host.state c.args.host.now) (g.H.Host.state c.answer.new.host) c.answer.result c.answer.ensures.other c.answer.ensures.still

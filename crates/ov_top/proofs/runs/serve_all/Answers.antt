@@ -172,7 +172,7 @@ lines-preserved g c =
           in let later = left_of c.next_line.new.self (g.S.Source.script c.next_line.new.source)
           in let given = given_true _ _ _ _ _ c.if-branch.true (c.in_ok-next_line.ensures.given (inv.told ∙ told) (inv.at_end told))
           in fetches_more c.args.store.held c.lines.store.held (lines_of (g.S.Source.script c.args.source.now).left) (lines_of left) (lines_of later)
-          c.lines.user c.as_slice.result.now given.0 (g.H.Host.state c.args.host.now) (g.H.Host.state c.lines.host) (g.H.Host.state c.serve.new.host) (inv.fetched told are)
+          c.lines.user c.as_slice.result.now given.0 (g.H.Host.state c.args.host.now) (g.H.Host.state c.lines.host) (g.H.Host.state c.serve.new.host) (inv.fetched told are) inv.user
           (next_lines c.next_line.new.self.ended given.0 left later given.1)
           (line_kept c.lines.user c.as_slice.result.now c.next_line.new.line.items given.0 inv.user c.as_slice.ensures.value given.2)
           c.serve.ensures.fetched c.serve.new.store.held c.serve.ensures.still;
@@ -278,7 +278,7 @@ returns-in_err-served-clause-fetched g c = λ told are.
     in let later = left_of c.next_line.new.self (g.S.Source.script c.next_line.new.source)
     in let given = given_true _ _ _ _ _ c.if-branch.true (c.in_ok-next_line.ensures.given (c.lines.invariant.told ∙ told) (c.lines.invariant.at_end told))
     in fetches_ends c.args.store.held c.lines.store.held (lines_of (g.S.Source.script c.args.source.now).left) (lines_of left) (lines_of later)
-    c.lines.user c.as_slice.result.now given.0 (g.H.Host.state c.args.host.now) (g.H.Host.state c.lines.host) (g.H.Host.state c.serve.new.host) (c.lines.invariant.fetched told are)
+    c.lines.user c.as_slice.result.now given.0 (g.H.Host.state c.args.host.now) (g.H.Host.state c.lines.host) (g.H.Host.state c.serve.new.host) (c.lines.invariant.fetched told are) c.lines.invariant.user
     (next_lines c.next_line.new.self.ended given.0 left later given.1)
     (line_kept c.lines.user c.as_slice.result.now c.next_line.new.line.items given.0 c.lines.invariant.user c.as_slice.ensures.value given.2)
     c.serve.ensures.fetched

@@ -1,0 +1,67 @@
+-- What is taken of a text, and why it is refused whatever the store has.
+use Rattle.std.proofs.Common.{◌≡◌, ◌∙◌, ℕ, Bool, true, false, List, [], ◌∷◌, Some, None, refl, sym, ap, subst}
+use Rattle.std.specs.Prelude.{Option, ◌&&◌, not, if◌then◌else◌}
+use Rattle.std.specs.List.{list_any}
+use Rattle.std.proofs.lemmas.Option.{same_Some}
+use Rattle.ov_model.specs.Act.{Session, refuses, unless}
+use Rattle.ov_model.specs.Asking.{lineages_of, name_read, query_by, run_deed}
+use Rattle.ov_model.specs.BuiltShapes.{is_none_named}
+use Rattle.ov_model.specs.QueryTexts.{Asked, BadByte, NoQuery, AsksQuery, AsksJoin}
+use Rattle.ov_model.specs.Users.{is_admin, is_reserved, permit_names}
+use Rattle.ov_model.specs.World.{World, cvd_in, set_named}
+use Rattle.ov_model.specs.declared.query.Query.{Query}
+use Rattle.ov_model.specs.declared.refusal.Refusal.{Refusal}
+use Rattle.ov_model.specs.declared.refusal.Refusal.TheVariants as no
+use Rattle.ov_query.specs.Asking.{IsNoQuery}
+use Rattle.ov_query.specs.Queries.{taken, text_off}
+
+pub none_named : (vids : List ℕ) → is_none_named vids ≡ true → vids ≡ []
+none_named [] is = refl
+none_named (vid ∷ vids) is = absurd cc
+
+-- ---- what a text asks, as it is taken
+
+pub taken_query : (asked : Asked) (query : Query) → asked ≡ AsksQuery query → is_none_named (lineages_of query) ≡ true → taken asked ≡ AsksQuery query
+taken_query asked query is plain = ap taken is ∙ ap (λ (b : Bool). if b then AsksQuery query else NoQuery) plain
+
+pub taken_lineage : (asked : Asked) (query : Query) → asked ≡ AsksQuery query → is_none_named (lineages_of query) ≡ false → taken asked ≡ NoQuery
+taken_lineage asked query is named = ap taken is ∙ ap (λ (b : Bool). if b then AsksQuery query else NoQuery) named
+
+pub taken_none : (asked : Asked) → IsNoQuery asked → taken asked ≡ NoQuery
+taken_none (BadByte at) is = absurd is
+taken_none NoQuery is = refl
+taken_none (AsksQuery query) is = absurd is
+taken_none (AsksJoin join) is = refl
+
+-- no join is taken
+taken_by : (asked : Asked) (P : Asked → Type 0) → ((at : ℕ) → P (BadByte at)) → P NoQuery → ((query : Query) → P (AsksQuery query)) → P (taken asked)
+taken_by (BadByte at) P bad none one = bad at
+taken_by NoQuery P bad none one = none
+taken_by (AsksQuery query) P bad none one = by (is_none_named (lineages_of query))
+  where
+    by : (b : Bool) → P (if b then AsksQuery query else NoQuery)
+    by true = one query
+    by false = none
+taken_by (AsksJoin join) P bad none one = none
+
+-- ---- a refusal whatever the store has
+
+-- is what the text means at any World
+pub refused_run : (w : World) (s : Session) (user : List ℕ) (asked : Asked) (refusal : Refusal) → s.user ≡ user → text_off user (taken asked) ≡ Some refusal
+    → run_deed w s (taken asked) ≡ refuses s refusal
+refused_run w s user asked refusal same =
+    taken_by asked (λ a. text_off user a ≡ Some refusal → run_deed w s a ≡ refuses s refusal)
+    (λ at is. ap (refuses s) (same_Some (no.BadByte at) refusal is))
+    (λ is. ap (refuses s) (same_Some no.NotAQuery refusal is))
+    (λ query is. ap (λ (o : Option Refusal). unless s o (query_by s query (cvd_in (set_named w (name_read query.source)))))
+    (ap (λ (u : List ℕ). permit_names u (name_read query.source ∷ [])) same ∙ is))
+
+denied_not_70 : (b : Bool) (name : List ℕ) → (if b then Some (no.Denied 4) else None) ≡ Some (no.NoFile name) → ⊥
+denied_not_70 true name is = cc
+denied_not_70 false name is = cc
+
+pub text_not_70 : (user : List ℕ) (asked : Asked) (name : List ℕ) → text_off user asked ≡ Some (no.NoFile name) → ⊥
+text_not_70 user (BadByte at) name is = cc
+text_not_70 user NoQuery name is = cc
+text_not_70 user (AsksQuery query) name is = denied_not_70 (list_any is_reserved (name_read query.source ∷ []) && not (is_admin user)) name is
+text_not_70 user (AsksJoin join) name is = cc

@@ -1,0 +1,41 @@
+-- A query on its way to its reply.
+--     IsPermittedBy user asked permitted      a query that its user may ask, or a refusal whatever the store has
+--     version_refusal off      the refusal of a version that may not be read: 12, 13; of another error there is none
+--     IsThere source set      the dataset is there, with the versions that the source lists
+--     HasSchema schema set      it is there, and has this schema
+use Rattle.std.specs.Prelude.{◌≡◌, ℕ, List, [], ◌∷◌, length, Option, Some, None, Result, Ok, Err}
+use Rattle.ov_model.specs.Asking.{lineages_of, listed_refusal, name_read}
+use Rattle.ov_model.specs.QueryTexts.{Asked, AsksQuery}
+use Rattle.ov_model.specs.Users.{permit_names}
+use Rattle.ov_model.specs.declared.query.Query.{Query}
+use Rattle.ov_model.specs.declared.query.Src.{Src}
+use Rattle.ov_model.specs.declared.refusal.Refusal.{Refusal}
+use Rattle.ov_model.specs.declared.refusal.Refusal.TheVariants as no
+use Rattle.ov_store.specs.declared.errors.StoreErr.{StoreErr}
+use Rattle.ov_store.specs.declared.errors.StoreErr.TheVariants as why
+use Rattle.ov_value.specs.Shapes.{Shape}
+use Rattle.ov_query.specs.Queries.{Set, text_off}
+use Rattle.ov_query.specs.declared.permitting.Permitted.{Permitted}
+use Rattle.ov_query.specs.declared.permitting.Permitted.TheVariants as permitted
+
+pub record IsPermittedQuery (user : List ℕ) (asked : Asked) (query : Query) : Type 0 where
+  pub is : asked ≡ AsksQuery query
+  pub plain : lineages_of query ≡ []
+  pub allowed : permit_names user (name_read query.source ∷ []) ≡ None
+
+abbrev pub IsPermittedBy : List ℕ → Asked → Permitted → Type 0
+IsPermittedBy user asked (permitted.Query query) = IsPermittedQuery user asked query
+IsPermittedBy user asked (permitted.Refused refusal) = text_off user asked ≡ Some refusal
+
+abbrev pub version_refusal : StoreErr → Result Refusal StoreErr
+version_refusal (why.NoVersion vid) = Ok (no.NoVersion vid)
+version_refusal (why.RepeatedVersion vid) = Ok (no.RepeatedVersion vid)
+version_refusal off = Err off
+
+abbrev pub IsThere : Src → Option Set → Type 0
+IsThere source None = ⊥
+IsThere source (Some set) = listed_refusal (length set.versions) source ≡ None
+
+abbrev pub HasSchema : Shape → Option Set → Type 0
+HasSchema schema None = ⊥
+HasSchema schema (Some set) = schema ≡ set.schema

@@ -1,0 +1,175 @@
+// The reply to a query.
+
+ghost use Rattle.std.specs.Prelude.{◌≡◌, ◌≤◌, ◌+◌, ℕ, List, [], true, None, Some, Ok, IfOk, IfErr, OnOk, length};
+ghost use Rattle.ov_host.specs.Host.{State};
+ghost use Rattle.ov_core.specs.AtWorld.{IsAtWorld};
+ghost use Rattle.ov_fetch.specs.Extents.{Looked};
+ghost use Rattle.ov_fetch.specs.Scans.{IsSound};
+ghost use Rattle.ov_model.specs.Act.{Session, tells};
+ghost use Rattle.ov_model.specs.Answers.{Related, answer, answer_text};
+ghost use Rattle.ov_model.specs.Asking.{answered, lineages_of, name_read, query_by, run_deed};
+ghost use Rattle.ov_model.specs.Kinds.{kinds};
+ghost use Rattle.ov_model.specs.QueryTexts.{asked_of};
+ghost use Rattle.ov_model.specs.World.{Dataset, World, cvd_in, set_named};
+ghost use Rattle.ov_model.specs.declared.refusal.Refusal.{Refusal as RefusalValue};
+ghost use Rattle.ov_model.specs.declared.reply.Reply.TheVariants as says;
+ghost use Rattle.ov_store.specs.Scanning.{IsDamagedIn, IsUndamaged, set_in};
+ghost use Rattle.ov_terms.specs.Standing.{NoLineages, pairs_shown};
+ghost use Rattle.ov_value.specs.declared.column.Kind.{Kind as KindValue};
+ghost use Rattle.ov_typing.specs.Refusing.{refusal_of};
+ghost use Rattle.ov_query.specs.Answering.{HasSchema};
+ghost use Rattle.ov_query.specs.Queries.{IsDamagedRead, IsOfNoFile, IsQueryDamaged, IsReplyBy, IsUnanswered, IsUnread, bytes_read, query_fetch, query_off, set_off, taken, vids_read};
+
+use crate::permitting::{Permitted, name_of, permitted};
+use crate::scanning::{refused_version, scan_of};
+use ov_csv::write_answer;
+use ov_fetch::Scan;
+use ov_host::Host;
+use ov_model::{Query, Refusal, Reply, Seq};
+use ov_qrun::run_typed;
+use ov_store::{Store, StoreErr};
+use ov_typing::{TypeErr, Typed, typed};
+use std::alloc::{AllocError, Global};
+
+// The refusal of a query that doesn't fit its dataset's schema: 42 to 45.
+fn refusal_by(off: TypeErr) -> Result<Refusal, StoreErr>
+    ensures refusal { IfOk result (λ refusal. refusal_of off ≡ Some refusal) }
+    ensures memory { IfErr result (λ err. err ≡ StoreErr.Memory) }
+{
+    match off {
+        TypeErr::UnknownColumn { name } => Ok(Refusal::UnknownColumn { name }),
+        TypeErr::TypeMismatch { nth, left, right } => {
+            Ok(Refusal::TypeMismatch { nth, left, right })
+        }
+        TypeErr::NotGrouped { name } => Ok(Refusal::NotGrouped { name }),
+        TypeErr::NeedsInt { name } => Ok(Refusal::NeedsInt { name }),
+        TypeErr::Memory => Err(StoreErr::Memory),
+    }
+}
+
+// The answer of a query over the rows of a scan, as the lines and the number that are printed.
+fn answer_over(alloc: Global, typed: &Typed<'_>, scan: &Scan) -> Result<Reply, AllocError>
+    requires sound { IsSound typed.now.schema scan.now }
+    requires filter { NoLineages typed.now.query.filter }
+    requires having { NoLineages typed.now.query.having }
+    ensures { (related : Related) (kinds_are : List KindValue) → kinds typed.now.query typed.now.schema ≡ Ok kinds_are
+        → let rows = answer typed.now.query typed.now.schema related (pairs_shown scan.now)
+        in IfOk result (λ reply. reply ≡ says.Answer (answer_text kinds_are rows) (length rows)) }
+{
+    let answer = run_typed(alloc, typed, scan)?;
+    let text = write_answer(alloc, &answer)?;
+    Ok(Reply::Answer {
+        text: Seq::from_vec(text),
+        rows: answer.rows.len() as u64,
+    })
+}
+
+// The answer of a query that nothing refuses: reads the versions that it names, once.
+fn read_and_answer<H: Host>(
+    alloc: Global,
+    store: &Store,
+    host: &mut H,
+    typed: &Typed<'_>,
+) -> Result<Reply, StoreErr>
+    requires usable { store.now.usable ≡ true }
+    requires plain { lineages_of typed.now.query ≡ [] }
+    requires allowed { set_off typed.now.query (set_in store.now.held.numbers (name_read typed.now.query.source)) ≡ None }
+    requires schema { HasSchema typed.now.schema (set_in store.now.held.numbers (name_read typed.now.query.source)) }
+    ensures looked { Looked (H.state host.old) (H.state host.new) }
+    ensures fetched { let set = set_in store.now.held.numbers (name_read typed.now.query.source)
+        in (H.state host.new).fetched ≤ (H.state host.old).fetched + bytes_read None set (vids_read typed.now.query.source set) }
+    ensures reply { IfOk result (IsReplyBy None) }
+    ensures why { let set = set_in store.now.held.numbers (name_read typed.now.query.source)
+        in IfErr result (IsUnread None set (vids_read typed.now.query.source set) (H.state host.old) (H.state host.new)) }
+    ensures whole { (page : ℕ) → (H.state host.old).tells ≡ true
+        → let set = set_in store.now.held.numbers (name_read typed.now.query.source)
+        in OnOk result (IsDamagedIn set (vids_read typed.now.query.source set) (H.state host.old) page → ⊥) }
+    ensures world { (w : World) (d : Dataset) (s : Session) → IsAtWorld w store.now.held (H.state host.old)
+        → set_named w (name_read typed.now.query.source) ≡ Some d
+        → IfOk result (λ reply. answered s typed.now.query d.cvd (kinds typed.now.query d.cvd.schema) ≡ tells s reply) }
+    ensures undamaged { (w : World) → IsAtWorld w store.now.held (H.state host.old) → IfErr result IsUndamaged }
+{
+    let scan = scan_of(store, host, &typed.query().source)?;
+    Ok(answer_over(alloc, typed, &scan)?)
+}
+
+// The reply to a query that its user may ask: by the numbers of its dataset it is refused, or it is answered.
+fn reply_to<H: Host>(
+    alloc: Global,
+    store: &Store,
+    host: &mut H,
+    query: &Query,
+) -> Result<Reply, StoreErr>
+    requires usable { store.now.usable ≡ true }
+    requires plain { lineages_of query.now ≡ [] }
+    ensures looked { Looked (H.state host.old) (H.state host.new) }
+    ensures fetched { let set = set_in store.now.held.numbers (name_read query.now.source)
+        in (H.state host.new).fetched ≤ (H.state host.old).fetched + bytes_read (set_off query.now set) set (vids_read query.now.source set) }
+    ensures unread { (refusal : RefusalValue) → set_off query.now (set_in store.now.held.numbers (name_read query.now.source)) ≡ Some refusal
+        → H.state host.new ≡ H.state host.old }
+    ensures reply { IfOk result (IsReplyBy (set_off query.now (set_in store.now.held.numbers (name_read query.now.source)))) }
+    ensures why { let set = set_in store.now.held.numbers (name_read query.now.source)
+        in IfErr result (IsUnread (set_off query.now set) set (vids_read query.now.source set) (H.state host.old) (H.state host.new)) }
+    ensures whole { (page : ℕ) → (H.state host.old).tells ≡ true
+        → let set = set_in store.now.held.numbers (name_read query.now.source)
+        in OnOk result (IsDamagedRead (set_off query.now set) set (vids_read query.now.source set) (H.state host.old) page → ⊥) }
+    ensures seen { IfOk result IsOfNoFile }
+    ensures world { (w : World) (s : Session) → IsAtWorld w store.now.held (H.state host.old)
+        → IfOk result (λ reply. query_by s query.now (cvd_in (set_named w (name_read query.now.source))) ≡ tells s reply) }
+    ensures undamaged { (w : World) → IsAtWorld w store.now.held (H.state host.old) → IfErr result IsUndamaged }
+{
+    let name = name_of(&query.source);
+    let Some(d) = store.catalog().cvd(name.as_str()) else {
+        return Ok(Reply::Refused(Refusal::NoCvd {
+            cvd: name.copy(alloc)?,
+        }));
+    };
+    if let Some(refusal) = refused_version(store, &query.source)? {
+        return Ok(Reply::Refused(refusal));
+    }
+    match typed(alloc, query, &d.schema) {
+        Ok(typed) => read_and_answer(alloc, store, host, &typed),
+        Err(off) => Ok(Reply::Refused(refusal_by(off)?)),
+    }
+}
+
+/// The reply to the text of a `run` by a user, over a store.
+///
+/// Refusals in their order: 40, 41 (a join or a query that names a lineage too: none is built yet), 71, 10, per version from
+/// the left 12 and 13, and the first of 42 to 45. What is refused reads nothing. Else the list of each version that the query
+/// names is read once, and once each partition that serves one of them. Nothing else is read, and nothing is changed.
+///
+/// `Memory`, `Host` and `Damaged` are the only errors, the last two only where nothing is refused.
+pub fn answer_to<H: Host>(
+    alloc: Global,
+    store: &Store,
+    host: &mut H,
+    user: &str,
+    text: &str,
+) -> Result<Reply, StoreErr>
+    requires usable { store.now.usable ≡ true }
+    requires text { length text.now ≤ 65536 }
+    ensures looked { Looked (H.state host.old) (H.state host.new) }
+    ensures fetched { (H.state host.new).fetched ≤ (H.state host.old).fetched + query_fetch store.now.held.numbers user.now text.now }
+    ensures unread { (refusal : RefusalValue) → query_off store.now.held.numbers user.now text.now ≡ Some refusal
+        → H.state host.new ≡ H.state host.old }
+
+        // A refusal is the first one, and an answer comes exactly where there is none; it is never 70.
+    ensures reply { IfOk result (IsReplyBy (query_off store.now.held.numbers user.now text.now)) }
+    ensures seen { IfOk result IsOfNoFile }
+
+        // Why there is no reply; and an answer excludes what would be damaged.
+    ensures why { IfErr result (IsUnanswered store.now.held.numbers user.now text.now (H.state host.old) (H.state host.new)) }
+    ensures whole { (page : ℕ) → (H.state host.old).tells ≡ true
+        → OnOk result (IsQueryDamaged store.now.held.numbers user.now text.now (H.state host.old) page → ⊥) }
+
+        // At a World nothing is damaged, and the reply is the one that the text means there.
+    ensures world { (w : World) (s : Session) → IsAtWorld w store.now.held (H.state host.old) → s.user ≡ user.now
+        → IfOk result (λ reply. run_deed w s (taken (asked_of text.now)) ≡ tells s reply) }
+    ensures undamaged { (w : World) → IsAtWorld w store.now.held (H.state host.old) → IfErr result IsUndamaged }
+{
+    match permitted(alloc, user, text)? {
+        Permitted::Query(query) => reply_to(alloc, store, host, &query),
+        Permitted::Refused(refusal) => Ok(Reply::Refused(refusal)),
+    }
+}

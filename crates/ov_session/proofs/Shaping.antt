@@ -1,0 +1,226 @@
+-- A command is of a shape that is built, or a query that is refused for its shape; and what a line that asks for it comes to.
+use Rattle.std.proofs.Common.{◌≡◌, ◌∙◌, ◌⊎◌, inl, inr, ◌+◌, ℕ, Bool, true, false, List, Some, None, refl, sym, ap, subst}
+use Rattle.std.specs.Prelude.{◌≤◌, IfErr, IfOk, MatchResult, OnOk, Option, Ok, Err, Result, if◌then◌else◌, is_ok, is_some}
+use Rattle.ov_host.specs.declared.area.Extent.{Extent}
+use Rattle.ov_host.specs.Host.{State}
+use Rattle.ov_host.specs.Stage.{Staged}
+use Rattle.ov_catalog.specs.Numbers.{Numbers}
+use Rattle.ov_core.specs.AtWorld.{IsAtWorld}
+use Rattle.ov_core.specs.Held.{Held}
+use Rattle.law_runs.specs.Serving.{Breaks, Does, Serves, session_of}
+use Rattle.ov_model.proofs.Shaped.{line_shaped}
+use Rattle.ov_model.specs.Act.{Session}
+use Rattle.ov_model.specs.BuiltShapes.{if_built, is_built_shape, served_line}
+use Rattle.ov_model.specs.Deed.{permitted}
+use Rattle.ov_model.specs.Forms.{built_forms}
+use Rattle.ov_model.specs.Line.{Line, Asks, Comment, Refused, answer, line_of}
+use Rattle.ov_model.specs.QueryTexts.{Asked, NoQuery, asked_of}
+use Rattle.ov_model.specs.Users.{line_by, permit, unless_denied}
+use Rattle.ov_model.specs.World.{World}
+use Rattle.ov_model.specs.declared.command.Command.{Command}
+use Rattle.ov_model.specs.declared.command.Command.TheVariants as asks
+use Rattle.ov_model.specs.declared.refusal.Refusal.{Refusal}
+use Rattle.ov_model.specs.declared.refusal.Refusal.TheVariants as no
+use Rattle.ov_model.specs.declared.reply.Reply.{Reply}
+use Rattle.ov_model.specs.declared.reply.Reply.TheVariants as says
+use Rattle.ov_query.specs.Queries.{asked_off, query_off, taken}
+use Rattle.ov_session.proofs.Dealing.{damage_wider}
+use Rattle.ov_session.proofs.Meeting.{refused_asks, same_command}
+use Rattle.ov_session.proofs.Saying.{Says, comment_none, line_unserved, says_broken, says_refusal, says_reply}
+use Rattle.ov_session.proofs.Standing.{on_any}
+use Rattle.ov_session.specs.Asking.{line_asked}
+use Rattle.ov_session.specs.Bounds.{IsReading, IsReadingCommand, command_fetch, is_command_off, is_off, may_fetch}
+use Rattle.ov_session.specs.Commands.{IsDamageOf, IsDamaged, IsOther, IsSaid, MeetsDamage, is_comment_in, is_comment_of, is_refused}
+use Rattle.ov_session.specs.Replying.{IsReplyTo}
+use Rattle.ov_session.specs.declared.errors.EndErr.{EndErr}
+use Rattle.ov_session.specs.declared.errors.EndErr.TheVariants as ending
+use Rattle.ov_session.specs.declared.serving.Served.{Served}
+use Rattle.ov_store.specs.Kept.{Kept}
+
+-- ---- a command
+
+abbrev pub done : Command → Result Command Refusal
+done command = Ok command
+
+abbrev pub off : Refusal → Result Command Refusal
+off refusal = Err refusal
+
+pub ok_err : (command : Command) (refusal : Refusal) → done command ≡ off refusal → ⊥
+ok_err command refusal e = cc
+
+abbrev text_if : List ℕ → Bool → Result Command Refusal
+text_if text t = if t then Ok (asks.Run text) else Err no.NotAQuery
+
+pub shape_of : (command : Command) → (if_built command ≡ done command) ⊎ ((refusal : Refusal) × (if_built command ≡ off refusal))
+shape_of (asks.Run text) = by (is_built_shape (asked_of text))
+  where
+    by : (t : Bool) → (text_if text t ≡ done (asks.Run text)) ⊎ ((refusal : Refusal) × (text_if text t ≡ off refusal))
+    by true = inl refl
+    by false = inr (no.NotAQuery, refl)
+shape_of command = inl refl
+
+-- a text of a shape that is built is taken as it asks
+pub taken_built : (text : List ℕ) → if_built (asks.Run text) ≡ done (asks.Run text) → taken (asked_of text) ≡ asked_of text
+taken_built text e = by (is_built_shape (asked_of text)) e
+  where
+    by : (t : Bool) → text_if text t ≡ done (asks.Run text) → (if t then asked_of text else NoQuery) ≡ asked_of text
+    by true e = refl
+    by false e = absurd (ok_err (asks.Run text) no.NotAQuery (sym e))
+
+-- and another one is refused
+pub taken_other : (n : Numbers Extent Extent) (user text : List ℕ) (refusal : Refusal) → if_built (asks.Run text) ≡ off refusal → query_off n user text ≡ Some refusal
+taken_other n user text refusal e = by (is_built_shape (asked_of text)) refl e
+  where
+    the : (a b : Refusal) → off a ≡ off b → Some a ≡ Some b
+    the a b e = cc
+
+    by : (t : Bool) → is_built_shape (asked_of text) ≡ t → text_if text t ≡ off refusal → query_off n user text ≡ Some refusal
+    by true is e = absurd (ok_err (asks.Run text) refusal e)
+    by false is e =
+        let none : taken (asked_of text) ≡ NoQuery = ap (λ (t : Bool). let one : Asked = (if t then asked_of text else NoQuery) in one) is
+        in ap (asked_off n user) none ∙ the no.NotAQuery refusal e
+
+-- ---- what a user's line comes to
+
+-- by the forms that are served, where this is what it says by the forms
+pub served_by : (user text : List ℕ) (l : Line) → line_of built_forms text ≡ l → line_asked user text ≡ line_by user (served_line l)
+served_by user text l is = ap (line_by user) (line_shaped built_forms text ∙ ap served_line is)
+
+pub by_permitted : (user : List ℕ) (command : Command) → permit user command ≡ None → line_by user (served_line (Asks command)) ≡ served_line (Asks command)
+by_permitted user command free = by (shape_of command)
+  where
+    by : (if_built command ≡ done command) ⊎ ((refusal : Refusal) × (if_built command ≡ off refusal))
+        → line_by user (served_line (Asks command)) ≡ served_line (Asks command)
+    by (inl e) = ap (λ (r : Result Command Refusal). line_by user (answer r)) e ∙ ap (λ (o : Option Refusal). unless_denied o command) free ∙ sym (ap answer e)
+    by (inr (refusal, e)) = ap (λ (r : Result Command Refusal). line_by user (answer r)) e ∙ sym (ap answer e)
+
+-- no rule denies a query as a command
+query_free : (user : List ℕ) (command : Command) (refusal denied : Refusal) → if_built command ≡ off refusal → permit user command ≡ Some denied → ⊥
+query_free user (asks.Run text) refusal denied e is = cc
+query_free user command refusal denied e is = ok_err command refusal e
+
+pub by_denied : (user : List ℕ) (command : Command) (denied : Refusal) → permit user command ≡ Some denied → line_by user (served_line (Asks command)) ≡ Refused denied
+by_denied user command denied is = by (shape_of command)
+  where
+    by : (if_built command ≡ done command) ⊎ ((refusal : Refusal) × (if_built command ≡ off refusal)) → line_by user (served_line (Asks command)) ≡ Refused denied
+    by (inl e) = ap (λ (r : Result Command Refusal). line_by user (answer r)) e ∙ ap (λ (o : Option Refusal). unless_denied o command) is
+    by (inr (refusal, e)) = absurd (query_free user command refusal denied e is)
+
+-- ---- serving it
+
+abbrev Shape : Line → Command → Type 0
+Shape l command =
+    ((l ≡ Asks command) × (if_built command ≡ done command)) ⊎ ((refusal : Refusal) × (l ≡ Refused refusal) × (if_built command ≡ off refusal))
+
+line_shape : (l : Line) (command : Command) → l ≡ served_line (Asks command) → Shape l command
+line_shape l command is = by (shape_of command)
+  where
+    by : (if_built command ≡ done command) ⊎ ((refusal : Refusal) × (if_built command ≡ off refusal)) → Shape l command
+    by (inl e) = inl (is ∙ ap answer e, e)
+    by (inr (refusal, e)) = inr (refusal, is ∙ ap answer e, e)
+
+module _ (user : List ℕ) (command : Command) (l : Line) (is : l ≡ served_line (Asks command)) where
+  pub no_comment : is_comment_in l ≡ false
+  no_comment = by (line_shape l command is)
+    where
+      by : Shape l command → is_comment_in l ≡ false
+      by (inl asks_) = ap is_comment_in asks_.0
+      by (inr other) = ap is_comment_in other.1
+
+  pub comment_shaped : (error : Bool) (result : Result Served EndErr) → IfOk result (IsSaid error) → IfOk result (λ x. is_comment_of x ≡ is_comment_in l)
+  comment_shaped error result said = comment_none l l error result refl no_comment said
+
+  module _ (before now : Kept) (stage staged : Staged) (old new : State) (result : Result Reply EndErr)
+      (others : (refusal : Refusal) → if_built command ≡ off refusal → IsOther refusal result before now stage staged old new) where
+    pub still_shaped : (IsReadingCommand command → now.held ≡ before.held) → IsReading l → now.held ≡ before.held
+    still_shaped still reads = by (line_shape l command is)
+      where
+        by : Shape l command → now.held ≡ before.held
+        by (inl asks_) = still (subst IsReading asks_.0 reads)
+        by (inr other) = ap (λ (k : Kept). k.held) (others other.0 other.2).store
+
+    pub fetched_shaped : new.fetched ≤ old.fetched + command_fetch before.held.numbers user command → new.fetched ≤ old.fetched + may_fetch before.held.numbers user l
+    fetched_shaped fetched = by (line_shape l command is)
+      where
+        still : (a b n : ℕ) → b ≡ a → b ≤ a + n
+        still a b n same = omega (arith, same)
+
+        by : Shape l command → new.fetched ≤ old.fetched + may_fetch before.held.numbers user l
+        by (inl asks_) = subst (λ (x : Line). new.fetched ≤ old.fetched + may_fetch before.held.numbers user x) (sym asks_.0) fetched
+        by (inr other) = still old.fetched new.fetched (may_fetch before.held.numbers user l) (ap (λ (s : State). s.fetched) (others other.0 other.2).host)
+
+    pub unread_shaped : (is_command_off before.held.numbers user command ≡ true → new.fetched ≡ old.fetched) → is_off before.held.numbers user l ≡ true → new.fetched ≡ old.fetched
+    unread_shaped unread off_ = by (line_shape l command is)
+      where
+        by : Shape l command → new.fetched ≡ old.fetched
+        by (inl asks_) = unread (sym (ap (is_off before.held.numbers user) asks_.0) ∙ off_)
+        by (inr other) = ap (λ (s : State). s.fetched) (others other.0 other.2).host
+
+  -- it is done or refused
+  module _ (before now : Kept) (stage staged : Staged) (old mid : State) (reply : Reply)
+      (others : (refusal : Refusal) → if_built command ≡ off refusal → IsOther refusal (Ok reply) before now stage staged old mid) where
+    pub reply_shaped : IsReplyTo l reply
+    reply_shaped = by (line_shape l command is)
+      where
+        by : Shape l command → IsReplyTo l reply
+        by (inl asks_) = subst (λ (x : Line). IsReplyTo x reply) (sym asks_.0) tt
+        by (inr other) = subst (λ (x : Line). IsReplyTo x reply) (sym other.1) (others other.0 other.2).reply
+
+    pub whole_shaped : (met : Command) (page : ℕ) (result : Result Served EndErr) → l ≡ Asks met → (MeetsDamage user command stage before.held old page → ⊥)
+        → OnOk result (MeetsDamage user met stage before.held old page → ⊥)
+    whole_shaped met page result asked whole = by (line_shape l command is)
+      where
+        by : Shape l command → OnOk result (MeetsDamage user met stage before.held old page → ⊥)
+        by (inl asks_) =
+            on_any _ result (subst (λ (c : Command). MeetsDamage user c stage before.held old page → ⊥) (same_command command met (sym asks_.0 ∙ asked)) whole)
+        by (inr other) = absurd (refused_asks other.0 met (sym other.1 ∙ asked))
+
+    module _ (n : ℕ) (w : World) (line : List ℕ) (asked : line_asked user line ≡ l) (at : IsAtWorld w before.held old) (new : State) (result : Result Served EndErr)
+        (says_ : Says reply result mid new) where
+      abbrev s : Session
+      s = session_of stage.files user
+
+      pub served_shaped : (if_built command ≡ done command → Does (permitted w s command) s (session_of staged.files user) w reply before.held now.held old mid)
+          → Serves n w s (session_of staged.files user) line (is_ok result) (is_refused result) before.held now.held old new
+      served_shaped does = by (line_shape l command is)
+        where
+          by : Shape l command → Serves n w s (session_of staged.files user) line (is_ok result) (is_refused result) before.held now.held old new
+          by (inl asks_) =
+              says_reply n w s (session_of staged.files user) line command reply before.held now.held old mid new (asked ∙ asks_.0) (does asks_.1) result says_
+          by (inr other) =
+              let is_ = others other.0 other.2
+              in let told : Says (says.Refused other.0) result old new =
+              subst (λ (r : Reply). Says r result old new) is_.reply (subst (λ (x : State). Says reply result x new) is_.host says_)
+              in subst (λ (k : Kept). Serves n w s (session_of staged.files user) line (is_ok result) (is_refused result) before.held k.held old new) (sym is_.store)
+              (subst (λ (u : Staged). Serves n w s (session_of u.files user) line (is_ok result) (is_refused result) before.held before.held old new) (sym is_.stage_same)
+              (says_refusal n w s line other.0 before.held old new (asked ∙ other.1) at result told))
+
+  -- the run ends in it
+  module _ (before now : Kept) (stage staged : Staged) (old new : State) (why : EndErr)
+      (others : (refusal : Refusal) → if_built command ≡ off refusal → IsOther refusal (Err why) before now stage staged old new) where
+    abbrev IsMet : ℕ → Type 0
+    IsMet page = (asked : Command) × (l ≡ Asks asked) × IsDamaged user asked stage before.held new page
+
+    pub damaged_shaped : IsDamageOf (IsDamaged user command stage before.held new) why → IsDamageOf IsMet why
+    damaged_shaped damaged = by (line_shape l command is)
+      where
+        by : Shape l command → IsDamageOf IsMet why
+        by (inl asks_) = damage_wider (IsDamaged user command stage before.held new) IsMet why (λ page met. (command, asks_.0, met)) damaged
+        by (inr other) = subst (IsDamageOf IsMet) (sym (others other.0 other.2).reply) tt
+
+    module _ (n : ℕ) (w : World) (line : List ℕ) (asked : line_asked user line ≡ l) (at : IsAtWorld w before.held old) where
+      abbrev s : Session
+      s = session_of stage.files user
+
+      pub broken_shaped : (if_built command ≡ done command → Breaks (permitted w s command) s w old new)
+          → Serves n w s (session_of staged.files user) line false false before.held now.held old new
+      broken_shaped breaks = by (line_shape l command is)
+        where
+          by : Shape l command → Serves n w s (session_of staged.files user) line false false before.held now.held old new
+          by (inl asks_) = says_broken n w s (session_of staged.files user) line command before.held now.held old new (asked ∙ asks_.0) (breaks asks_.1)
+          by (inr other) =
+              let is_ = others other.0 other.2
+              in subst (λ (x : State). Serves n w s (session_of staged.files user) line false false before.held now.held old x) (sym is_.host)
+              (subst (λ (k : Kept). Serves n w s (session_of staged.files user) line false false before.held k.held old old) (sym is_.store)
+              (subst (λ (u : Staged). Serves n w s (session_of u.files user) line false false before.held before.held old old) (sym is_.stage_same)
+              (line_unserved n w s line before.held old at)))
