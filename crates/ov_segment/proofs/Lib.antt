@@ -4,3 +4,4 @@ pub mod RunLemmas
 pub mod WrittenLemmas
 pub mod TableLemmas
 pub mod SortLemmas
+pub mod SameLemmas

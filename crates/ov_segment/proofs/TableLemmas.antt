@@ -5,7 +5,11 @@ use Rattle.std.proofs.lemmas.List.{take-append-le, drop-append-le, drop_at, take
 use Rattle.std.proofs.lemmas.List.Elements.{All-head, All-tail, All-push}
 use Rattle.ov_value.specs.declared.column.Column.{Column}
 use Rattle.ov_value.specs.declared.value.Value.{Value}
+use Rattle.ov_value.specs.Shapes.{Shape}
+use Rattle.ov_value.specs.Spelling.{IsRow, row_spelling}
 use Rattle.ov_value.specs.Decoding.{row_of, AreRow}
+use Rattle.ov_value.proofs.MarkLemmas.{row_spelled}
+use Rattle.ov_value.proofs.Standing.{row_is, are_row}
 use Rattle.ov_segment.specs.declared.numbered.Record.{Record}
 use Rattle.ov_segment.specs.declared.place.Place.{Place}
 use Rattle.ov_segment.specs.Tables.{piece, record_at, records_at, IsAt, AreAt}
@@ -74,3 +78,14 @@ record_there columns bytes places i p none is lt = get_or-map (record_at columns
 -- and its bytes spell a row
 pub row_there : (columns : List Column) (bytes : List ℕ) (places : List Place) (i : ℕ) (p : Place) → AreAt columns bytes places → p ≡ get_or places i p → i < length places → IsAt columns bytes p
 row_there columns bytes places i p h is lt = subst (IsAt columns bytes) (sym is) (h.at i p lt)
+
+-- what stays in front stands before what came behind it
+pub front_split : (old new : List ℕ) → take (length old) new ≡ old → new ≡ old ++ drop (length old) new
+front_split old new e = sym (take-append-drop (length old) new) ∙ ap (λ (l : List ℕ). l ++ drop (length old) new) e
+
+-- the bytes of a row of a schema
+pub row_spelled_here : (schema : Shape) (row : List Value) → IsRow schema row
+    → AreRow schema.columns (row_spelling row).marked (row_spelling row).bytes × (row ≡ row_of schema.columns (row_spelling row).marked (row_spelling row).bytes)
+row_spelled_here schema row is =
+    let spelled = row_spelled schema (row_spelling row).marked (row_spelling row).bytes row is (refl, refl) in
+    (are_row schema.columns (row_spelling row).marked (row_spelling row).bytes row spelled, row_is schema.columns (row_spelling row).marked (row_spelling row).bytes row spelled)

@@ -1,15 +1,17 @@
 //! Records in one buffer.
 
-ghost use Rattle.std.specs.Prelude.{◌≡◌, ◌<◌, [], length, IfOk, OnOk, OnErr, slice_index_or};
+ghost use Rattle.std.specs.Prelude.{◌≡◌, ◌↔◌, ◌<◌, List, [], length, IsTrue, IfOk, OnOk, OnErr, slice_index_or};
 ghost use Rattle.std.specs.List.Sorted.{IsPermutation, IsNonDecreasingBy, IsStableByKey};
 ghost use Rattle.std.specs.Ordering.{nat_cmp};
-ghost use Rattle.ov_value.specs.Rows.{key_cmp};
+ghost use Rattle.ov_value.specs.declared.column.Column.{Column as ColumnValue};
+ghost use Rattle.ov_value.specs.Rows.{HasKinds, key_cmp};
+ghost use Rattle.ov_value.specs.Spelling.{IsRow};
 ghost use Rattle.ov_value.specs.Decoding.{row_of, AreRow};
 ghost use Rattle.ov_segment.specs.declared.numbered.Record.{Record as RecordValue};
 ghost use Rattle.ov_segment.specs.Tables.{pushed};
 
 use crate::place::Place;
-use ov_value::{Cells, Column, Schema};
+use ov_value::{Cells, Column, Row, Schema, append_row};
 use std::alloc::{AllocError, Global};
 use std::cmp::Ordering;
 use std::marker::Model;
@@ -76,6 +78,32 @@ impl Table {
         Ok(())
     }
 
+    /// Appends a record with this row. Its bytes are made here.
+    pub fn push_row(&mut self, schema: &Schema, rid: u32, row: &Row) -> Result<(), AllocError>
+        requires columns { self.old.columns ≡ schema.now.columns }
+        requires row { IsRow schema.now row.now }
+        ensures ok { OnOk result (self.new ≡ pushed self.old (record { rid = rid; row = row.now })) }
+        ensures err { OnErr result (self.new ≡ self.old) }
+    {
+        let start = self.bytes.len();
+        let marked = match append_row(&mut self.bytes, schema, row) {
+            Ok(marked) => marked,
+            Err(_) => return Err(AllocError),
+        };
+        let end = self.bytes.len();
+        let place = Place {
+            start,
+            end,
+            rid,
+            marked,
+        };
+        match self.places.push(place) {
+            Ok(()) => {}
+            Err(_) => return Err(AllocError),
+        }
+        Ok(())
+    }
+
     /// Appends the record at a position of another table with the same columns. Its bytes are copied, and not read.
     pub fn copy_from(&mut self, other: &Table, i: usize) -> Result<(), AllocError>
         requires columns { self.old.columns ≡ other.now.columns }
@@ -100,7 +128,8 @@ impl Table {
         ensures stable { OnOk result (IsStableByKey (λ r. r.rid) nat_cmp self.old.records self.new.records) }
         ensures err { OnErr result (self.new ≡ self.old) }
     {
-        sort_places(&mut self.places)
+        sort_places(&mut self.places)?;
+        Ok(())
     }
 
     /// The rid of the record at a position, counted from 0.
@@ -124,6 +153,25 @@ impl Table {
         )
     }
 
+    /// Whether two rows, of this table and of another or the same, are equal, where both are of the same columns: a row has
+    /// one spelling, so that their bytes are compared.
+    pub fn same(&self, i: usize, other: &Table, j: usize) -> bool
+        requires first { i < length self.now.records }
+        requires second { j < length other.now.records }
+        ensures { (columns : List ColumnValue) (none : RecordValue)
+            → HasKinds (slice_index_or self.now.records i none).row columns → HasKinds (slice_index_or other.now.records j none).row columns
+            → IsTrue result ↔ ((slice_index_or self.now.records i none).row ≡ (slice_index_or other.now.records j none).row) }
+    {
+        let a = self.places[i];
+        let b = other.places[j];
+        are_same(
+            a.marked,
+            &self.bytes[a.start..a.end],
+            b.marked,
+            &other.bytes[b.start..b.end],
+        )
+    }
+
     /// Compares two rows, of this table and of another or the same, by their keys, as [`Schema::cmp_key`] does.
     pub fn cmp_key(&self, schema: &Schema, i: usize, other: &Table, j: usize) -> Ordering
         requires first { i < length self.now.records }
@@ -134,6 +182,12 @@ impl Table {
         let b = other.cells(j);
         cmp_cells(schema, &a, &b)
     }
+}
+
+fn are_same(a_marked: bool, a: &[u8], b_marked: bool, b: &[u8]) -> bool
+    ensures { IsTrue result ↔ ((a_marked ≡ b_marked) × (a.now ≡ b.now)) }
+{
+    a_marked == b_marked && a == b
 }
 
 fn sort_places(places: &mut Vec<Place>) -> Result<(), AllocError>
