@@ -1,5 +1,5 @@
 -- What stands in front of a segment's bytes, where it lies.
-use Rattle.std.specs.Prelude.{◌≡◌, ◌+◌, ◌≤◌, ℕ, Bool, List, length, drop}
+use Rattle.std.specs.Prelude.{◌+◌, ◌≤◌, ℕ, Bool, List, length, drop}
 use Rattle.ov_value.specs.Shapes.{Shape}
 use Rattle.ov_value.specs.Decoding.{row_of, AreRow}
 use Rattle.ov_segment.specs.declared.keeping.Front.{Front}

@@ -3,10 +3,9 @@
 --     records_at columns bytes places      those at all places, in order
 --     AreAt columns bytes places      the bytes at each place spell a row of the columns, of which there are at most 64
 --     Content      what contracts see of a table: its columns and its records
-use Rattle.std.specs.Prelude.{◌≡◌, ◌≤◌, ◌+◌, ◌-◌, ℕ, Bool, List, [], ◌∷◌, ◌++◌, length, map, take, drop, slice_index_or}
+use Rattle.std.specs.Prelude.{◌≤◌, ◌-◌, ℕ, List, [], ◌∷◌, ◌++◌, length, map, take, drop}
 use Rattle.std.specs.List.{All}
 use Rattle.ov_value.specs.declared.column.Column.{Column}
-use Rattle.ov_value.specs.declared.value.Value.{Value}
 use Rattle.ov_value.specs.Decoding.{row_of, AreRow}
 use Rattle.ov_segment.specs.declared.numbered.Record.{Record}
 use Rattle.ov_segment.specs.declared.place.Place.{Place}

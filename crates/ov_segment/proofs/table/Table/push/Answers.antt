@@ -1,8 +1,7 @@
-use Rattle.std.proofs.Common.{◌≡◌, ◌∷◌, [], ◌++◌, ℕ, List, length, ap, sym, subst, ◌∙◌, arith}
+use Rattle.std.proofs.Common.{◌≡◌, ◌∷◌, [], ◌++◌, List, ap, sym, subst, ◌∙◌, arith}
 use Rattle.ov_value.specs.declared.column.Column.{Column}
 use Rattle.ov_value.specs.Decoding.{row_of, AreRow}
 use Rattle.ov_segment.specs.declared.numbered.Record.{Record}
-use Rattle.ov_segment.specs.declared.place.Place.{Place}
 use Rattle.ov_segment.specs.Tables.{Content, records_at, pushed}
 use Rattle.ov_segment.proofs.TableLemmas.{Added, are_more, records_more, added_at}
 use Rattle.ov_segment.proofs.table.Table.push.Goals.{In-Ok}

@@ -1,10 +1,8 @@
 use Rattle.std.proofs.Common.{◌≡◌, ◌∷◌, [], ◌++◌, ℕ, List, length, drop, ap, sym, subst, ◌∙◌, arith, length-append}
 use Rattle.ov_value.specs.declared.column.Column.{Column}
 use Rattle.ov_value.specs.declared.value.Value.{Value}
-use Rattle.ov_value.specs.Spelling.{IsRow, row_spelling}
+use Rattle.ov_value.specs.Spelling.{row_spelling}
 use Rattle.ov_value.specs.Decoding.{row_of, AreRow}
-use Rattle.ov_segment.specs.declared.numbered.Record.{Record}
-use Rattle.ov_segment.specs.declared.place.Place.{Place}
 use Rattle.ov_segment.specs.Tables.{Content, records_at, AreAt, pushed}
 use Rattle.ov_segment.proofs.TableLemmas.{Added, are_more, records_more, added_at, front_split, row_spelled_here}
 use Rattle.ov_segment.proofs.table.Table.push_row.Goals.{In-Ok-push}

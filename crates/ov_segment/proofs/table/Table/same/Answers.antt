@@ -1,4 +1,4 @@
-use Rattle.std.proofs.Common.{◌≡◌, ◌<◌, ℕ, List, length, get_or, IsTrue, sym, subst}
+use Rattle.std.proofs.Common.{◌≡◌, ◌<◌, length, get_or, IsTrue, sym, subst}
 use Rattle.ov_value.specs.Rows.{HasKinds}
 use Rattle.ov_segment.specs.Tables.{Content, records_at}
 use Rattle.ov_segment.proofs.SameLemmas.{same_there}
