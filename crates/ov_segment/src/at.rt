@@ -9,13 +9,13 @@ use ov_value::{Schema, read_row_slice};
 use std::alloc::{AllocError, Global};
 
 // The bit of a record's length that says that the row's bytes begin with marks.
-const MARK: u32 = 0x8000_0000;
+pub(crate) const MARK: u32 = 0x8000_0000;
 
 // The greatest record id.
-const GREATEST: u32 = ov_member::LAST_RID;
+pub(crate) const GREATEST: u32 = ov_member::LAST_RID;
 
 // The most bytes of a row.
-const LONGEST: u32 = ov_value::LONGEST_ROW as u32;
+pub(crate) const LONGEST: u32 = ov_value::LONGEST_ROW as u32;
 
 /// The record at the front of the bytes, whose rid is above the last one, and how many bytes it takes.
 pub(crate) fn record_at(
@@ -45,14 +45,14 @@ pub(crate) fn record_at(
     }
 }
 
-fn rid_of(bytes: &[u8]) -> u32
+pub(crate) fn rid_of(bytes: &[u8]) -> u32
     requires { 8 ≤ length bytes.now }
     ensures { result ≡ rid_at bytes.now }
 {
     u32::from_be_bytes([bytes[0], bytes[1], bytes[2], bytes[3]])
 }
 
-fn number_of(bytes: &[u8]) -> u32
+pub(crate) fn number_of(bytes: &[u8]) -> u32
     requires { 8 ≤ length bytes.now }
     ensures { result ≡ number_at bytes.now }
 {

@@ -10,18 +10,25 @@
 #![tactic(auto)]
 
 mod at;
+mod keeping;
 mod laws;
 mod next;
 mod numbered;
+mod place;
 mod reader;
 mod reading;
+mod record_table;
 mod records;
+mod table;
 mod writing;
 
+pub use keeping::Kept;
 pub use laws::{any_cuts, bad_stays, one_answer};
 pub use next::Next;
 pub use numbered::Record;
 pub use reader::SegmentReader;
 pub use reading::read_segment;
+pub use record_table::RecordTable;
 pub use records::Records;
+pub use table::Table;
 pub use writing::segment_bytes;

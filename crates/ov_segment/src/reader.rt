@@ -2,9 +2,13 @@
 
 ghost use Rattle.std.specs.Prelude.{◌≡◌, ◌-◌, ◌+◌, ◌++◌, ◌≤◌, if◌then◌else◌, IfOk, OnErr, length, min, take, drop, vec_len, vec_capacity};
 ghost use Rattle.ov_segment.specs.Reading.{fresh, after_feed, Answers};
+ghost use Rattle.ov_segment.specs.Keeping.{Keeps};
 
 use crate::at::record_at;
+use crate::keeping::{Front, Kept, front_at, put};
 use crate::next::Next;
+use crate::table::Table;
+use ov_member::Ahead;
 use ov_value::Schema;
 use std::alloc::{AllocError, Global};
 use std::marker::Model;
@@ -83,6 +87,42 @@ impl SegmentReader {
             Next::Bad => self.over = true,
         }
         Ok(next)
+    }
+
+    /// Passes the next record, and appends it to the table where `ahead` says that its rid is wanted; `ahead` then is
+    /// what is ahead from this rid on. It takes memory in the table alone. After want of memory the reader and the table
+    /// are as before.
+    pub fn keep_next(
+        &mut self,
+        schema: &Schema,
+        ahead: &mut Ahead<'_>,
+        table: &mut Table,
+    ) -> Result<Kept, AllocError>
+        requires { table.old.columns ≡ schema.now.columns }
+        ensures kept { IfOk result (λ kept. Keeps schema.now self.old (record { inside = ahead.old.inside; edges = ahead.old.edges.now }) table.old
+            kept self.new (record { inside = ahead.new.inside; edges = ahead.new.edges.now }) table.new) }
+        ensures reader { OnErr result (self.new ≡ self.old) }
+        ensures table { OnErr result (table.new ≡ table.old) }
+    {
+        if self.over {
+            return Ok(Kept::Bad);
+        }
+        match front_at(schema, self.last, &self.buffer[self.start..]) {
+            Front::More => Ok(Kept::More),
+            Front::Bad => {
+                self.over = true;
+                Ok(Kept::Bad)
+            }
+            Front::Record(rid, marked, row) => {
+                let next = ahead.at(rid);
+                put(table, next.inside, rid, marked, row)?;
+                let len = row.len();
+                *ahead = next;
+                self.last = rid;
+                self.start += 8 + len;
+                Ok(Kept::Record(rid))
+            }
+        }
     }
 
     /// The number of bytes held.

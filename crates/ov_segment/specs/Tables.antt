@@ -1,0 +1,39 @@
+-- Records whose rows stay bytes: a record is a place in a buffer.
+--     record_at columns bytes p      the record at a place
+--     records_at columns bytes places      those at all places, in order
+--     AreAt columns bytes places      the bytes at each place spell a row of the columns, of which there are at most 64
+--     Content      what contracts see of a table: its columns and its records
+use Rattle.std.specs.Prelude.{◌≤◌, ◌-◌, ℕ, List, [], ◌∷◌, ◌++◌, length, map, take, drop}
+use Rattle.std.specs.List.{All}
+use Rattle.ov_value.specs.declared.column.Column.{Column}
+use Rattle.ov_value.specs.Decoding.{row_of, AreRow}
+use Rattle.ov_segment.specs.declared.numbered.Record.{Record}
+use Rattle.ov_segment.specs.declared.place.Place.{Place}
+
+-- the bytes at a place
+abbrev pub piece : List ℕ → Place → List ℕ
+piece bytes p = take (p.end - p.start) (drop p.start bytes)
+
+abbrev pub record_at : List Column → List ℕ → Place → Record
+record_at columns bytes p = record { rid = p.rid; row = row_of columns p.marked (piece bytes p) }
+
+abbrev pub records_at : List Column → List ℕ → List Place → List Record
+records_at columns bytes places = map (record_at columns bytes) places
+
+pub record IsAt (columns : List Column) (bytes : List ℕ) (p : Place) : Type 0 where
+  pub order : p.start ≤ p.end
+  pub within : p.end ≤ length bytes
+  pub spelled : AreRow columns p.marked (piece bytes p)
+
+pub record AreAt (columns : List Column) (bytes : List ℕ) (places : List Place) : Type 0 where
+  pub few : length columns ≤ 64
+  pub at : All (IsAt columns bytes) places
+
+-- the columns of all its rows, and the records in order
+pub record Content : Type 0 where
+  pub columns : List Column
+  pub records : List Record
+
+-- with one more record at the end
+abbrev pub pushed : Content → Record → Content
+pushed table r = record table { records = table.records ++ r ∷ [] }
