@@ -20,7 +20,7 @@ ghost use Rattle.ov_typing.specs.Refusing.{refusal_of};
 ghost use Rattle.ov_query.specs.Answering.{HasSchema};
 ghost use Rattle.ov_query.specs.Queries.{IsDamagedRead, IsOfNoFile, IsQueryDamaged, IsReplyBy, IsUnanswered, IsUnread, bytes_read, query_fetch, query_off, set_off, taken, vids_read};
 
-use crate::permitting::{Permitted, name_of, permitted};
+use crate::permitting::{Permitted, asked_by, name_of};
 use crate::scanning::{refused_version, scan_of};
 use ov_csv::write_answer;
 use ov_fetch::Scan;
@@ -168,7 +168,7 @@ pub fn answer_to<H: Host>(
         → IfOk result (λ reply. run_deed w s (taken (asked_of text.now)) ≡ tells s reply) }
     ensures undamaged { (w : World) → IsAtWorld w store.now.held (H.state host.old) → IfErr result IsUndamaged }
 {
-    match permitted(alloc, user, text)? {
+    match asked_by(alloc, user, text)? {
         Permitted::Query(query) => reply_to(alloc, store, host, &query),
         Permitted::Refused(refusal) => Ok(Reply::Refused(refusal)),
     }
