@@ -1,5 +1,5 @@
 -- What a dataset's numbers refuse of a query is what the World refuses.
-use Rattle.std.proofs.Common.{◌≡◌, ◌∙◌, ℕ, List, [], ◌∷◌, ◌++◌, Some, None, length, refl, sym, ap, subst}
+use Rattle.std.proofs.Common.{◌≡◌, ◌∙◌, ℕ, List, [], ◌∷◌, ◌++◌, Some, None, length, refl, sym, ap}
 use Rattle.std.specs.Prelude.{Option, Result, Ok, Err, IfOk, IsOk}
 use Rattle.std.specs.Option.{option_or}
 use Rattle.std.proofs.lemmas.Option.{same_Some}

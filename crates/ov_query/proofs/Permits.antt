@@ -1,12 +1,12 @@
 -- A query that its user may ask: what is said of it is said of its text.
-use Rattle.std.proofs.Common.{◌≡◌, ◌∙◌, ℕ, List, [], ◌∷◌, None, sym, ap, subst}
+use Rattle.std.proofs.Common.{◌≡◌, ◌∙◌, ℕ, List, [], ◌∷◌, sym, ap, subst}
 use Rattle.std.specs.Prelude.{IfOk, Option, Result, Ok, Err}
 use Rattle.std.specs.Option.{option_or}
 use Rattle.ov_host.specs.declared.area.Extent.{Extent}
 use Rattle.ov_catalog.specs.Numbers.{Numbers}
 use Rattle.ov_model.specs.Act.{Session, tells, unless}
 use Rattle.ov_model.specs.Asking.{name_read, query_by, run_deed}
-use Rattle.ov_model.specs.QueryTexts.{Asked, AsksQuery}
+use Rattle.ov_model.specs.QueryTexts.{Asked}
 use Rattle.ov_model.specs.Users.{permit_names}
 use Rattle.ov_model.specs.World.{World, cvd_in, set_named}
 use Rattle.ov_model.specs.declared.query.Query.{Query}
@@ -15,7 +15,7 @@ use Rattle.ov_model.specs.declared.reply.Reply.{Reply}
 use Rattle.ov_store.specs.Scanning.{set_in}
 use Rattle.ov_store.specs.declared.errors.StoreErr.{StoreErr}
 use Rattle.ov_query.specs.Answering.{IsPermittedQuery}
-use Rattle.ov_query.specs.Queries.{Set, asked_off, asked_set, asked_vids, numbers_off, set_off, vids_read}
+use Rattle.ov_query.specs.Queries.{Set, asked_off, asked_set, asked_vids, set_off, vids_read}
 
 module _ (n : Numbers Extent Extent) (user : List ℕ) (asked : Asked) (query : Query) (it : IsPermittedQuery user asked query) where
   abbrev set : Option Set

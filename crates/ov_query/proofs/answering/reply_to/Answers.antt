@@ -9,7 +9,7 @@ use Rattle.ov_model.specs.declared.query.Query.{Query}
 use Rattle.ov_model.specs.declared.refusal.Refusal.{Refusal}
 use Rattle.ov_store.specs.Scanning.{set_in}
 use Rattle.ov_typing.specs.Refusing.{refusal_of}
-use Rattle.ov_query.specs.Queries.{IsDamagedRead, IsReplyBy, IsUnread, bytes_read, set_off, vids_read}
+use Rattle.ov_query.specs.Queries.{IsDamagedRead, IsReplyBy, IsUnread, bytes_read, vids_read}
 use Rattle.ov_query.proofs.Answered.{allowed_same, by_same, found_in, if_some, never_off, refused_by, refuses_kinds, refuses_nothing, refuses_version, version_not_70, whole_read}
 use Rattle.ov_query.proofs.Numbering.{answered_with, missing_so, named_so, refuses_so}
 use Rattle.ov_query.proofs.answering.reply_to.Goals as goal
