@@ -1,19 +1,18 @@
 -- A command is of a shape that is built, or a query that is refused for its shape; and what a line that asks for it comes to.
 use Rattle.std.proofs.Common.{◌≡◌, ◌∙◌, ◌⊎◌, inl, inr, ◌+◌, ℕ, Bool, true, false, List, Some, None, refl, sym, ap, subst, arith}
-use Rattle.std.specs.Prelude.{◌≤◌, IfErr, IfOk, MatchResult, OnOk, Option, Ok, Err, Result, if◌then◌else◌, is_ok, is_some}
+use Rattle.std.specs.Prelude.{◌≤◌, IfOk, OnOk, Option, Ok, Err, Result, if◌then◌else◌, is_ok}
 use Rattle.ov_host.specs.declared.area.Extent.{Extent}
 use Rattle.ov_host.specs.Host.{State}
 use Rattle.ov_host.specs.Stage.{Staged}
 use Rattle.ov_catalog.specs.Numbers.{Numbers}
 use Rattle.ov_core.specs.AtWorld.{IsAtWorld}
-use Rattle.ov_core.specs.Held.{Held}
 use Rattle.law_runs.specs.Serving.{Breaks, Does, Serves, session_of}
 use Rattle.ov_model.proofs.Shaped.{line_shaped}
 use Rattle.ov_model.specs.Act.{Session}
 use Rattle.ov_model.specs.BuiltShapes.{if_built, is_built_shape, served_line}
 use Rattle.ov_model.specs.Deed.{permitted}
 use Rattle.ov_model.specs.Forms.{built_forms}
-use Rattle.ov_model.specs.Line.{Line, Asks, Comment, Refused, answer, line_of}
+use Rattle.ov_model.specs.Line.{Line, Asks, Refused, answer, line_of}
 use Rattle.ov_model.specs.QueryTexts.{Asked, NoQuery, asked_of}
 use Rattle.ov_model.specs.Users.{line_by, permit, unless_denied}
 use Rattle.ov_model.specs.World.{World}
@@ -33,7 +32,6 @@ use Rattle.ov_session.specs.Bounds.{IsReading, IsReadingCommand, command_fetch, 
 use Rattle.ov_session.specs.Commands.{IsDamageOf, IsDamaged, IsOther, IsSaid, MeetsDamage, is_comment_in, is_comment_of, is_refused}
 use Rattle.ov_session.specs.Replying.{IsReplyTo}
 use Rattle.ov_session.specs.declared.errors.EndErr.{EndErr}
-use Rattle.ov_session.specs.declared.errors.EndErr.TheVariants as ending
 use Rattle.ov_session.specs.declared.serving.Served.{Served}
 use Rattle.ov_store.specs.Kept.{Kept}
 

@@ -1,4 +1,4 @@
-use Rattle.std.proofs.Common.{◌≡◌, ◌∙◌, List, ℕ, sym, ap}
+use Rattle.std.proofs.Common.{◌∙◌, List, ℕ, sym, ap}
 use Rattle.ov_cmd.specs.Errors.{refusal_of}
 use Rattle.ov_cmd.specs.Said.{said}
 use Rattle.ov_model.specs.Line.{Asks, Refused}

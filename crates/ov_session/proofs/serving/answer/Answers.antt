@@ -18,14 +18,12 @@ use Rattle.ov_store.specs.Committing.{parents_off_in}
 use Rattle.ov_store.specs.Scanning.{scan_off, set_in}
 use Rattle.ov_session.proofs.Numbering.{journal_looked}
 use Rattle.ov_session.specs.Commands.{IsScanDamaged, MeetsDamage}
-use Rattle.ov_model.specs.declared.command.Command.TheVariants as asks
 use Rattle.ov_model.specs.BuiltShapes.{if_built}
-use Rattle.ov_model.specs.declared.refusal.Refusal.{Refusal}
-use Rattle.ov_query.specs.Queries.{query_fetch, query_off}
+use Rattle.ov_query.specs.Queries.{query_off}
 use Rattle.ov_session.proofs.Querying.{query_acts, query_other}
 use Rattle.ov_session.proofs.Shaping.{done, off, ok_err}
 use Rattle.ov_session.specs.Commands.{IsCommitDamaged, IsDamageOf, IsDamaged}
-use Rattle.std.specs.Prelude.{Err, IfErr, IfOk, OnOk, Option}
+use Rattle.std.specs.Prelude.{IfErr, OnOk}
 use Rattle.ov_session.proofs.serving.answer.Goals as goal
 
 pub returns-in-Init-clause-acts : goal.returns-in-Init-clause-acts
