@@ -4,3 +4,4 @@ pub mod Taken
 pub mod Permits
 pub mod Numbering
 pub mod Scans
+pub mod Answered

@@ -1,12 +1,12 @@
 -- What a dataset's numbers refuse of a query is what the World refuses.
-use Rattle.std.proofs.Common.{◌≡◌, ◌∙◌, ℕ, List, [], ◌∷◌, ◌++◌, Some, None, length, refl, sym, ap, subst}
-use Rattle.std.specs.Prelude.{Option, Result, Ok, Err, IsOk}
+use Rattle.std.proofs.Common.{◌≡◌, ◌∙◌, ℕ, List, [], ◌∷◌, ◌++◌, Some, None, length, refl, sym, ap}
+use Rattle.std.specs.Prelude.{Option, Result, Ok, Err, IfOk, IsOk}
 use Rattle.std.specs.Option.{option_or}
 use Rattle.std.proofs.lemmas.Option.{same_Some}
 use Rattle.ov_host.specs.Host.{State}
 use Rattle.ov_core.specs.AtWorld.{IsAtWorld}
 use Rattle.ov_core.specs.Held.{Held}
-use Rattle.ov_model.specs.Act.{Deed, Session, refuses, unless}
+use Rattle.ov_model.specs.Act.{Deed, Session, refuses, tells, unless}
 use Rattle.ov_model.specs.Asking.{answered, guard_lineages, lineages_of, listed_refusal, missing_version, name_read, query_by, query_refusal, source_lineages}
 use Rattle.ov_model.specs.Book.{Cvd}
 use Rattle.ov_model.specs.Kinds.{kinds}
@@ -14,7 +14,9 @@ use Rattle.ov_model.specs.World.{Dataset, World, cvd_in, set_named}
 use Rattle.ov_model.specs.declared.query.Query.{Query}
 use Rattle.ov_model.specs.declared.refusal.Refusal.{Refusal}
 use Rattle.ov_model.specs.declared.refusal.Refusal.TheVariants as no
+use Rattle.ov_model.specs.declared.reply.Reply.{Reply}
 use Rattle.ov_store.specs.Scanning.{set_in}
+use Rattle.ov_store.specs.declared.errors.StoreErr.{StoreErr}
 use Rattle.ov_store.proofs.Deciding.{counts, none_named, world_named}
 use Rattle.ov_value.specs.declared.column.Kind.{Kind}
 use Rattle.ov_query.specs.Queries.{Set, refusal_in, set_off}
@@ -112,6 +114,11 @@ module _ (w : World) (held : Held) (t : State) (at : IsAtWorld w held t) (s : Se
           let d = world_named w held t at (name_read query.source) set found
           in of_set set d.0 found d.1 ∙ refused_by refusal d.0.cvd (query_refusal (length set.versions) query) (kinds query set.schema) is
 
+  pub missing_so : (cvd : List ℕ) → cvd ≡ name_read query.source → set_in held.numbers (name_read query.source) ≡ None → deed ≡ refuses s (no.NoCvd cvd)
+  missing_so cvd named none =
+      ap (λ (o : Option Dataset). query_by s query (cvd_in o)) (none_named w held t at (name_read query.source) none)
+      ∙ ap (λ (name : List ℕ). refuses s (no.NoCvd name)) (sym named)
+
   -- what they allow is answered
   pub answers_so : (d : Dataset) → set_off query (set_in held.numbers (name_read query.source)) ≡ None → set_named w (name_read query.source) ≡ Some d
       → deed ≡ answered s query d.cvd (kinds query d.cvd.schema)
@@ -135,3 +142,9 @@ module _ (w : World) (held : Held) (t : State) (at : IsAtWorld w held t) (s : Se
       by : (o : Option Set) → set_in held.numbers (name_read query.source) ≡ o → set_off query o ≡ None → (d : Dataset) × (set_named w (name_read query.source) ≡ Some d)
       by None missing is = absurd cc
       by (Some set) found is = world_named w held t at (name_read query.source) set found
+
+  pub answered_with : (result : Result Reply StoreErr) (d : Dataset) → set_off query (set_in held.numbers (name_read query.source)) ≡ None
+      → set_named w (name_read query.source) ≡ Some d → IfOk result (λ reply. answered s query d.cvd (kinds query d.cvd.schema) ≡ tells s reply)
+      → IfOk result (λ reply. deed ≡ tells s reply)
+  answered_with (Ok reply) d none named is = answers_so d none named ∙ is
+  answered_with (Err e) d none named is = tt

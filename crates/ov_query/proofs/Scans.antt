@@ -1,5 +1,5 @@
 -- What the store's calls say of the versions that a query names.
-use Rattle.std.proofs.Common.{◌≡◌, ◌∙◌, ◌+◌, ◌==◌, ◌||◌, ◌≤◌, ℕ, zero, Bool, true, false, List, [], ◌∷◌, Some, None, length, refl, sym, ap, subst, arith}
+use Rattle.std.proofs.Common.{◌≡◌, ◌∙◌, ◌==◌, ◌||◌, ℕ, Bool, true, false, List, [], ◌∷◌, Some, None, length, refl, sym, ap, subst, arith}
 use Rattle.std.specs.Prelude.{Option, Result, Ok, Err, IfOk, IfErr, MatchResult, map, nat_lt, if◌then◌else◌}
 use Rattle.std.proofs.lemmas.Option.{same_Some}
 use Rattle.ov_host.specs.Host.{State, silent}
@@ -11,9 +11,8 @@ use Rattle.ov_model.specs.World.{is_one}
 use Rattle.ov_model.specs.declared.query.Src.{Src}
 use Rattle.ov_model.specs.declared.query.Src.TheVariants as source
 use Rattle.ov_model.specs.declared.refusal.Refusal.{Refusal}
-use Rattle.ov_model.specs.declared.refusal.Refusal.TheVariants as no
 use Rattle.ov_store.specs.Refusals.{refused, vids_off}
-use Rattle.ov_store.specs.Scanning.{IsDamagedIn, IsUndamaged, IsUnscanned, scan_off, set_in, versions_off}
+use Rattle.ov_store.specs.Scanning.{IsUndamaged, IsUnscanned, scan_off, set_in, versions_off}
 use Rattle.ov_store.specs.declared.errors.StoreErr.{StoreErr}
 use Rattle.ov_store.specs.declared.errors.StoreErr.TheVariants as why
 use Rattle.ov_store.proofs.Refusing.{vids_refused}

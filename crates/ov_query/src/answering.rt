@@ -20,7 +20,7 @@ ghost use Rattle.ov_typing.specs.Refusing.{refusal_of};
 ghost use Rattle.ov_query.specs.Answering.{HasSchema};
 ghost use Rattle.ov_query.specs.Queries.{IsDamagedRead, IsOfNoFile, IsQueryDamaged, IsReplyBy, IsUnanswered, IsUnread, bytes_read, query_fetch, query_off, set_off, taken, vids_read};
 
-use crate::permitting::{Permitted, name_of, permitted};
+use crate::permitting::{Permitted, asked_by, name_of};
 use crate::scanning::{refused_version, scan_of};
 use ov_csv::write_answer;
 use ov_fetch::Scan;
@@ -154,21 +154,21 @@ pub fn answer_to<H: Host>(
     ensures unread { (refusal : RefusalValue) → query_off store.now.held.numbers user.now text.now ≡ Some refusal
         → H.state host.new ≡ H.state host.old }
 
-        // A refusal is the first one, and an answer comes exactly where there is none; it is never 70.
+    // A refusal is the first one, and an answer comes exactly where there is none; it is never 70.
     ensures reply { IfOk result (IsReplyBy (query_off store.now.held.numbers user.now text.now)) }
     ensures seen { IfOk result IsOfNoFile }
 
-        // Why there is no reply; and an answer excludes what would be damaged.
+    // Why there is no reply; and an answer excludes what would be damaged.
     ensures why { IfErr result (IsUnanswered store.now.held.numbers user.now text.now (H.state host.old) (H.state host.new)) }
     ensures whole { (page : ℕ) → (H.state host.old).tells ≡ true
         → OnOk result (IsQueryDamaged store.now.held.numbers user.now text.now (H.state host.old) page → ⊥) }
 
-        // At a World nothing is damaged, and the reply is the one that the text means there.
+    // At a World nothing is damaged, and the reply is the one that the text means there.
     ensures world { (w : World) (s : Session) → IsAtWorld w store.now.held (H.state host.old) → s.user ≡ user.now
         → IfOk result (λ reply. run_deed w s (taken (asked_of text.now)) ≡ tells s reply) }
     ensures undamaged { (w : World) → IsAtWorld w store.now.held (H.state host.old) → IfErr result IsUndamaged }
 {
-    match permitted(alloc, user, text)? {
+    match asked_by(alloc, user, text)? {
         Permitted::Query(query) => reply_to(alloc, store, host, &query),
         Permitted::Refused(refusal) => Ok(Reply::Refused(refusal)),
     }

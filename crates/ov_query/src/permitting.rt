@@ -35,7 +35,7 @@ pub(crate) fn name_of(source: &Src) -> &Txt
 }
 
 /// The query that a user's text is, or its refusal: 40, 41, and then 71.
-pub(crate) fn permitted(alloc: Global, user: &str, text: &str) -> Result<Permitted, AllocError>
+pub(crate) fn asked_by(alloc: Global, user: &str, text: &str) -> Result<Permitted, AllocError>
     requires { length text.now ≤ 65536 }
     ensures { IfOk result (IsPermittedBy user.now (taken (asked_of text.now))) }
 {

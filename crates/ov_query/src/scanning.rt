@@ -47,11 +47,7 @@ pub(crate) fn refused_version(store: &Store, source: &Src) -> Result<Option<Refu
 }
 
 /// The rows of the versions that a source names, which are there: it lists them, or has all of the dataset.
-pub(crate) fn scan_of<H: Host>(
-    store: &Store,
-    host: &mut H,
-    source: &Src,
-) -> Result<Scan, StoreErr>
+pub(crate) fn scan_of<H: Host>(store: &Store, host: &mut H, source: &Src) -> Result<Scan, StoreErr>
     requires usable { store.now.usable ≡ true }
     requires plain { source_lineages source.now ≡ [] }
     requires there { IsThere source.now (set_in store.now.held.numbers (name_read source.now)) }

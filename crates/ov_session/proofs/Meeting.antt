@@ -1,5 +1,5 @@
 -- A checkout that is answered met no damage.
-use Rattle.std.proofs.Common.{◌≡◌, ◌∙◌, ℕ, List, Some, None, true, sym, ap, subst}
+use Rattle.std.proofs.Common.{◌≡◌, ◌∙◌, ℕ, List, Some, true, sym, ap, subst}
 use Rattle.std.specs.Prelude.{IfOk, OnOk, Option, Ok, Err, Result}
 use Rattle.ov_host.specs.Host.{State}
 use Rattle.ov_core.specs.Held.{Held}

@@ -1,6 +1,6 @@
 -- Why a query has no reply, and what its reply is to the session.
-use Rattle.std.proofs.Common.{◌≡◌, ◌∙◌, ◌⊎◌, inl, inr, ◌+◌, ℕ, true, List, Some, None, refl, sym, ap, subst}
-use Rattle.std.specs.Prelude.{◌≤◌, IfErr, IfOk, IsErrOf, MatchResult, OnOk, Option, Ok, Err, Result, is_some}
+use Rattle.std.proofs.Common.{◌≡◌, ◌∙◌, ◌⊎◌, inl, inr, ℕ, true, List, Some, None, refl, sym, ap, subst}
+use Rattle.std.specs.Prelude.{IfErr, IfOk, MatchResult, Option, Ok, Err, Result, is_some}
 use Rattle.ov_host.specs.declared.area.Area.{Area}
 use Rattle.ov_host.specs.declared.area.Area.TheVariants.{Pages}
 use Rattle.ov_host.specs.Host.{Rose, State}
@@ -13,32 +13,25 @@ use Rattle.ov_model.specs.Act.{Session, tells}
 use Rattle.ov_model.specs.Asking.{run_deed}
 use Rattle.ov_model.specs.BuiltShapes.{if_built}
 use Rattle.ov_model.specs.Deed.{permitted}
-use Rattle.ov_model.specs.QueryTexts.{Asked, asked_of}
+use Rattle.ov_model.specs.QueryTexts.{asked_of}
 use Rattle.ov_model.specs.World.{World}
 use Rattle.ov_model.specs.declared.command.Command.TheVariants as asks
 use Rattle.ov_model.specs.declared.refusal.Refusal.{Refusal}
 use Rattle.ov_model.specs.declared.reply.Reply.{Reply}
 use Rattle.ov_model.specs.declared.reply.Reply.TheVariants as says
-use Rattle.ov_query.specs.Queries.{IsDamagedRead, IsQueryDamaged, IsReplyBy, IsUnread, Set, query_off, taken}
+use Rattle.ov_query.specs.Queries.{IsDamagedRead, IsReplyBy, IsUnread, Set, query_off, taken}
 use Rattle.ov_session.proofs.Dealing.{scanned_in}
 use Rattle.ov_session.proofs.Shaping.{done, off, taken_built, taken_other}
-use Rattle.ov_session.specs.Commands.{Acts, IsDamageOf, IsNoDamage, IsOther}
+use Rattle.ov_session.specs.Commands.{Acts, IsDamageOf, IsOther}
 use Rattle.ov_session.specs.Errors.{end_of}
 use Rattle.ov_session.specs.declared.errors.EndErr.{EndErr}
 use Rattle.ov_session.specs.declared.errors.EndErr.TheVariants as ending
 use Rattle.ov_store.specs.Kept.{Kept}
-use Rattle.ov_store.specs.Scanning.{IsUndamaged}
 use Rattle.ov_store.specs.declared.errors.StoreErr.{StoreErr}
 use Rattle.ov_store.specs.declared.errors.StoreErr.TheVariants as why
 
 the_end : (a b : EndErr) → Some a ≡ Some b → b ≡ a
 the_end a b e = cc
-
-none_some : (refusal : Refusal) → None ≡ Some refusal → ⊥
-none_some refusal e = cc
-
-abbrev failed : EndErr → Result Reply EndErr
-failed e = Err e
 
 -- ---- why there is no reply
 
@@ -87,16 +80,6 @@ module _ (o : Option Refusal) (set : Option Set) (vids : List ℕ) (old new : St
   query_cause why.NoNumbers end is ends = absurd is
   query_cause (why.FormatOne row) end is ends = absurd is
 
-  pub rose_by : (e : EndErr) → Cause e → failed e ≡ failed ending.Host → Rose old.faults new.faults
-  rose_by e (inl host) is = host.2
-  rose_by e (inr (inl memory)) is = let clash : failed ending.Memory ≡ failed ending.Host = sym (ap failed memory) ∙ is in absurd cc
-  rose_by e (inr (inr damaged)) is = let clash : failed (ending.Damaged damaged.0 damaged.1) ≡ failed ending.Host = sym (ap failed damaged.2) ∙ is in absurd cc
-
-  pub no_stage : (e : EndErr) → Cause e → failed e ≡ failed ending.Stage → ⊥
-  no_stage e (inl host) is = let clash : failed ending.Host ≡ failed ending.Stage = sym (ap failed host.0) ∙ is in absurd cc
-  no_stage e (inr (inl memory)) is = let clash : failed ending.Memory ≡ failed ending.Stage = sym (ap failed memory) ∙ is in absurd cc
-  no_stage e (inr (inr damaged)) is = let clash : failed (ending.Damaged damaged.0 damaged.1) ≡ failed ending.Stage = sym (ap failed damaged.2) ∙ is in absurd cc
-
   abbrev IsDamage : EndErr → Type 0
   IsDamage e = IsDamageOf (IsDamagedRead o set vids new) e
 
@@ -105,12 +88,6 @@ module _ (o : Option Refusal) (set : Option Set) (vids : List ℕ) (old new : St
   damaged_by e looked (inr (inl memory)) = subst IsDamage (sym memory) tt
   damaged_by e looked (inr (inr damaged)) =
       subst IsDamage (sym damaged.2) (damaged.3.0, (damaged.3.1.0, scanned_in set vids damaged.1 old new looked damaged.3.1.1))
-
-  -- what is refused meets want of memory at most
-  pub memory_by : (refusal : Refusal) (e : EndErr) → o ≡ Some refusal → Cause e → e ≡ ending.Memory
-  memory_by refusal e is (inl host) = absurd (none_some refusal (sym host.1 ∙ is))
-  memory_by refusal e is (inr (inl memory)) = memory
-  memory_by refusal e is (inr (inr damaged)) = absurd (none_some refusal (sym damaged.3.1.0 ∙ is))
 
 -- ---- what there is a reply of
 

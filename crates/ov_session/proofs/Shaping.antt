@@ -1,19 +1,18 @@
 -- A command is of a shape that is built, or a query that is refused for its shape; and what a line that asks for it comes to.
-use Rattle.std.proofs.Common.{◌≡◌, ◌∙◌, ◌⊎◌, inl, inr, ◌+◌, ℕ, Bool, true, false, List, Some, None, refl, sym, ap, subst}
-use Rattle.std.specs.Prelude.{◌≤◌, IfErr, IfOk, MatchResult, OnOk, Option, Ok, Err, Result, if◌then◌else◌, is_ok, is_some}
+use Rattle.std.proofs.Common.{◌≡◌, ◌∙◌, ◌⊎◌, inl, inr, ◌+◌, ℕ, Bool, true, false, List, Some, None, refl, sym, ap, subst, arith}
+use Rattle.std.specs.Prelude.{◌≤◌, IfOk, OnOk, Option, Ok, Err, Result, if◌then◌else◌, is_ok}
 use Rattle.ov_host.specs.declared.area.Extent.{Extent}
 use Rattle.ov_host.specs.Host.{State}
 use Rattle.ov_host.specs.Stage.{Staged}
 use Rattle.ov_catalog.specs.Numbers.{Numbers}
 use Rattle.ov_core.specs.AtWorld.{IsAtWorld}
-use Rattle.ov_core.specs.Held.{Held}
 use Rattle.law_runs.specs.Serving.{Breaks, Does, Serves, session_of}
 use Rattle.ov_model.proofs.Shaped.{line_shaped}
 use Rattle.ov_model.specs.Act.{Session}
 use Rattle.ov_model.specs.BuiltShapes.{if_built, is_built_shape, served_line}
 use Rattle.ov_model.specs.Deed.{permitted}
 use Rattle.ov_model.specs.Forms.{built_forms}
-use Rattle.ov_model.specs.Line.{Line, Asks, Comment, Refused, answer, line_of}
+use Rattle.ov_model.specs.Line.{Line, Asks, Refused, answer, line_of}
 use Rattle.ov_model.specs.QueryTexts.{Asked, NoQuery, asked_of}
 use Rattle.ov_model.specs.Users.{line_by, permit, unless_denied}
 use Rattle.ov_model.specs.World.{World}
@@ -33,7 +32,6 @@ use Rattle.ov_session.specs.Bounds.{IsReading, IsReadingCommand, command_fetch, 
 use Rattle.ov_session.specs.Commands.{IsDamageOf, IsDamaged, IsOther, IsSaid, MeetsDamage, is_comment_in, is_comment_of, is_refused}
 use Rattle.ov_session.specs.Replying.{IsReplyTo}
 use Rattle.ov_session.specs.declared.errors.EndErr.{EndErr}
-use Rattle.ov_session.specs.declared.errors.EndErr.TheVariants as ending
 use Rattle.ov_session.specs.declared.serving.Served.{Served}
 use Rattle.ov_store.specs.Kept.{Kept}
 
@@ -209,18 +207,15 @@ module _ (user : List ℕ) (command : Command) (l : Line) (is : l ≡ served_lin
         by (inr other) = subst (IsDamageOf IsMet) (sym (others other.0 other.2).reply) tt
 
     module _ (n : ℕ) (w : World) (line : List ℕ) (asked : line_asked user line ≡ l) (at : IsAtWorld w before.held old) where
-      abbrev s : Session
-      s = session_of stage.files user
-
-      pub broken_shaped : (if_built command ≡ done command → Breaks (permitted w s command) s w old new)
-          → Serves n w s (session_of staged.files user) line false false before.held now.held old new
+      pub broken_shaped : (if_built command ≡ done command → Breaks (permitted w (session_of stage.files user) command) (session_of stage.files user) w old new)
+          → Serves n w (session_of stage.files user) (session_of staged.files user) line false false before.held now.held old new
       broken_shaped breaks = by (line_shape l command is)
         where
-          by : Shape l command → Serves n w s (session_of staged.files user) line false false before.held now.held old new
-          by (inl asks_) = says_broken n w s (session_of staged.files user) line command before.held now.held old new (asked ∙ asks_.0) (breaks asks_.1)
+          by : Shape l command → Serves n w (session_of stage.files user) (session_of staged.files user) line false false before.held now.held old new
+          by (inl asks_) = says_broken n w (session_of stage.files user) (session_of staged.files user) line command before.held now.held old new (asked ∙ asks_.0) (breaks asks_.1)
           by (inr other) =
               let is_ = others other.0 other.2
-              in subst (λ (x : State). Serves n w s (session_of staged.files user) line false false before.held now.held old x) (sym is_.host)
-              (subst (λ (k : Kept). Serves n w s (session_of staged.files user) line false false before.held k.held old old) (sym is_.store)
-              (subst (λ (u : Staged). Serves n w s (session_of u.files user) line false false before.held before.held old old) (sym is_.stage_same)
-              (line_unserved n w s line before.held old at)))
+              in subst (λ (x : State). Serves n w (session_of stage.files user) (session_of staged.files user) line false false before.held now.held old x) (sym is_.host)
+              (subst (λ (k : Kept). Serves n w (session_of stage.files user) (session_of staged.files user) line false false before.held k.held old old) (sym is_.store)
+              (subst (λ (u : Staged). Serves n w (session_of stage.files user) (session_of u.files user) line false false before.held before.held old old) (sym is_.stage_same)
+              (line_unserved n w (session_of stage.files user) line before.held old at)))

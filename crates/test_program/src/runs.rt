@@ -1,7 +1,8 @@
 //! Scripts with their files, and what they print.
 use crate::ends::{files, run_words};
 use crate::scripts::{
-    AGAIN, DROP, INIT, KEYS, Line, NOBODY, OFF_LINES, PEOPLE, QUERIES, READ_AND_WRITTEN, THERE_AND_BACK,
+    AGAIN, DROP, INIT, KEYS, Line, NOBODY, OFF_LINES, PEOPLE, QUERIES, READ_AND_WRITTEN,
+    THERE_AND_BACK,
 };
 use crate::{Trial, run_fresh};
 use ov_host::Area;

@@ -1,7 +1,5 @@
-use Rattle.std.proofs.Common.{rules, ◌≡◌, ◌∙◌, ℕ, length, sym}
-use Rattle.std.specs.Prelude.{Ok, Err}
+use Rattle.std.proofs.Common.{rules, ◌≡◌, ◌∙◌, length, sym}
 use Rattle.ov_store.specs.declared.errors.StoreErr.TheVariants as why
-use Rattle.ov_query.specs.Answering.{version_refusal}
 use Rattle.ov_query.proofs.Scans.{allowed_listed, for_version, found_by, only_memory, refusal_is}
 use Rattle.ov_query.proofs.scanning.refused_version.Goals as goal
 

@@ -1,12 +1,10 @@
-use Rattle.std.proofs.Common.{◌≡◌, ◌∙◌, ℕ, List, length, ap, map, subst, sym}
-use Rattle.std.specs.Prelude.{MatchResult, Some}
+use Rattle.std.proofs.Common.{◌≡◌, ◌∙◌, length, ap, map, sym}
 use Rattle.ov_fetch.specs.Scans.{rows_at}
 use Rattle.ov_fetch.specs.declared.scan.Scan.{Scan}
 use Rattle.ov_model.specs.Answers.{source_vids}
 use Rattle.ov_model.specs.Asking.{name_read}
 use Rattle.ov_model.specs.Records.{counted, rows_at as rows_of}
-use Rattle.ov_model.specs.World.{Dataset, World, set_named}
-use Rattle.ov_core.specs.AtWorld.{IsAtWorld}
+use Rattle.ov_model.specs.World.{set_named}
 use Rattle.ov_store.proofs.Deciding.{world_named}
 use Rattle.ov_store.specs.Scanning.{IsUndamaged}
 use Rattle.ov_query.proofs.Scans.{all_pairs, err_of, listed_unread, name_is, of_source, ok_of, pairs_are}

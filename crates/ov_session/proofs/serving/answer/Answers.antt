@@ -18,14 +18,12 @@ use Rattle.ov_store.specs.Committing.{parents_off_in}
 use Rattle.ov_store.specs.Scanning.{scan_off, set_in}
 use Rattle.ov_session.proofs.Numbering.{journal_looked}
 use Rattle.ov_session.specs.Commands.{IsScanDamaged, MeetsDamage}
-use Rattle.ov_model.specs.declared.command.Command.TheVariants as asks
 use Rattle.ov_model.specs.BuiltShapes.{if_built}
-use Rattle.ov_model.specs.declared.refusal.Refusal.{Refusal}
-use Rattle.ov_query.specs.Queries.{query_fetch, query_off}
+use Rattle.ov_query.specs.Queries.{query_off}
 use Rattle.ov_session.proofs.Querying.{query_acts, query_other}
 use Rattle.ov_session.proofs.Shaping.{done, off, ok_err}
-use Rattle.ov_session.specs.Commands.{IsDamageOf, IsDamaged}
-use Rattle.std.specs.Prelude.{Err, IfErr, IfOk, OnOk, Option}
+use Rattle.ov_session.specs.Commands.{IsCommitDamaged, IsDamageOf, IsDamaged}
+use Rattle.std.specs.Prelude.{IfErr, OnOk}
 use Rattle.ov_session.proofs.serving.answer.Goals as goal
 
 pub returns-in-Init-clause-acts : goal.returns-in-Init-clause-acts
@@ -110,7 +108,7 @@ returns-in-Commit-clause-fetched g c =
 
 pub returns-in-Commit-clause-unread : goal.returns-in-Commit-clause-unread
 returns-in-Commit-clause-unread g c = λ is.
-    let there = off_there (parents_off_in (set_in c.args.store.now.held.numbers c.in-Commit.cvd) c.in-Commit.vids.items)
+    let there = off_there (parents_off_in (set_in c.args.store.now.held.numbers c.in-Commit.cvd) c.in-Commit.vids)
     (subst (λ (command : Command). is_command_off c.args.store.now.held.numbers c.args.user.now command ≡ true) c.in-Commit.is is)
     in ap (λ (s : State). s.fetched) (c.commit.ensures.unread there.0
     (subst (λ (v : List ℕ). parents_off_in (set_in c.args.store.now.held.numbers c.in-Commit.cvd) v ≡ Some there.0) (sym c.as_slice.ensures) there.1))
@@ -126,7 +124,7 @@ returns-in-Checkout-clause-fetched g c =
 
 pub returns-in-Checkout-clause-unread : goal.returns-in-Checkout-clause-unread
 returns-in-Checkout-clause-unread g c = λ is.
-    let there = off_there (scan_off c.args.store.now.held.numbers c.in-Checkout.cvd c.in-Checkout.vids.items)
+    let there = off_there (scan_off c.args.store.now.held.numbers c.in-Checkout.cvd c.in-Checkout.vids)
     (subst (λ (command : Command). is_command_off c.args.store.now.held.numbers c.args.user.now command ≡ true) c.in-Checkout.is is)
     in ap (λ (s : State). s.fetched) (c.checkout.ensures.unread there.0
     (subst (λ (v : List ℕ). scan_off c.args.store.now.held.numbers c.in-Checkout.cvd v ≡ Some there.0) (sym c.as_slice-in-Checkout.ensures) there.1))
@@ -302,3 +300,11 @@ returns-in-Run-clause-acts g c = λ w built told at.
     in subst (λ (command : Command). Acts (permitted w s command) s s w c.run_query.result c.args.store.now.held c.args.store.now.held (g.H.Host.state c.args.host.now) (g.H.Host.state c.run_query.new.host)) (sym c.in-Run.is)
     (query_acts w s c.in-Run.text c.args.store.now.held (g.H.Host.state c.args.host.now) (g.H.Host.state c.run_query.new.host) at c.run_query.ensures.looked
     (subst (λ (command : Command). if_built command ≡ done command) c.in-Run.is built) c.run_query.result (c.run_query.ensures.told w s at refl))
+
+-- ---- what a commit reads
+
+pub returns-in-Commit-clause-damaged : goal.returns-in-Commit-clause-damaged
+returns-in-Commit-clause-damaged g c =
+    subst (λ (command : Command). IfErr c.commit.result (IsDamageOf (IsDamaged c.args.user.now command (g.T.Stage.staged c.args.stage.now) c.args.store.now.held (g.H.Host.state c.commit.new.host)))) (sym c.in-Commit.is)
+    (subst (λ (v : List ℕ). IfErr c.commit.result (IsDamageOf (IsCommitDamaged c.in-Commit.cvd v c.in-Commit.file c.in-Commit.message (g.T.Stage.staged c.args.stage.now) c.args.store.now.held (g.H.Host.state c.commit.new.host))))
+    c.as_slice.ensures c.commit.ensures.damaged)

@@ -11,23 +11,21 @@ use Rattle.ov_session.proofs.Saying.{comment_none, line_unserved, says_comment, 
 use Rattle.ov_session.proofs.Shaping.{broken_shaped, comment_shaped, damaged_shaped, fetched_shaped, reply_shaped, served_shaped, still_shaped, unread_shaped, whole_shaped}
 use Rattle.ov_model.specs.BuiltShapes.{served_line}
 use Rattle.ov_session.specs.Commands.{IsNoDamage, is_comment_in, is_refused}
-use Rattle.std.proofs.Common.{◌+◌, ℕ, Some}
+use Rattle.std.proofs.Common.{◌+◌, ℕ}
 use Rattle.std.specs.Prelude.{◌≤◌}
 use Rattle.ov_model.specs.Line.{Line}
 use Rattle.ov_model.specs.declared.reply.Reply.TheVariants as says
 use Rattle.ov_session.proofs.Bounds.{fetched_none, fetched_still}
 use Rattle.ov_session.proofs.Replying.{asked_seen, is_replied, refused_missed}
-use Rattle.ov_session.proofs.Standing.{at_said, idle_unsaid, on_any}
+use Rattle.ov_session.proofs.Standing.{at_said, idle_unsaid}
 use Rattle.ov_session.specs.Bounds.{may_fetch}
 use Rattle.ov_session.specs.Replying.{IsReplyTo}
 use Rattle.ov_session.specs.Standing.{IsIdle}
 use Rattle.ov_session.proofs.Numbering.{journal_said}
 use Rattle.ov_session.specs.declared.errors.EndErr.TheVariants as ending
-use Rattle.ov_session.proofs.Meeting.{comment_asks, refused_asks, same_command}
-use Rattle.ov_session.specs.Commands.{MeetsDamage}
+use Rattle.ov_session.proofs.Meeting.{comment_asks, refused_asks}
 use Rattle.ov_model.specs.declared.command.Command.{Command}
 use Rattle.std.specs.Prelude.{IfErr}
-use Rattle.ov_session.proofs.Dealing.{damage_wider}
 use Rattle.ov_session.specs.Commands.{IsDamageOf, IsDamaged}
 use Rattle.ov_session.proofs.serving.serve.Goals as goal
 
