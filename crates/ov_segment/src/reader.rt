@@ -129,11 +129,7 @@ impl SegmentReader {
 
     /// The next record where `ahead` says that its rid is wanted, and else its rid alone; `ahead` then is what is ahead
     /// from this rid on. Only a wanted record takes memory. After want of memory the reader is as before.
-    pub fn next_of(
-        &mut self,
-        schema: &Schema,
-        ahead: &mut Ahead<'_>,
-    ) -> Result<Sought, AllocError>
+    pub fn next_of(&mut self, schema: &Schema, ahead: &mut Ahead<'_>) -> Result<Sought, AllocError>
         ensures found { IfOk result (λ found. Seeks schema.now self.old (record { inside = ahead.old.inside; edges = ahead.old.edges.now })
             found self.new (record { inside = ahead.new.inside; edges = ahead.new.edges.now })) }
         ensures err { OnErr result (self.new ≡ self.old) }
