@@ -5,3 +5,4 @@ pub mod WrittenLemmas
 pub mod TableLemmas
 pub mod SortLemmas
 pub mod SameLemmas
+pub mod SeekLemmas

@@ -5,3 +5,4 @@ pub mod Reading
 pub mod Runs
 pub mod Fronts
 pub mod Keeping
+pub mod Seeking

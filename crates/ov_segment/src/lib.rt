@@ -19,6 +19,7 @@ mod reader;
 mod reading;
 mod record_table;
 mod records;
+mod seeking;
 mod table;
 mod writing;
 
@@ -30,5 +31,6 @@ pub use reader::SegmentReader;
 pub use reading::read_segment;
 pub use record_table::RecordTable;
 pub use records::Records;
+pub use seeking::Sought;
 pub use table::Table;
 pub use writing::segment_bytes;
