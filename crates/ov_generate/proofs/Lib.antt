@@ -1,0 +1,4 @@
+pub mod Labels
+pub mod Growing
+pub mod Numbers
+pub mod Making
