@@ -1,5 +1,5 @@
 -- Rows of a generated version, one after the other.
-use Rattle.std.proofs.Common.{◌≡◌, ◌≤◌, ◌<◌, ◌+◌, ◌-◌, ◌^◌, ◌⊎◌, inl, inr, ℕ, zero, suc, List, [], ◌∷◌, ◌++◌, length, get_or, pos, refl, sym, ◌∙◌, ap, subst, arith}
+use Rattle.std.proofs.Common.{◌≡◌, ◌≤◌, ◌<◌, ◌+◌, ◌-◌, ◌^◌, ◌⊎◌, inl, inr, ℕ, zero, suc, List, [], ◌∷◌, ◌++◌, length, drop, drop-cons, length-drop, get_or, pos, refl, sym, ◌∙◌, ap, subst, arith}
 use Rattle.ov_value.specs.declared.value.Value.{Value}
 use Rattle.ov_value.specs.declared.value.Value.TheVariants.{Int, Null}
 use Rattle.ov_gen.specs.Versions.{Ascend, Begin, IsRowOf}
@@ -25,7 +25,7 @@ rest_first : (count next end : ℕ) (row : Row) (rows : List Row) → next ≤ c
 rest_first count next end row rows within =
     let one : count + 1 - next ≡ suc (count + 1 - (next + 1)) = omega (arith, within) in ap (λ n. Begin n next end (row ∷ rows)) one
 
-either : (count next : ℕ) → (next ≤ count) ⊎ (count < next)
+pub either : (count next : ℕ) → (next ≤ count) ⊎ (count < next)
 either count next = grind arith
 
 -- the next row, and what is left then
@@ -79,3 +79,17 @@ end_past count next end are =
           in absurd (subst (λ n. Begin n next end []) one are)
       | inr past ↦ past
     ]
+
+-- ---- places in a list
+
+pub row_at : (rows : List Row) (k : ℕ) (row : Row) → k < length rows → row ≡ get_or rows k row → drop k rows ≡ row ∷ drop (k + 1) rows
+row_at rows k row within is =
+    let next : suc k ≡ k + 1 = omega arith
+    in drop-cons rows k row within ∙ ap (λ (m : ℕ). get_or rows k row ∷ drop m rows) next ∙ ap (λ r. r ∷ drop (k + 1) rows) (sym is)
+
+nil_of : (rows : List Row) → length rows ≡ 0 → rows ≡ []
+nil_of [] e = refl
+nil_of (row ∷ rows) e = absurd (let no : ⊥ = omega (arith, e) in no)
+
+pub none_at : (rows : List Row) (k : ℕ) → length rows ≤ k → drop k rows ≡ []
+none_at rows k past = nil_of (drop k rows) (omega (arith, length-drop k rows, past))

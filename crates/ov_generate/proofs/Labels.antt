@@ -22,16 +22,16 @@ label_long text is =
 
 pub two_are : (text : List ℕ) → length text ≡ 2 → text ≡ get_or text 0 0 ∷ get_or text 1 0 ∷ []
 two_are [] e = absurd cc
-two_are (a ∷ []) e = omega (arith, e)
+two_are (a ∷ []) e = absurd (let no : ⊥ = omega (arith, e) in no)
 two_are (a ∷ b ∷ []) e = refl
-two_are (a ∷ b ∷ c ∷ rest) e = omega (arith, e)
+two_are (a ∷ b ∷ c ∷ rest) e = absurd (let no : ⊥ = omega (arith, e) in no)
 
 pub three_are : (text : List ℕ) → length text ≡ 3 → text ≡ get_or text 0 0 ∷ get_or text 1 0 ∷ get_or text 2 0 ∷ []
 three_are [] e = absurd cc
-three_are (a ∷ []) e = omega (arith, e)
-three_are (a ∷ b ∷ []) e = omega (arith, e)
+three_are (a ∷ []) e = absurd (let no : ⊥ = omega (arith, e) in no)
+three_are (a ∷ b ∷ []) e = absurd (let no : ⊥ = omega (arith, e) in no)
 three_are (a ∷ b ∷ c ∷ []) e = refl
-three_are (a ∷ b ∷ c ∷ d ∷ rest) e = omega (arith, e)
+three_are (a ∷ b ∷ c ∷ d ∷ rest) e = absurd (let no : ⊥ = omega (arith, e) in no)
 
 pub two_label : (text : List ℕ) (a b : ℕ) → text ≡ a ∷ b ∷ [] → IsLabel text → (a ≡ 116) × (48 ≤ b) × (b ≤ 57)
 two_label text a b same is =

@@ -1,5 +1,5 @@
 -- A commit of a generated version, at a World.
-use Rattle.std.proofs.Common.{◌≡◌, ◌≤◌, ◌<◌, ◌+◌, ◌-◌, ◌*◌, ◌/◌, ◌^◌, ◌==◌, ◌||◌, ℕ, Bool, true, false, List, [], ◌∷◌, ◌++◌, length, map, codes, refl, sym, ◌∙◌, ap, subst, inl, inr, arith}
+use Rattle.std.proofs.Common.{◌≡◌, ◌≤◌, ◌<◌, ◌+◌, ◌-◌, ◌*◌, ◌/◌, ◌^◌, ◌==◌, ◌||◌, ℕ, suc, Bool, true, false, List, [], ◌∷◌, ◌++◌, length, map, codes, refl, sym, ◌∙◌, ap, subst, inl, inr, arith}
 use Rattle.std.specs.Prelude.{nat_le, nat_lt, if◌then◌else◌, Option, Some, None, Result, IfErr, IfOk, MatchResult}
 use Rattle.std.specs.Option.{option_or}
 use Rattle.std.specs.List.Sorted.{IsStrictlySortedBy}
@@ -48,7 +48,7 @@ whole_format format rows whole = by (format == 1)
     by true = ap (λ o. format_refusal o false) whole
     by false = refl
 
-rows_pass : (w : World) (count vid : ℕ) (rows : List Row) → IsGrown count vid rows → 1 ≤ vid → count + vid ≤ 1000001 → rows_refusal w generated_schema false rows ≡ None
+pub rows_pass : (w : World) (count vid : ℕ) (rows : List Row) → IsGrown count vid rows → 1 ≤ vid → count + vid ≤ 1000001 → rows_refusal w generated_schema false rows ≡ None
 rows_pass w count vid rows are some most =
     let few : 1 + length rows ≤ count + vid = begin-few count 1 (count + vid) rows (omega (arith, some)) are
     in let not_many : nat_lt 1000000 (length rows) ≡ false = le-ltb 1000000 (length rows) (omega (arith, few, most))
@@ -84,7 +84,7 @@ module _ (w : World) (name : List ℕ) (number count : ℕ) (g : Grown) (h : Has
     where
       map_length : (f : Version → List Row) (vs : List Version) → length (map f vs) ≡ length vs
       map_length f [] = refl
-      map_length f (v ∷ vs) = ap (λ n. n + 1) (map_length f vs)
+      map_length f (v ∷ vs) = ap suc (map_length f vs)
 
   parents_pass : commit_refusal h.set wish.vids ≡ None
   parents_pass =

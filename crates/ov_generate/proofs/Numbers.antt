@@ -1,5 +1,5 @@
 -- The dataset in the store's numbers, after its Init and after each commit.
-use Rattle.std.proofs.Common.{◌≡◌, ◌==◌, ℕ, Bool, true, false, List, [], ◌∷◌, ◌++◌, length, refl, sym, ◌∙◌, ap, subst, inl, inr}
+use Rattle.std.proofs.Common.{◌≡◌, ◌+◌, ◌==◌, ℕ, Bool, true, false, List, [], ◌∷◌, ◌++◌, length, refl, sym, ◌∙◌, ap, subst, inl, inr}
 use Rattle.std.specs.Prelude.{◌||◌, if◌then◌else◌, find, Option, Some, None}
 use Rattle.std.specs.List.{list_any}
 use Rattle.std.specs.Option.{option_or}
@@ -9,7 +9,8 @@ use Rattle.std.proofs.lemmas.Slice.Eq.{bytes_eq-Decides}
 use Rattle.ov_host.specs.declared.area.Extent.{Extent}
 use Rattle.ov_host.specs.Host.{State}
 use Rattle.ov_catalog.specs.Applying.{is_named}
-use Rattle.ov_catalog.specs.Events.{applied, change, new_set, numbered, version_of, with_version}
+use Rattle.ov_place.specs.declared.place_facts.Place.{Place}
+use Rattle.ov_catalog.specs.Events.{Commit, Init, applied, change, new_set, numbered, version_of, with_version}
 use Rattle.ov_catalog.specs.Numbers.{Numbers, SetNumbers}
 use Rattle.ov_catalog.specs.Raw.{event_in}
 use Rattle.ov_core.specs.Brought.{with_extents}
@@ -49,16 +50,18 @@ found_last q (x ∷ sets) set none is =
     cond-false (q x) (Some x) (find q (sets ++ set ∷ [])) (or_left (q x) (list_any q sets) none)
     ∙ found_last q sets set (or_right (q x) (list_any q sets) none) is
 
+first_known : (n : Numbers Extent Extent) (name : List ℕ) (count : ℕ) (list : Extent) (segments : List Extent) → list_any (is_named name) n.sets ≡ false
+    → IsKnown (applied (Init name generated_schema count list segments) n) name
+first_known n name count list segments none = record {
+  set = new_set n.next name generated_schema count list segments;
+  named = found_last (is_named name) n.sets (new_set n.next name generated_schema count list segments) none ((bytes_eq-Decides name name).1 refl);
+  schema_is = refl;
+}
+
 pub known_first : (name : List ℕ) (rows : List Row) (old new : Held) → new_off old.numbers name ≡ None → IsDone (first_of name generated_schema rows) old new
     → IsKnown new.numbers name
 known_first name rows old new none done =
-    let set : Set = new_set old.numbers.next name generated_schema (length rows) done.l _
-    in record {
-      set = _;
-      named = ap (λ n. set_in n name) done.applied_is
-          ∙ found_last (is_named name) old.numbers.sets _ (none_named old.numbers name none) ((bytes_eq-Decides name name).1 refl);
-      schema_is = refl;
-    }
+    subst (λ n. IsKnown n name) (sym done.applied_is) (first_known old.numbers name _ done.l _ (none_named old.numbers name none))
 
 -- ---- a version more
 
@@ -93,14 +96,15 @@ module _ (number : ℕ) (f : Set → Set) (name : List ℕ) (keeps_name : (x : S
             ]
       ]
 
+more_known : (n : Numbers Extent Extent) (name : List ℕ) (k : IsKnown n name) (number vid : ℕ) (message : List ℕ) (parents : List (ℕ × ℕ)) (rows fresh : ℕ) (place : Place) (added : ℕ) (list : Extent)
+    (segments : List Extent) → IsKnown (applied (Commit number vid message parents rows fresh place added list segments) n) name
+more_known n name k number vid message parents rows fresh place added list segments =
+    let later = changed_found number (with_version (version_of parents message rows fresh list) place added segments) name (λ x. refl) (λ x. refl) n.sets k.set k.named
+    in record { set = later.0; named = later.1; schema_is = later.2 ∙ k.schema_is }
+
 pub known_more : (name : List ℕ) (old new : Held) (k : IsKnown old.numbers name) (wish : Wish) (t : State) (made : Committed) → IsCommitted k.set wish t old new made
     → IsKnown new.numbers name
 known_more name old new k wish t made done =
-    let event_is = done.by.commit.event_is
-    in let later = changed_found k.set.number
-    (with_version (version_of _ wish.message (length _) _ done.done.l) _ _ _) name (λ x. refl) (λ x. refl) old.numbers.sets k.set k.named
-    in record {
-      set = later.0;
-      named = ap (λ n. set_in n name) (done.done.applied_is ∙ ap (λ e. applied (event_in (with_extents done.done.l done.done.s e)) old.numbers) event_is) ∙ later.1;
-      schema_is = later.2 ∙ k.schema_is;
-    }
+    subst (λ n. IsKnown n name)
+    (sym (done.done.applied_is ∙ ap (λ e. applied (event_in (with_extents done.done.l done.done.s e)) old.numbers) done.by.commit.event_is))
+    (more_known old.numbers name k _ (length k.set.versions + 1) _ _ _ _ _ _ done.done.l _)

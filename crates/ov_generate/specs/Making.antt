@@ -2,6 +2,7 @@
 --     IsKnown n name      the numbers have the dataset of this name, of generated rows
 --     IsNotGrown, IsUnread      the rows of a parent, as they are read, aren't those of a generated version; why they aren't given
 --     IsUnmoved m w ..      why a move wasn't made, where the store is at a World
+--     IsWanted wanted      what may be asked for
 --     Ends name d s w ..      a command that isn't done is refused, or broken off
 use Rattle.std.specs.Prelude.{◌≡◌, ◌⊎◌, ◌≤◌, ◌+◌, ◌*◌, ℕ, true, List, [], ◌∷◌, Option, Some, None}
 use Rattle.ov_host.specs.declared.area.Area.TheVariants.{Pages}
@@ -29,6 +30,7 @@ use Rattle.ov_store.specs.Refusals.{refusal_of}
 use Rattle.ov_store.specs.Scanning.{IsUnscanned, scan_off, set_in}
 use Rattle.ov_store.specs.declared.errors.StoreErr.{StoreErr}
 use Rattle.ov_store.specs.declared.errors.StoreErr.TheVariants as why
+use Rattle.ov_generate.specs.declared.generating.Wanted.{Wanted}
 use Rattle.law_room.specs.Room.{Entry, IsWithin, LacksRecord, LacksRun, Made}
 use Rattle.law_runs.specs.Serving.{Breaks, Does}
 use Rattle.law_runs.specs.Stops.{printed_of}
@@ -37,6 +39,12 @@ pub record IsKnown (n : Numbers Extent Extent) (name : List ℕ) : Type 0 where
   pub set : Set
   pub named : set_in n name ≡ Some set
   pub schema_is : set.schema ≡ generated_schema
+
+pub record IsWanted (wanted : Wanted) : Type 0 where
+  pub some_rows : 1 ≤ wanted.rows
+  pub some_versions : 1 ≤ wanted.versions
+  pub few_versions : wanted.versions ≤ 65535
+  pub few : wanted.rows + wanted.versions ≤ 1000000
 
 -- ---- a parent's rows
 

@@ -4,6 +4,9 @@
 //! from the store; what the moves are stands in `ov_model`'s `specs/Generator.antt`.
 #![tactic(auto)]
 
+mod generating;
 mod parent;
 mod rows;
 mod version;
+
+pub use generating::{Generated, Wanted, generate};
