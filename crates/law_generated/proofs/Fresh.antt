@@ -1,16 +1,16 @@
 -- How many records a generated version brings: rows that its parent doesn't have.
-use Rattle.std.proofs.Common.{◌≡◌, ◌≤◌, ◌<◌, ℕ, zero, suc, ◌+◌, ◌-◌, ◌*◌, ◌/◌, Bool, true, false, ◌==◌, List, [], ◌∷◌, ◌++◌, length, map, get_or, pos, refl, sym, ◌∙◌, ap, subst, inl, inr, arith, append_assoc}
+use Rattle.std.proofs.Common.{◌≡◌, ◌≤◌, ◌<◌, ℕ, zero, suc, ◌+◌, ◌-◌, ◌/◌, Bool, true, false, ◌==◌, List, [], ◌∷◌, ◌++◌, length, map, get_or, refl, sym, ◌∙◌, ap, subst, inl, inr, arith, append_assoc}
 use Rattle.std.specs.Prelude.{◌||◌, if◌then◌else◌, Option, Some, None}
 use Rattle.std.specs.List.{list_any}
 use Rattle.std.proofs.lemmas.Bool.{cond-true, cond-false, cases_Bool, ne_eqb}
-use Rattle.std.proofs.lemmas.List.{length-append, map-append, append-nil}
+use Rattle.std.proofs.lemmas.List.{map-append, append-nil}
 use Rattle.std.proofs.Math.ListN.{get_or-map}
 use Rattle.ov_gen.specs.Versions.{Ascend, Begin, IsRowOf}
-use Rattle.ov_gen.proofs.Growing.{begin-with, begin-push, row-fresh}
+use Rattle.ov_gen.proofs.Growing.{begin-with}
 use Rattle.ov_model.specs.Book.{Row, Version}
 use Rattle.ov_model.specs.Generator.{Drawn, change_one, changes, child_of, draw, fresh_row, with_number}
 use Rattle.ov_model.specs.Records.{Rec, fresh_in, is_same_row, of_version, or_own, origin_by, origin_in, record_of, records_of, recs, rows_at}
-use Rattle.ov_model.proofs.Growing.{length_recs, same_row-refl}
+use Rattle.ov_model.proofs.Growing.{same_row-refl}
 use Rattle.ov_model.proofs.Own.{AllBelow, by_below, recs_below}
 
 -- ---- rows that others don't have
@@ -111,15 +111,22 @@ changes_few all zero count end drawn are = omega arith
 changes_few all (suc left) count end drawn are =
     let id : ℕ = 1 + (draw count drawn.state).is
     in let a : ℕ = (draw 1000 (draw count drawn.state).state).is
-    in omega (arith, changes_few all left count end (change_one count drawn.state drawn.is)
-    (begin-with count 1 end id a drawn.is (number_small (draw count drawn.state).state) are),
-    begin_change all count 1 end id a drawn.is are)
+    in omega (
+      arith,
+      changes_few all left count end (change_one count drawn.state drawn.is)
+          (begin-with count 1 end id a drawn.is (number_small (draw count drawn.state).state) are),
+      begin_change all count 1 end id a drawn.is are,
+    )
 
 pub child_strangers : (count vid x : ℕ) (parent : List Row) → Begin count 1 (count + vid) parent → strangers parent (child_of count vid x parent).is ≤ 2 + count / 100
 child_strangers count vid x parent are =
     let changed : Drawn (List Row) = changes (1 + count / 100) count (record { state = x; is = parent })
-    in omega (arith, strangers-push parent changed.is (fresh_row (count + vid) changed.state).is,
-    changes_few parent (1 + count / 100) count (count + vid) (record { state = x; is = parent }) are, none_strange parent)
+    in omega (
+      arith,
+      strangers-push parent changed.is (fresh_row (count + vid) changed.state).is,
+      changes_few parent (1 + count / 100) count (count + vid) (record { state = x; is = parent }) are,
+      none_strange parent,
+    )
 
 -- ---- fresh records
 
@@ -142,8 +149,12 @@ few_fresh f (row ∷ rows) all n low =
       | inl there ↦
           let le : (f row).origin ≤ n = low row there
           in let off : ((f row).origin == n + 1) ≡ false = ne_eqb (f row).origin (n + 1) (λ e. omega (arith, le, e))
-          in omega (arith, ap one_off there, few_fresh f rows all n low,
-          ap length (cond-false ((f row).origin == n + 1) (f row ∷ fresh_in (map f rows) (n + 1)) (fresh_in (map f rows) (n + 1)) off))
+          in omega (
+            arith,
+            ap one_off there,
+            few_fresh f rows all n low,
+            ap length (cond-false ((f row).origin == n + 1) (f row ∷ fresh_in (map f rows) (n + 1)) (fresh_in (map f rows) (n + 1)) off),
+          )
       | inr none ↦ omega (arith, ap one_off none, few_fresh f rows all n low, kept ((f row).origin == n + 1) (f row) (fresh_in (map f rows) (n + 1)))
     ]
   where

@@ -1,14 +1,13 @@
 -- A World in which a dataset begins to be generated, and in which it gets one version more.
 use Rattle.std.proofs.Common.{◌≡◌, ◌≤◌, ◌<◌, ℕ, zero, suc, ◌+◌, ◌-◌, ◌*◌, ◌/◌, Bool, true, false, ◌==◌, List, [], ◌∷◌, ◌++◌, length, map, get_or, codes, refl, sym, ◌∙◌, ap, subst, inl, inr, arith}
-use Rattle.std.specs.Prelude.{if◌then◌else◌, filter, Some, None}
-use Rattle.std.proofs.lemmas.Bool.{cond-true, cond-false, cases_Bool, eq-eqb}
+use Rattle.std.specs.Prelude.{if◌then◌else◌, filter, None}
+use Rattle.std.proofs.lemmas.Bool.{cases_Bool, eq-eqb}
 use Rattle.std.proofs.lemmas.List.{length-append, map-append}
-use Rattle.std.proofs.Math.ListN.{get_or-map}
 use Rattle.ov_gen.specs.Versions.{Begin, IsGrown}
 use Rattle.ov_gen.proofs.Growing.{begin-few, begin-fresh, begin-push, begin-raise, begin-with, row-fresh}
 use Rattle.ov_model.specs.Book.{Row, Version}
-use Rattle.ov_model.specs.Generator.{Drawn, change_one, changes, child_of, draw, fresh_row, fresh_rows, generated_schema, parent_by, parent_drawn}
-use Rattle.ov_model.specs.Moves.{Commit, Init, committed, moved, new_set, version_of}
+use Rattle.ov_model.specs.Generator.{Drawn, change_one, changes, child_of, draw, fresh_row, fresh_rows, generated_schema, parent_by}
+use Rattle.ov_model.specs.Moves.{Init, committed, moved, new_set, version_of}
 use Rattle.ov_model.specs.Records.{Rec, fresh_in, order_of, record_of, records_of, recs, rows_at}
 use Rattle.ov_model.specs.World.{Dataset, World, set_named}
 use Rattle.ov_model.proofs.Growing.{length_recs, order_of_more}
@@ -18,7 +17,7 @@ use Rattle.law_generated.proofs.Fresh.{child_strangers, fresh_strangers, strange
 
 -- ---- the parent that is drawn
 
-parent_by_least : (before : ℕ) (c : Drawn ℕ) → 1 ≤ before → 1 ≤ (parent_by before c).is
+pub parent_by_least : (before : ℕ) (c : Drawn ℕ) → 1 ≤ before → 1 ≤ (parent_by before c).is
 parent_by_least before c some =
     elim (cases_Bool (c.is == 0)) [
       | inl old ↦ let is : (parent_by before c).is ≡ 1 + (draw before c.state).is = rw old refl in omega (arith, is)
@@ -28,7 +27,7 @@ parent_by_least before c some =
 below_draw : (n x : ℕ) → 1 ≤ n → (draw n x).is < n
 below_draw n x some = grind arith
 
-parent_by_most : (before : ℕ) (c : Drawn ℕ) → 1 ≤ before → (parent_by before c).is ≤ before
+pub parent_by_most : (before : ℕ) (c : Drawn ℕ) → 1 ≤ before → (parent_by before c).is ≤ before
 parent_by_most before c some =
     elim (cases_Bool (c.is == 0)) [
       | inl old ↦ let is : (parent_by before c).is ≡ 1 + (draw before c.state).is = rw old refl in omega (arith, is, below_draw before c.state some)

@@ -1,18 +1,18 @@
 -- How several calls of the store do what a command means, one move each, or break off in it.
-use Rattle.std.proofs.Common.{◌≡◌, ◌+◌, ◌⊎◌, inl, inr, ℕ, suc, Bool, false, List, [], ◌∷◌, ◌++◌, length, map, Some, None, refl, sym, ◌∙◌, ap, subst, append-nil, append_assoc, arith}
+use Rattle.std.proofs.Common.{◌≡◌, ◌+◌, ◌⊎◌, inl, inr, ℕ, Bool, false, List, [], ◌∷◌, ◌++◌, length, map, None, refl, sym, ◌∙◌, ap, subst, append-nil, append_assoc, arith}
 use Rattle.std.proofs.lemmas.List.{map-append}
 use Rattle.ov_host.specs.Disk.{Image}
 use Rattle.ov_host.specs.Host.{State}
 use Rattle.ov_host.specs.Stops.{Only}
 use Rattle.ov_host.proofs.Stops.{only_then, only_wider}
 use Rattle.ov_model.specs.Act.{Deed, Session}
-use Rattle.ov_model.specs.Course.{Enough, Full, Item, Makes, NoRun, Room, Says, Served, Space, after, attempts, play, replied, steps_then, world_after}
+use Rattle.ov_model.specs.Course.{Enough, Full, Item, Makes, NoRun, Room, Says, Space, after, attempts, play, replied, steps_then, world_after}
 use Rattle.ov_model.specs.Moves.{Move, moved}
 use Rattle.ov_model.specs.World.{World}
 use Rattle.ov_model.specs.declared.refusal.Refusal.TheVariants as no
 use Rattle.ov_model.specs.declared.reply.Reply.{Reply}
 use Rattle.ov_model.specs.declared.reply.Reply.TheVariants as says
-use Rattle.ov_model.proofs.Courses.{play_append, world_append}
+use Rattle.ov_model.proofs.Courses.{world_append}
 use Rattle.law_image.specs.Images.{StandsAs}
 use Rattle.ov_core.specs.AtWorld.{IsAtWorld, IsEither}
 use Rattle.ov_core.specs.Held.{Held}

@@ -1,11 +1,11 @@
 -- The first version, and what stays where one isn't made.
-use Rattle.std.proofs.Common.{◌≡◌, ◌≤◌, ◌<◌, ◌+◌, ◌∙◌, ℕ, Bool, true, false, List, [], ◌∷◌, length, refl, sym, ap, subst, arith}
-use Rattle.std.specs.Prelude.{Err, IsErrOf, MatchResult, None, Ok, OnOk, Option, Result, Some, is_some}
+use Rattle.std.proofs.Common.{◌≡◌, ◌≤◌, ◌<◌, ◌+◌, ◌∙◌, ℕ, true, false, List, length, refl, sym, ap, subst, arith}
+use Rattle.std.specs.Prelude.{Err, MatchResult, None, Ok, OnOk, Option, Result, Some, is_some}
 use Rattle.std.specs.Option.{option_or}
 use Rattle.ov_host.specs.Host.{State}
 use Rattle.ov_host.specs.Stops.{Only}
 use Rattle.ov_host.specs.Tape.{Tape}
-use Rattle.ov_core.specs.AtWorld.{IsAtNext, IsAtWorld, IsEither}
+use Rattle.ov_core.specs.AtWorld.{IsAtNext, IsEither}
 use Rattle.ov_core.specs.Held.{Held, IsByJournal}
 use Rattle.ov_fetch.specs.Extents.{Looked}
 use Rattle.ov_gen.specs.Versions.{IsGrown}
@@ -16,7 +16,6 @@ use Rattle.ov_model.specs.Book.{Row}
 use Rattle.ov_model.specs.Generator.{generated_schema}
 use Rattle.ov_model.specs.Moves.{Init, Move, moved}
 use Rattle.ov_model.specs.World.{Dataset, World, set_named}
-use Rattle.ov_model.specs.declared.refusal.Refusal.{Refusal}
 use Rattle.ov_model.specs.declared.refusal.Refusal.TheVariants as no
 use Rattle.ov_store.specs.Beginning.{first_move}
 use Rattle.ov_store.specs.Kept.{Kept, MayCall, Stays}

@@ -1,10 +1,9 @@
 -- Rows of a generated version, one after the other.
-use Rattle.std.proofs.Common.{◌≡◌, ◌≤◌, ◌<◌, ◌+◌, ◌-◌, ◌^◌, ◌⊎◌, inl, inr, ℕ, zero, suc, List, [], ◌∷◌, ◌++◌, length, drop, drop-cons, length-drop, get_or, pos, refl, sym, ◌∙◌, ap, subst, arith}
-use Rattle.ov_value.specs.declared.value.Value.{Value}
+use Rattle.std.proofs.Common.{◌≡◌, ◌≤◌, ◌<◌, ◌+◌, ◌-◌, ◌^◌, ◌⊎◌, inl, inr, ℕ, suc, List, [], ◌∷◌, length, drop, drop-cons, length-drop, get_or, pos, refl, sym, ◌∙◌, ap, subst, arith}
 use Rattle.ov_value.specs.declared.value.Value.TheVariants.{Int, Null}
 use Rattle.ov_gen.specs.Versions.{Ascend, Begin, IsRowOf}
 use Rattle.ov_model.specs.Book.{Row}
-use Rattle.ov_generate.specs.Rows.{IsNextRow, MayFollow}
+use Rattle.ov_generate.specs.Rows.{IsNextRow}
 
 -- what is left to be asked of rows whose next one may have the id `next`
 abbrev pub Rest : ℕ → ℕ → ℕ → List Row → Type 0
@@ -53,9 +52,13 @@ rest_more count next end id row rows is are =
           in subst (λ (T : Type 0). T) (sym (rest_first count next end row rows within))
           (subst (λ n. IsRowOf n row) same is.row_is, subst (λ n. Rest count (n + 1) end rows) same are)
       | inr past ↦
-          subst (λ (T : Type 0). T) (sym (rest_later count next end (row ∷ rows) past))
-          (id, is.follows.from, is.follows.below, is.row_is,
-          subst (λ (T : Type 0). T) (rest_later count (id + 1) end rows (omega (arith, is.follows.from, past))) are)
+          subst (λ (T : Type 0). T) (sym (rest_later count next end (row ∷ rows) past)) (
+            id,
+            is.follows.from,
+            is.follows.below,
+            is.row_is,
+            subst (λ (T : Type 0). T) (rest_later count (id + 1) end rows (omega (arith, is.follows.from, past))) are,
+          )
     ]
 
 -- it is the row with this id, or there is none

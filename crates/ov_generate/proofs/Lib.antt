@@ -6,3 +6,4 @@ pub mod Making
 pub mod Versions
 pub mod Firsts
 pub mod Whole
+pub mod Damages

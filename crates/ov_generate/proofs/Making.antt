@@ -1,9 +1,8 @@
 -- A commit of a generated version, at a World.
-use Rattle.std.proofs.Common.{◌≡◌, ◌≤◌, ◌<◌, ◌+◌, ◌-◌, ◌*◌, ◌/◌, ◌^◌, ◌==◌, ◌||◌, ℕ, suc, Bool, true, false, List, [], ◌∷◌, ◌++◌, length, map, codes, refl, sym, ◌∙◌, ap, subst, inl, inr, arith}
-use Rattle.std.specs.Prelude.{nat_le, nat_lt, if◌then◌else◌, Option, Some, None, Result, IfErr, IfOk, MatchResult}
+use Rattle.std.proofs.Common.{◌≡◌, ◌≤◌, ◌+◌, ◌*◌, ◌^◌, ◌==◌, ◌||◌, ℕ, suc, Bool, true, false, List, [], ◌∷◌, length, map, codes, refl, sym, ◌∙◌, ap, subst, arith}
+use Rattle.std.specs.Prelude.{nat_le, nat_lt, if◌then◌else◌, Some, None}
 use Rattle.std.specs.Option.{option_or}
-use Rattle.std.specs.List.Sorted.{IsStrictlySortedBy}
-use Rattle.std.proofs.lemmas.Bool.{le-ltb, lt-ltb, cond-true, cond-false, ne_eqb}
+use Rattle.std.proofs.lemmas.Bool.{le-ltb, ne_eqb}
 use Rattle.ov_host.specs.Host.{State}
 use Rattle.ov_host.specs.Stops.{Only}
 use Rattle.ov_core.specs.AtWorld.{IsAtNext, IsAtWorld, IsEither}
@@ -19,8 +18,7 @@ use Rattle.ov_model.specs.Generator.{generated_schema}
 use Rattle.ov_model.specs.Merge.{in_key_order}
 use Rattle.ov_model.specs.Moves.{Commit, Move, moved}
 use Rattle.ov_model.specs.Records.{order_of}
-use Rattle.ov_model.specs.World.{Dataset, World, set_named}
-use Rattle.ov_model.specs.declared.refusal.Refusal.{Refusal}
+use Rattle.ov_model.specs.World.{World}
 use Rattle.ov_model.specs.declared.refusal.Refusal.TheVariants as no
 use Rattle.ov_store.specs.Committing.{Wish, commit_move, committed, fresh_in_world, with_commit}
 use Rattle.ov_store.specs.Worlds.{IsLack, IsRefusedAs, and_made, content_refusal, version_refusal}
@@ -29,7 +27,7 @@ use Rattle.ov_store.specs.declared.errors.StoreErr.TheVariants as why
 use Rattle.law_room.specs.Room.{Entry, IsWithin, Made}
 use Rattle.law_runs.specs.Stops.{printed_of}
 use Rattle.law_moves.specs.Doing.{IsMoved}
-use Rattle.law_generated.specs.Grown.{Grown, HasGrown, fresh_most, grown_more, move_next, parent_next, rows_next}
+use Rattle.law_generated.specs.Grown.{Grown, HasGrown, fresh_most, move_next, parent_next, rows_next}
 use Rattle.law_generated.proofs.Steps.{next_fresh, next_grown, parent_least, parent_most}
 use Rattle.ov_generate.specs.Making.{IsUnmoved}
 
@@ -102,8 +100,14 @@ module _ (w : World) (name : List ℕ) (number count : ℕ) (g : Grown) (h : Has
   few_fresh =
       let fresh_is : fresh_in_world h.set wish ≡ fresh_of h.set ((parent_next g).is ∷ []) (codes "gen") (rows_next count g).is
       = λ i. fresh_of h.set (vids_are i) (message_is i) (ordered i)
-      in omega (arith, fresh_is, next_fresh w name number count g h, h.few,
-      product_most (length g.done) (fresh_most count) (omega (arith, versions)) (hundredth count (omega (arith, most))), most)
+      in omega (
+        arith,
+        fresh_is,
+        next_fresh w name number count g h,
+        h.few,
+        product_most (length g.done) (fresh_most count) (omega (arith, versions)) (hundredth count (omega (arith, most))),
+        most,
+      )
 
   pub none_refused : version_refusal w h.set wish ≡ None
   none_refused =

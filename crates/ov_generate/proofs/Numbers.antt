@@ -1,6 +1,6 @@
 -- The dataset in the store's numbers, after its Init and after each commit.
-use Rattle.std.proofs.Common.{◌≡◌, ◌+◌, ◌==◌, ℕ, Bool, true, false, List, [], ◌∷◌, ◌++◌, length, refl, sym, ◌∙◌, ap, subst, inl, inr}
-use Rattle.std.specs.Prelude.{◌||◌, if◌then◌else◌, find, Option, Some, None}
+use Rattle.std.proofs.Common.{◌≡◌, ◌+◌, ℕ, Bool, true, false, List, [], ◌∷◌, ◌++◌, length, refl, sym, ◌∙◌, ap, subst, inl, inr}
+use Rattle.std.specs.Prelude.{◌||◌, find, Option, Some, None}
 use Rattle.std.specs.List.{list_any}
 use Rattle.std.specs.Option.{option_or}
 use Rattle.std.specs.Str.{bytes_eq}
@@ -11,17 +11,16 @@ use Rattle.ov_host.specs.Host.{State}
 use Rattle.ov_catalog.specs.Applying.{is_named}
 use Rattle.ov_place.specs.declared.place_facts.Place.{Place}
 use Rattle.ov_catalog.specs.Events.{Commit, Init, applied, change, new_set, numbered, version_of, with_version}
-use Rattle.ov_catalog.specs.Numbers.{Numbers, SetNumbers}
+use Rattle.ov_catalog.specs.Numbers.{Numbers}
 use Rattle.ov_catalog.specs.Raw.{event_in}
 use Rattle.ov_core.specs.Brought.{with_extents}
 use Rattle.ov_core.specs.Held.{Held}
 use Rattle.ov_model.specs.Book.{Row}
 use Rattle.ov_model.specs.Generator.{generated_schema}
-use Rattle.ov_store.specs.Beginning.{first_of, init_off}
+use Rattle.ov_store.specs.Beginning.{first_of}
 use Rattle.ov_store.specs.Changes.{IsDone}
 use Rattle.ov_store.specs.Committing.{IsCommitted, Set, Wish}
 use Rattle.ov_store.specs.Refusals.{new_off, off_if}
-use Rattle.ov_store.specs.Scanning.{set_in}
 use Rattle.ov_store.specs.declared.errors.StoreErr.{StoreErr}
 use Rattle.ov_store.specs.declared.errors.StoreErr.TheVariants as why
 use Rattle.ov_store.specs.declared.store.Committed.{Committed}
@@ -80,9 +79,12 @@ module _ (number : ℕ) (f : Set → Set) (name : List ℕ) (keeps_name : (x : S
               | inl named ↦
                   let one : x ≡ set = some_is x set (sym (cond-true (is_named name x) (Some x) (find (is_named name) sets) named) ∙ e)
                   in (f x, ap (find (is_named name)) here ∙ cond-true (is_named name (f x)) (Some (f x)) (find (is_named name) sets) (same ∙ named), keeps_schema x ∙ ap (λ (y : Set). y.schema) one)
-              | inr other ↦
-                  (set, ap (find (is_named name)) here ∙ cond-false (is_named name (f x)) (Some (f x)) (find (is_named name) sets) (same ∙ other)
-                  ∙ sym (cond-false (is_named name x) (Some x) (find (is_named name) sets) other) ∙ e, refl)
+              | inr other ↦ (
+                set,
+                ap (find (is_named name)) here ∙ cond-false (is_named name (f x)) (Some (f x)) (find (is_named name) sets) (same ∙ other)
+                    ∙ sym (cond-false (is_named name x) (Some x) (find (is_named name) sets) other) ∙ e,
+                refl,
+              )
             ]
         | inr not_ours ↦
             let there : change number f (x ∷ sets) ≡ x ∷ change number f sets = cond-false (numbered number x) (f x ∷ sets) (x ∷ change number f sets) not_ours

@@ -1,9 +1,10 @@
 -- The rows of a parent, read back at a World, and what stays while they are.
-use Rattle.std.proofs.Common.{◌≡◌, ◌≤◌, ◌<◌, ◌+◌, ◌==◌, ◌||◌, ◌⊎◌, inl, inr, ℕ, zero, suc, Bool, true, false, List, [], ◌∷◌, length, map, get_or, refl, sym, ◌∙◌, ap, subst, arith}
-use Rattle.std.specs.Prelude.{nat_lt, if◌then◌else◌, MatchResult, Option, Some, None, IfErr, IfOk, OnOk, Result, Ok, Err}
+use Rattle.std.proofs.Common.{◌≡◌, ◌≤◌, ◌<◌, ◌==◌, ◌||◌, ◌⊎◌, inl, inr, ℕ, zero, suc, true, false, List, [], ◌∷◌, length, map, get_or, refl, sym, ◌∙◌, ap, subst, arith}
+use Rattle.std.specs.Prelude.{nat_lt, if◌then◌else◌, IsErr, IsErrOf, MatchResult, Option, Some, None, IfErr, IfOk, OnOk, Result, Ok, Err}
 use Rattle.std.specs.List.{AllZip}
+use Rattle.std.specs.Result.{IsErrAnd}
+use Rattle.std.proofs.lemmas.Bool.{true≢false}
 use Rattle.std.proofs.lemmas.Bool.{le-ltb, lt-ltb, ne_eqb}
-use Rattle.ov_host.specs.Disk.{Image}
 use Rattle.ov_host.specs.Host.{State}
 use Rattle.ov_host.specs.Stops.{Only}
 use Rattle.ov_host.specs.declared.area.Area.TheVariants.{Pages}
@@ -14,11 +15,11 @@ use Rattle.ov_fetch.specs.Extents.{Looked}
 use Rattle.ov_fetch.proofs.Looks.{looked_again}
 use Rattle.ov_model.specs.Book.{Row, Version}
 use Rattle.ov_model.specs.Moves.{Move, moved}
-use Rattle.ov_model.specs.World.{Dataset, World}
-use Rattle.ov_store.specs.Committing.{Set}
+use Rattle.ov_model.specs.World.{World}
+use Rattle.ov_store.specs.Committing.{IsUncommitted, Set, Wish}
 use Rattle.ov_store.specs.Kept.{Kept, Stays}
 use Rattle.ov_store.specs.Refusals.{vids_off}
-use Rattle.ov_store.specs.Scanning.{IsUndamaged, IsUnscanned, scan_off, set_in, versions_off}
+use Rattle.ov_store.specs.Scanning.{IsUndamaged, scan_off, set_in, versions_off}
 use Rattle.ov_store.specs.declared.errors.StoreErr.{StoreErr}
 use Rattle.ov_store.specs.declared.errors.StoreErr.TheVariants as why
 use Rattle.ov_store.proofs.Deciding.{counts}
@@ -27,7 +28,7 @@ use Rattle.law_runs.specs.Stops.{printed_of}
 use Rattle.law_runs.proofs.Found.{stands_left}
 use Rattle.law_generated.specs.Grown.{Grown, HasGrown, parent_next}
 use Rattle.law_generated.proofs.Steps.{parent_least, parent_most}
-use Rattle.ov_generate.specs.Making.{IsKnown, IsNotGrownIn, IsUnmoved, IsUnread}
+use Rattle.ov_generate.specs.Making.{HasDamage, IsDamageOf, IsKnown, IsNotGrownIn, IsUnmoved, IsUnread}
 
 -- ---- the host was looked at
 
@@ -175,5 +176,66 @@ pub result_const : {A : Type 0} (r : Result A StoreErr) (P : Type 0) → P → I
 result_const (Ok x) P p = p
 result_const (Err off) P p = tt
 
-pub match_err : {A E : Type 0} (r : Result A E) (e : E) (P : A → Type 0) (Q : E → Type 0) → r ≡ Err e → Q e → MatchResult r P Q
-match_err r e P Q is q = subst (λ x. MatchResult x P Q) (sym is) q
+-- what leaves by a `?`
+pub match_err : {A E : Type 0} (P : A → Type 0) (Q : E → Type 0) (r : Result A E) (e : E) → IsErr r × IsErrAnd r (λ x. x ≡ e) → Q e → MatchResult r P Q
+match_err P Q (Ok x) e h q = absurd (true≢false (sym h.0))
+match_err P Q (Err x) e h q = subst Q (sym h.1) q
+
+pub if_err : {A E : Type 0} (Q : E → Type 0) (r : Result A E) (e : E) → IsErr r × IsErrAnd r (λ x. x ≡ e) → Q e → IfErr r Q
+if_err Q (Ok x) e h q = tt
+if_err Q (Err x) e h q = subst Q (sym h.1) q
+
+pub err_of : {A E : Type 0} (r : Result A E) (e x : E) → IsErr r × IsErrAnd r (λ y. y ≡ e) → e ≡ x → IsErrOf r x
+err_of (Ok y) e x h is = absurd (true≢false (sym h.0))
+err_of (Err y) e x h is = ap Err (h.1 ∙ is)
+
+-- ---- damage
+
+pub unread_damage : (held : Held) (name : List ℕ) (parent count vid : ℕ) (old new : State) (off : StoreErr) → Looked old new → IsUnread held name parent count vid old new off
+    → IsDamageOf (HasDamage held name parent count vid new) off
+unread_damage held name parent count vid old new off looked unread = by off unread
+  where
+    page_of : (x : StoreErr) (page : ℕ) → x ≡ why.Damaged Pages page → IsNotGrownIn (set_in held.numbers name) parent count vid old page → IsDamageOf (HasDamage held name parent count vid new) x
+    page_of x page is off_ = subst (IsDamageOf (HasDamage held name parent count vid new)) (sym is) (refl, record { before = old; looked = looked; damaged = inr (inl off_) })
+
+    by : (e : StoreErr) → IsUnread held name parent count vid old new e → IsDamageOf (HasDamage held name parent count vid new) e
+    by (why.Damaged area at) (inl u) = (u.0, record { before = old; looked = looked; damaged = inl u.2 })
+    by (why.Damaged area at) (inr u) = page_of (why.Damaged area at) u.0 u.1 u.2
+    by why.Host u = tt
+    by why.Memory u = tt
+    by (why.Full pages) u = tt
+    by why.JournalFull u = tt
+    by why.NoCvd u = tt
+    by why.CvdExists u = tt
+    by (why.NoVersion v) u = tt
+    by (why.RepeatedVersion v) u = tt
+    by (why.DuplicateKey row) u = tt
+    by why.TooManyVersions u = tt
+    by why.TooManyRecords u = tt
+    by why.TooManyRows u = tt
+    by why.TooManyCvds u = tt
+    by why.NoNumbers u = tt
+    by (why.FormatOne row) u = tt
+
+pub commit_damage : {A : Type 0} (r : Result A StoreErr) (held : Held) (name : List ℕ) (parent count vid : ℕ) (wish : Wish) (k l : Kept) (mid new : State) → wish.vids ≡ parent ∷ []
+    → IfErr r (IsUncommitted held name wish mid new) → IfErr r (λ off. Stays off k l mid new) → IfErr r (IsDamageOf (HasDamage held name parent count vid new))
+commit_damage (Ok x) held name parent count vid wish k l mid new vids why_ stays = tt
+commit_damage (Err off) held name parent count vid wish k l mid new vids why_ stays = by off why_ stays
+  where
+    by : (e : StoreErr) → IsUncommitted held name wish mid new e → Stays e k l mid new → IsDamageOf (HasDamage held name parent count vid new) e
+    by (why.Damaged area at) u s = (u.0, record { before = mid; looked = s.1; damaged = inr (inr (wish, vids, u.2)) })
+    by why.Host u s = tt
+    by why.Memory u s = tt
+    by (why.Full pages) u s = tt
+    by why.JournalFull u s = tt
+    by why.NoCvd u s = tt
+    by why.CvdExists u s = tt
+    by (why.NoVersion v) u s = tt
+    by (why.RepeatedVersion v) u s = tt
+    by (why.DuplicateKey row) u s = tt
+    by why.TooManyVersions u s = tt
+    by why.TooManyRecords u s = tt
+    by why.TooManyRows u s = tt
+    by why.TooManyCvds u s = tt
+    by why.NoNumbers u s = tt
+    by (why.FormatOne row) u s = tt

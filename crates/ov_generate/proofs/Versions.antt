@@ -1,6 +1,6 @@
 -- One version, out of the answers of the calls that make it.
-use Rattle.std.proofs.Common.{◌≡◌, ◌≤◌, ◌<◌, ◌+◌, ◌-◌, ◌∙◌, ℕ, List, [], ◌∷◌, codes, length, refl, sym, ap, subst, arith}
-use Rattle.std.specs.Prelude.{Err, IfOk, MatchResult, None, Ok, OnOk, Result, Some}
+use Rattle.std.proofs.Common.{◌≡◌, ◌≤◌, ◌+◌, ◌-◌, ◌∙◌, ℕ, List, [], ◌∷◌, codes, length, sym, ap, subst, arith}
+use Rattle.std.specs.Prelude.{Err, IfOk, MatchResult, None, Ok, OnOk, Result}
 use Rattle.ov_host.specs.Host.{State}
 use Rattle.ov_host.specs.Stops.{Only}
 use Rattle.ov_core.specs.AtWorld.{IsAtNext, IsAtWorld, IsEither}
@@ -8,7 +8,7 @@ use Rattle.ov_core.specs.Held.{Held}
 use Rattle.ov_fetch.specs.Extents.{Looked}
 use Rattle.ov_gen.specs.Versions.{IsGrown}
 use Rattle.ov_model.specs.Book.{Row}
-use Rattle.ov_model.specs.Generator.{Drawn, child_of, parent_drawn}
+use Rattle.ov_model.specs.Generator.{child_of, parent_drawn}
 use Rattle.ov_model.specs.Records.{rows_at}
 use Rattle.ov_model.specs.World.{World}
 use Rattle.ov_store.specs.Committing.{IsCommitted, Set, Wish, commit_move, committed}
@@ -50,6 +50,11 @@ pub known_ok : (r : Result Committed StoreErr) (name : List ℕ) (old new : Held
     → IfOk r (λ made. IsKnown new.numbers name)
 known_ok (Ok made) name old new k wish t done = known_more name old new k wish t made done
 known_ok (Err off) name old new k wish t done = tt
+
+pub rows_ok : (r : Result Committed StoreErr) (s : Set) (wish : Wish) (t : State) (old new : Held) → IfOk r (IsCommitted s wish t old new) → length wish.rows ≤ 1000000
+    → IfOk r (λ made. made.rows ≤ 1000000)
+rows_ok (Ok made) s wish t old new done few = omega (arith, done.rows_is, few)
+rows_ok (Err off) s wish t old new done few = tt
 
 module _ (w : World) (name : List ℕ) (number count : ℕ) (g : Grown) (h : HasGrown w name number count g) (wish : Wish) (vids_are : wish.vids ≡ (parent_next g).is ∷ []) (message_is : wish.message ≡ codes "gen")
     (rows_are : wish.rows ≡ (rows_next count g).is) (versions : length g.done + 1 ≤ 65535) (most : count + (length g.done + 1) ≤ 1000000)

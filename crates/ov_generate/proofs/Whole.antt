@@ -1,41 +1,33 @@
 -- A whole dataset, move by move: done, refused, or broken off.
-use Rattle.std.proofs.Common.{◌≡◌, ◌≤◌, ◌<◌, ◌+◌, ◌-◌, ◌*◌, ◌^◌, ℕ, zero, suc, Bool, true, false, List, [], ◌∷◌, ◌++◌, length, map, codes, refl, sym, ◌∙◌, ap, subst, inl, inr, arith, append-nil, length-append}
-use Rattle.std.specs.Prelude.{Option, Some, None, IfErr, Result, min}
+use Rattle.std.proofs.Common.{◌≡◌, ◌≤◌, ◌+◌, ◌-◌, ℕ, suc, Bool, true, false, List, [], ◌∷◌, ◌++◌, length, map, refl, sym, ◌∙◌, ap, subst, arith, append-nil, length-append}
+use Rattle.std.specs.Prelude.{Some, None}
 use Rattle.std.specs.Option.{option_or}
 use Rattle.std.specs.List.{sum_by}
 use Rattle.std.proofs.lemmas.List.Sums.{sum_by-cons, sum_by_push, sum-map}
-use Rattle.std.proofs.lemmas.List.{map-append}
 use Rattle.ov_host.specs.Host.{State}
-use Rattle.ov_host.specs.Stops.{Only}
 use Rattle.ov_host.specs.declared.area.Extent.{Extent}
 use Rattle.ov_catalog.specs.Numbers.{Numbers}
-use Rattle.ov_core.specs.AtWorld.{IsAtNext, IsAtWorld, IsEither}
+use Rattle.ov_core.specs.AtWorld.{IsAtWorld}
 use Rattle.ov_core.specs.Held.{Held}
 use Rattle.ov_fetch.specs.Extents.{Looked}
-use Rattle.ov_gen.proofs.Orders.{in-order}
-use Rattle.std.specs.List.Sorted.{IsStrictlySortedBy}
-use Rattle.ov_value.specs.Rows.{key_cmp}
-use Rattle.ov_model.specs.Act.{Deed, Session, generate_by, generated_reply, init_refusal, members_of, refuses, unless}
+use Rattle.ov_gen.specs.Versions.{IsGrown}
+use Rattle.ov_gen.proofs.Growing.{begin-few}
+use Rattle.ov_model.specs.Act.{Deed, Session, generate_by, generated_reply, init_refusal, members_of, unless}
 use Rattle.ov_model.specs.Book.{Row, Version}
-use Rattle.ov_model.specs.Course.{Item, Makes, world_after}
+use Rattle.ov_model.specs.Course.{Makes, world_after}
 use Rattle.ov_model.specs.Generator.{commits, fresh_rows, generated, generated_schema}
 use Rattle.ov_model.specs.Moves.{Init, Move, moved}
 use Rattle.ov_model.specs.Records.{order_of}
 use Rattle.ov_model.specs.Steps.{all_moved}
-use Rattle.ov_model.specs.World.{Dataset, World, set_named}
-use Rattle.ov_model.specs.declared.refusal.Refusal.{Refusal}
+use Rattle.ov_model.specs.World.{World, set_named}
 use Rattle.ov_model.specs.declared.refusal.Refusal.TheVariants as no
 use Rattle.ov_model.specs.declared.reply.Reply.TheVariants as says
-use Rattle.ov_store.specs.Beginning.{first_move}
 use Rattle.ov_store.specs.Kept.{Kept, Stays}
-use Rattle.ov_store.specs.Refusals.{new_off, off_if, refusal_of, refused}
-use Rattle.ov_store.specs.Worlds.{and_made}
+use Rattle.ov_store.specs.Refusals.{new_off, off_if, refusal_of}
 use Rattle.ov_store.specs.declared.errors.StoreErr.{StoreErr}
 use Rattle.ov_store.specs.declared.errors.StoreErr.TheVariants as why
-use Rattle.law_room.specs.Room.{Entry, IsWithin, LacksRecord, LacksRun, Made}
-use Rattle.law_runs.specs.Serving.{Breaks, Does}
-use Rattle.law_runs.specs.Stops.{printed_of}
-use Rattle.law_runs.proofs.Doing.{breaks_looked, does_told}
+use Rattle.law_runs.specs.Serving.{Does}
+use Rattle.law_runs.proofs.Doing.{does_told}
 use Rattle.law_moves.specs.Doing.{IsDoing, IsMoved}
 use Rattle.law_moves.proofs.Doing.{breaks_here, breaks_next, does_all, does_full, does_no_run, doing_looked, doing_more, doing_none}
 use Rattle.law_generated.specs.Grown.{Grown, HasGrown, begun, grown_more, move_next, rows_next}
@@ -135,10 +127,10 @@ sum_last done rows = sum_by_push (λ (r : List Row). length r) done rows
 
 module _ (w : World) (s : Session) (name : List ℕ) (seed count versions : ℕ) (before : Held) (old : State) where
   -- after the first version
-  pub growing_first : (now : Held) (new : State) → IsAtWorld w before old → set_named w name ≡ None → 1 ≤ versions
-      → IsMoved (Init name generated_schema (fresh_rows count 1 seed).is) w before now old new
-      → IsGrowing w s name seed count versions (versions - 1) (fresh_rows count 1 seed).state (length (fresh_rows count 1 seed).is) before now old new
-  growing_first now new at free some step = record {
+  pub growing_first : (now : Held) (new : State) (state members : ℕ) → IsAtWorld w before old → set_named w name ≡ None → 1 ≤ versions → state ≡ (fresh_rows count 1 seed).state
+      → members ≡ length (fresh_rows count 1 seed).is → IsMoved (Init name generated_schema (fresh_rows count 1 seed).is) w before now old new
+      → IsGrowing w s name seed count versions (versions - 1) state members before now old new
+  growing_first now new state members at free some drawn counted step = record {
     g = begun seed count;
     v = moved (Init name generated_schema (fresh_rows count 1 seed).is) w;
     doing = doing_more (the_deed w s name seed count versions) w w (Init name generated_schema (fresh_rows count 1 seed).is)
@@ -146,12 +138,23 @@ module _ (w : World) (s : Session) (name : List ℕ) (seed count versions : ℕ)
         (doing_none (the_deed w s name seed count versions) w before old at) now new step;
     has = has_begun w name count seed free;
     versions_are = omega (arith, some);
-    state_is = refl;
-    members_are = sym (sum_by-cons (λ (r : List Row). length r) (fresh_rows count 1 seed).is [] ∙ none_more);
+    state_is = drawn;
+    members_are = counted ∙ sym none_more ∙ sym (sum_by-cons (λ (r : List Row). length r) (fresh_rows count 1 seed).is []);
   }
     where
       none_more : length (fresh_rows count 1 seed).is + 0 ≡ length (fresh_rows count 1 seed).is
       none_more = omega arith
+
+  -- the first one isn't made
+  pub first_off : (kept later : Kept) (new : State) (off : StoreErr) → kept.held ≡ before → IsAtWorld w before old → init_refusal w name ≡ None
+      → IsUnmoved (Init name generated_schema (fresh_rows count 1 seed).is) w kept.held old new off → Stays off kept later old new
+      → Ends name (unless s (init_refusal w name) (the_deed w s name seed count versions)) s w before later.held old new off
+  first_off kept later new off held at free not_made stays =
+      let d : Deed = the_deed w s name seed count versions
+      in subst (λ o. Ends name (unless s o d) s w before later.held old new off) (sym free)
+      (ends_by d s w w (Init name generated_schema (fresh_rows count 1 seed).is)
+      (commits (versions - 1) w.next count (fresh_rows count 1 seed).state ((fresh_rows count 1 seed).is ∷ [])) refl name before kept later old old new
+      (subst (λ (h : Held). IsDoing d w w d.moves before h old old) (sym held) (doing_none d w before old at)) off not_made stays)
 
   module _ (left state members : ℕ) (now : Held) (mid : State) (is : IsGrowing w s name seed count versions (suc left) state members before now old mid) where
     pub growing_more : (later : Held) (new : State) (after_ more : ℕ) → IsMoved (move_next w.next count is.g) is.v now later mid new → after_ ≡ (grown_more count is.g).state
@@ -207,3 +210,6 @@ module _ (w : World) (s : Session) (name : List ℕ) (seed count versions : ℕ)
       in subst (λ r. Does d s s w r before now old new)
       (reply ∙ (λ i. says.Generate name (long i) (sym counted i) (all i)))
       (does_all d w is.v s before now old new is.doing)
+
+pub first_long : (count : ℕ) (rows : List Row) → IsGrown count 2 rows → length rows ≤ count + 1
+first_long count rows grown = omega (arith, begin-few count 1 (count + 2) rows (omega arith) grown)

@@ -1,18 +1,19 @@
 -- A version of a generated dataset, and the whole of one: how a call that makes it ends.
 --     IsKnown n name      the numbers have the dataset of this name, of generated rows
 --     IsNotGrown, IsUnread      the rows of a parent, as they are read, aren't those of a generated version; why they aren't given
+--     HasDamage held name parent count vid s page      what making a version finds damaged
 --     IsUnmoved m w ..      why a move wasn't made, where the store is at a World
 --     IsWanted wanted      what may be asked for
 --     Ends name d s w ..      a command that isn't done is refused, or broken off
-use Rattle.std.specs.Prelude.{◌≡◌, ◌⊎◌, ◌≤◌, ◌+◌, ◌*◌, ℕ, true, List, [], ◌∷◌, Option, Some, None}
+use Rattle.std.specs.Prelude.{◌≡◌, ◌⊎◌, ◌<◌, ◌≤◌, ◌+◌, ℕ, true, List, [], ◌∷◌, Option, Some, None}
 use Rattle.ov_host.specs.declared.area.Area.TheVariants.{Pages}
 use Rattle.ov_host.specs.declared.area.Extent.{Extent}
-use Rattle.ov_host.specs.Host.{Rose, State}
+use Rattle.ov_host.specs.Host.{State}
 use Rattle.ov_host.specs.Stops.{Only}
-use Rattle.ov_catalog.specs.Numbers.{Numbers, SetNumbers}
+use Rattle.ov_catalog.specs.Numbers.{Numbers}
 use Rattle.ov_core.specs.AtWorld.{IsEither}
 use Rattle.ov_core.specs.Held.{Held}
-use Rattle.ov_fetch.specs.Extents.{page_bytes}
+use Rattle.ov_fetch.specs.Extents.{Looked, page_bytes}
 use Rattle.ov_fetch.specs.Scans.{rows_at}
 use Rattle.ov_gen.specs.Versions.{IsGrown}
 use Rattle.ov_model.specs.Act.{Deed, Session}
@@ -24,10 +25,9 @@ use Rattle.ov_model.specs.declared.reply.Reply.TheVariants as says
 use Rattle.ov_read.specs.Agreement.{list_of}
 use Rattle.ov_read.specs.Found.{IsScanned}
 use Rattle.ov_segment.specs.declared.numbered.Record.{Record}
-use Rattle.ov_store.specs.Committing.{IsUncommitted, Set, Wish}
-use Rattle.ov_store.specs.Kept.{Kept}
+use Rattle.ov_store.specs.Committing.{IfSet, IsDamagedAt, Set, Wish}
 use Rattle.ov_store.specs.Refusals.{refusal_of}
-use Rattle.ov_store.specs.Scanning.{IsUnscanned, scan_off, set_in}
+use Rattle.ov_store.specs.Scanning.{IsDamagedIn, IsUnscanned, scan_off, set_in}
 use Rattle.ov_store.specs.declared.errors.StoreErr.{StoreErr}
 use Rattle.ov_store.specs.declared.errors.StoreErr.TheVariants as why
 use Rattle.ov_generate.specs.declared.generating.Wanted.{Wanted}
@@ -66,6 +66,32 @@ abbrev pub IsUnread : Held → List ℕ → ℕ → ℕ → ℕ → State → St
 IsUnread held name parent count vid old new off =
     IsUnscanned (scan_off held.numbers name (parent ∷ [])) (set_in held.numbers name) (parent ∷ []) old new off
     ⊎ ((page : ℕ) × (off ≡ why.Damaged Pages page) × IsNotGrownIn (set_in held.numbers name) parent count vid old page)
+
+-- ---- damage
+
+-- At a state at which the host was at most looked at since: a scan of the parent is damaged, or its rows aren't those that were
+-- made, or what the commit reads is damaged.
+pub record HasDamage (held : Held) (name : List ℕ) (parent count vid : ℕ) (s : State) (page : ℕ) : Type 0 where
+  pub before : State
+  pub looked : Looked before s
+  pub damaged : IsDamagedIn (set_in held.numbers name) (parent ∷ []) before page
+      ⊎ (IsNotGrownIn (set_in held.numbers name) parent count vid before page
+      ⊎ ((wish : Wish) × (wish.vids ≡ parent ∷ []) × IfSet (λ set. IsDamagedAt set wish before page) (set_in held.numbers name)))
+
+-- of one of so many versions
+pub record HasDamagedVersion (held : Held) (name : List ℕ) (count versions : ℕ) (s : State) (page : ℕ) : Type 0 where
+  pub vid : ℕ
+  pub later : 2 ≤ vid
+  pub within : vid ≤ versions
+  pub parent : ℕ
+  pub some : 1 ≤ parent
+  pub earlier : parent < vid
+  pub damage : HasDamage held name parent count vid s page
+
+-- damage of the pages, at a page of which this holds
+abbrev pub IsDamageOf : (ℕ → Type 0) → StoreErr → Type 0
+IsDamageOf P (why.Damaged area at) = (area ≡ Pages) × P at
+IsDamageOf P _ = Unit {0}
 
 -- ---- a move
 

@@ -12,9 +12,10 @@ ghost use Rattle.ov_model.specs.declared.command.Command.TheVariants as asks;
 ghost use Rattle.ov_model.specs.declared.reply.Reply.TheVariants as says;
 ghost use Rattle.ov_store.specs.Kept.{MayCall};
 ghost use Rattle.ov_store.specs.Refusals.{new_off};
+ghost use Rattle.ov_store.specs.Scanning.{IsUndamaged};
 ghost use Rattle.ov_store.specs.declared.errors.StoreErr.{StoreErr as StoreErrValue};
 ghost use Rattle.law_runs.specs.Serving.{Does};
-ghost use Rattle.ov_generate.specs.Making.{Ends, IsKnown, IsWanted};
+ghost use Rattle.ov_generate.specs.Making.{Ends, HasDamagedVersion, IsDamageOf, IsKnown, IsWanted};
 
 use crate::version::add_version;
 use ov_gen::{Gen, generate_schema};
@@ -84,6 +85,8 @@ pub fn generate<H: Host>(
     ensures counted { min (H.state host.old).fetched (2 ^ 64 - 1) ≤ (H.state host.new).fetched }
     ensures unread { (off : StoreErrValue) → new_off store.old.held.numbers wanted.now.cvd ≡ Some off → H.state host.new ≡ H.state host.old }
     ensures cause { IsErrOf result StoreErr.Host → Rose (H.state host.old).faults (H.state host.new).faults }
+    ensures damaged { IfErr result (IsDamageOf (HasDamagedVersion store.new.held wanted.now.cvd wanted.now.rows wanted.now.versions (H.state host.new))) }
+    ensures undamaged { (w : World) → IsAtWorld w store.old.held (H.state host.old) → IfErr result IsUndamaged }
     ensures usable { (IsErrOf result StoreErr.Host → ⊥) → MayCall store.new (H.state host.new) }
     ensures by_journal { IsByJournal store.old.held (H.state host.old) → (IsErrOf result StoreErr.Host → ⊥) → IsByJournal store.new.held (H.state host.new) }
     ensures acts { (w : World) (s : Session) → IsAtWorld w store.old.held (H.state host.old) → MatchResult result

@@ -12,7 +12,7 @@ ghost use Rattle.ov_store.specs.Kept.{MayCall, Stays};
 ghost use Rattle.ov_store.specs.Scanning.{set_in};
 ghost use Rattle.law_generated.specs.Grown.{Grown, HasGrown, grown_more, move_next, rows_next};
 ghost use Rattle.law_moves.specs.Doing.{IsMoved};
-ghost use Rattle.ov_generate.specs.Making.{IsKnown, IsUnmoved};
+ghost use Rattle.ov_generate.specs.Making.{HasDamage, IsDamageOf, IsKnown, IsUnmoved};
 
 use crate::parent::parent_rows;
 use ov_gen::Gen;
@@ -47,7 +47,9 @@ pub(crate) fn add_version<H: Host>(
     ensures counted { min (H.state host.old).fetched (2 ^ 64 - 1) ≤ (H.state host.new).fetched }
     ensures known { IfOk result (λ made. IsKnown store.new.held.numbers cvd.now) }
     ensures source { IfOk result (λ made. source.new.rows ≡ count) }
+    ensures rows_few { IfOk result (λ made. made.rows ≤ 1000000) }
     ensures cause { IsErrOf result StoreErr.Host → Rose (H.state host.old).faults (H.state host.new).faults }
+    ensures damaged { IfErr result (IsDamageOf (HasDamage store.old.held cvd.now (parent_drawn (vid - 1) source.old.state).is count vid (H.state host.new))) }
     ensures stays { IfErr result (λ off. Stays off store.old store.new (H.state host.old) (H.state host.new)) }
     ensures usable { OnOk result (MayCall store.new (H.state host.new)) }
     ensures by_journal { IsByJournal store.old.held (H.state host.old) → OnOk result (IsByJournal store.new.held (H.state host.new)) }

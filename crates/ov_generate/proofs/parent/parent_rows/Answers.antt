@@ -1,5 +1,4 @@
-use Rattle.std.proofs.Common.{rules, ◌≡◌, ◌∙◌, ◌⊎◌, ℕ, List, [], ◌∷◌, true, get_or, refl, sym, ap, subst, inl, inr}
-use Rattle.std.specs.Prelude.{Err, MatchResult, Result, Some, Vec}
+use Rattle.std.proofs.Common.{rules, ◌≡◌, ◌∙◌, List, [], ◌∷◌, get_or, refl, sym, ap, subst, inr}
 use Rattle.std.proofs.lemmas.Bool.{false≢true}
 use Rattle.ov_fetch.specs.Extents.{page_bytes}
 use Rattle.ov_fetch.specs.Scans.{rows_at}
@@ -7,8 +6,7 @@ use Rattle.ov_gen.specs.Versions.{IsGrown}
 use Rattle.ov_model.specs.Book.{Row}
 use Rattle.ov_model.specs.Records as model
 use Rattle.ov_read.specs.Found.{IsScanned}
-use Rattle.ov_store.specs.Committing.{Set}
-use Rattle.ov_store.specs.Scanning.{IsUndamaged, set_in}
+use Rattle.ov_store.specs.Scanning.{IsUndamaged}
 use Rattle.ov_generate.specs.Making.{IsNotGrownIn}
 use Rattle.ov_generate.proofs.Reading.{one_beside, one_pick}
 use Rattle.ov_generate.proofs.parent.parent_rows.Goals as goal

@@ -1,4 +1,4 @@
-use Rattle.std.proofs.Common.{◌≡◌, ◌≤◌, ◌<◌, ◌+◌, drop}
+use Rattle.std.proofs.Common.{◌≡◌, ◌≤◌, ◌+◌, drop}
 use Rattle.ov_gen.specs.Versions.{Begin}
 use Rattle.ov_generate.proofs.Growing.{Rest}
 use Rattle.ov_generate.proofs.rows.are_grown.Given as goal
