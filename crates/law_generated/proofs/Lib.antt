@@ -1,0 +1,3 @@
+pub mod Fresh
+pub mod Finding
+pub mod Steps

@@ -1,0 +1,9 @@
+//! A command of several moves, each made by one call of the store: what is done so far, and how it ends.
+//!
+//! There is no code here: definitions in `specs/`, laws that are contracts of functions that do nothing, and the lemmas by
+//! which such a command is put together.
+#![tactic(auto)]
+
+mod laws;
+
+pub use laws::{moves_make_a_deed, the_first_move_without_room_ends_a_deed};
