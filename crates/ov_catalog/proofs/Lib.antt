@@ -14,8 +14,14 @@ pub mod PartLemmas
 pub mod CommitLemmas
 pub mod SchemaLemmas
 pub mod RoomLemmas
-pub mod StepLemmas
 pub mod Following
 pub mod WorkedLemmas
 pub mod Ascending
 pub mod WorkedChains
+pub mod FlipLemmas
+pub mod RunLemmas
+pub mod GraphLemmas
+pub mod TargetLemmas
+pub mod SplitLemmas
+pub mod TurnLemmas
+pub mod SeenLemmas

@@ -6,7 +6,8 @@ use Rattle.std.proofs.lemmas.List.Sums.{sum_by-cons}
 use Rattle.std.proofs.lemmas.List.Folds.{list_any-append}
 use Rattle.ov_host.specs.declared.area.Extent.{Extent}
 use Rattle.ov_layout.specs.declared.part.Part.{Part}
-use Rattle.ov_layout.specs.Parts.{has, serves, Ascend, part_with, is_number, is_placed, records_at, stored_of}
+use Rattle.ov_layout.specs.Parts.{has, serves, Ascend, ArePartsFrom, part_numbered, part_with, is_number, is_placed, records_at, stored_of}
+use Rattle.ov_layout.proofs.VidLemmas.{has-below}
 use Rattle.ov_layout.specs.Index.{numbers_of}
 use Rattle.ov_layout.specs.Changes.{extents_of, own_part, joined_part, joined_at}
 use Rattle.ov_catalog.specs.Numbers.{PartNumbers}
@@ -142,3 +143,109 @@ join-placed vid added id segment (part ∷ parts) h =
       | inl e ↦ rw e (rw (joined-serves vid added segment part vid, eq-eqb vid vid refl, or-true (serves vid part)) refl)
       | inr e ↦ rw e (rw (join-placed vid added id segment parts (rw e at h)) (or-true (serves vid part)))
     ]
+
+-- which versions are not placed then
+own-not : (id vid records : ℕ) (segment : Extent) (v : ℕ) → (v ≡ vid → ⊥) → serves v (own_part id vid records segment) ≡ false
+own-not id vid records segment v ne = rw (ne_eqb vid v (λ e. ne (sym e))) refl
+
+pub own-others : (id vid records : ℕ) (segment : Extent) (parts : List Part) (v : ℕ) → (v ≡ vid → ⊥) → is_placed parts v ≡ false → is_placed (parts ++ own_part id vid records segment ∷ []) v ≡ false
+own-others id vid records segment parts v ne h =
+    list_any-append (serves v) parts (own_part id vid records segment ∷ []) ∙ (rw (h, own-not id vid records segment v ne) refl)
+
+pub join-others-out : (vid added id : ℕ) (segment : Extent) (parts : List Part) (v : ℕ) → (v ≡ vid → ⊥) → is_placed parts v ≡ false → is_placed (joined_at vid id added segment parts) v ≡ false
+join-others-out vid added id segment [] v ne h = refl
+join-others-out vid added id segment (part ∷ parts) v ne h =
+    elim (cases_Bool (serves v part)) [
+      | inl here ↦ let no = rw here at h in absurd cc
+      | inr away ↦
+          let rest = join-others-out vid added id segment parts v ne (rw away at h) in
+          let last : eqb vid v ≡ false = ne_eqb vid v (λ e. ne (sym e)) in
+          elim (cases_Bool (eqb part.id id)) [
+            | inl e ↦ rw e (rw (joined-serves vid added segment part v, away, last, rest) refl)
+            | inr e ↦ rw (e, away, rest) refl
+          ]
+    ]
+
+-- the partitions of other numbers
+pub own-numbered : (next vid records : ℕ) (segment : Extent) (parts : List Part) (id : ℕ) (part : Part) → part_numbered id parts ≡ Some part → part_numbered id (parts ++ own_part next vid records segment ∷ []) ≡ Some part
+own-numbered next vid records segment [] id part h = absurd cc
+own-numbered next vid records segment (p ∷ parts) id part h =
+    elim (cases_Bool (eqb p.id id)) [
+      | inl e ↦ rw e (rw e at h)
+      | inr e ↦ rw e (own-numbered next vid records segment parts id part (rw e at h))
+    ]
+
+pub join-numbered : (vid added id : ℕ) (segment : Extent) (parts : List Part) (other : ℕ) (part : Part) → (id ≡ other → ⊥) → part_numbered other parts ≡ Some part → part_numbered other (joined_at vid id added segment parts) ≡ Some part
+join-numbered vid added id segment [] other part ne h = absurd cc
+join-numbered vid added id segment (p ∷ parts) other part ne h =
+    elim (cases_Bool (eqb p.id other)) [
+      | inl e ↦
+          let same : p.id ≡ other = eqb-true p.id other e in
+          let away : eqb p.id id ≡ false = ne_eqb p.id id (λ is. ne (sym is ∙ same)) in
+          rw (away, e) (rw e at h)
+      | inr e ↦
+          let rest = join-numbered vid added id segment parts other part ne (rw e at h) in
+          elim (cases_Bool (eqb p.id id)) [
+            | inl is ↦ rw (is, e) rest
+            | inr not_so ↦ rw (not_so, e) rest
+          ]
+    ]
+
+-- and none has the number 0
+next-some : (least next : ℕ) (parts : List Part) → ArePartsFrom least next parts → least ≤ next
+next-some least next [] h = h
+next-some least next (part ∷ parts) h = let rest = next-some (suc part.id) next parts h.2 in let le = h.0 in omega (arith, rest, le)
+
+pub own-zero : (next vid records : ℕ) (segment : Extent) (parts : List Part) → ArePartsFrom 1 next parts → part_numbered 0 (parts ++ own_part next vid records segment ∷ []) ≡ None
+own-zero next vid records segment parts h = zero-from 1 parts h (omega arith)
+  where
+    zero-from : (least : ℕ) (parts : List Part) → ArePartsFrom least next parts → 1 ≤ least → part_numbered 0 (parts ++ own_part next vid records segment ∷ []) ≡ None
+    zero-from least [] h some = rw (ne_eqb next 0 (λ e. absurd (let le = h in omega (arith, e, le, some)))) refl
+    zero-from least (part ∷ parts) h some =
+        let le = h.0 in
+        rw (ne_eqb part.id 0 (λ e. absurd (omega (arith, e, le, some)))) (zero-from (suc part.id) parts h.2 (omega arith))
+
+pub join-zero : (next vid added id : ℕ) (segment : Extent) (parts : List Part) → ArePartsFrom 1 next parts → part_numbered 0 (joined_at vid id added segment parts) ≡ None
+join-zero next vid added id segment parts h = zero-from 1 parts h (omega arith)
+  where
+    zero-from : (least : ℕ) (parts : List Part) → ArePartsFrom least next parts → 1 ≤ least → part_numbered 0 (joined_at vid id added segment parts) ≡ None
+    zero-from least [] h some = refl
+    zero-from least (part ∷ parts) h some =
+        let le = h.0 in
+        let ne : eqb part.id 0 ≡ false = ne_eqb part.id 0 (λ e. absurd (omega (arith, e, le, some))) in
+        let rest = zero-from (suc part.id) parts h.2 (omega arith) in
+        elim (cases_Bool (eqb part.id id)) [
+          | inl is ↦ rw (is, ne) rest
+          | inr not_so ↦ rw (not_so, ne) rest
+        ]
+
+-- the partition that serves a version is the one of its number
+pub serving-has : (least vid : ℕ) (parts : List Part) (part : Part) → Ascend least (numbers_of parts) → is_placed parts vid ≡ true → part_numbered (id_in (part_serving (map part_in parts) vid)) parts ≡ Some part → has part.versions vid ≡ true
+serving-has least vid [] part h there found = absurd cc
+serving-has least vid (p ∷ parts) part h there found =
+    elim (cases_Bool (serves vid p)) [
+      | inl e ↦
+          let is : id_in (part_serving (map part_in (p ∷ parts)) vid) ≡ p.id = rw e refl in
+          let own : part_numbered p.id (p ∷ parts) ≡ Some part = subst (λ (n : ℕ). part_numbered n (p ∷ parts) ≡ Some part) is found in
+          let first : Some p ≡ Some part = rw (eq-eqb p.id p.id refl) at own in
+          let same : p ≡ part = cc in
+          ap (λ (x : Part). has x.versions vid) (sym same) ∙ e
+      | inr e ↦
+          let placed : is_placed parts vid ≡ true = rw e at there in
+          let id = id_in (part_serving (map part_in parts) vid) in
+          let is : id_in (part_serving (map part_in (p ∷ parts)) vid) ≡ id_in (part_serving (map part_in parts) vid) = rw e refl in
+          let later : part_numbered id (p ∷ parts) ≡ Some part = subst (λ (n : ℕ). part_numbered n (p ∷ parts) ≡ Some part) is found in
+          let ne : eqb p.id id ≡ false = ne_eqb p.id id (λ same. before p.id id (numbers_of parts) h.1 same (numbers-has id parts (serving-there vid parts placed))) in
+          serving-has (suc p.id) vid parts part h.1 placed (rw ne at later)
+    ]
+  where
+    numbers-has : (id : ℕ) (parts : List Part) → is_number parts id ≡ true → has (numbers_of parts) id ≡ true
+    numbers-has id [] h = h
+    numbers-has id (part ∷ parts) h =
+        elim (cases_Bool (eqb part.id id)) [
+          | inl e ↦ rw e refl
+          | inr e ↦ rw e (numbers-has id parts (rw e at h))
+        ]
+
+    before : (n id : ℕ) (ids : List ℕ) → Ascend (suc n) ids → n ≡ id → has ids id ≡ true → ⊥
+    before n id ids h same there = let out = has-below (suc n) ids id h (omega (arith, same)) in absurd cc

@@ -1,5 +1,5 @@
 -- Datasets by their numbers.
-use Rattle.std.proofs.Common.{◌≡◌, ℕ, zero, suc, ◌<◌, Bool, true, false, not, eqb, ltb, List, [], ◌∷◌, ◌++◌, length, get_or, set, map, refl, sym, ap, ◌∙◌, inl, inr, arith, append-nil}
+use Rattle.std.proofs.Common.{◌≡◌, ℕ, zero, suc, ◌<◌, Bool, true, false, not, eqb, ltb, List, [], ◌∷◌, ◌++◌, length, get_or, set, map, refl, sym, ap, ◌∙◌, inl, inr, arith}
 use Rattle.std.specs.Prelude.{filter, find, Some, None, flat_map}
 use Rattle.std.specs.List.Sorted.{IsPartitionPoint}
 use Rattle.std.proofs.lemmas.Bool.{cases_Bool, eq-eqb, ne_eqb}
@@ -10,10 +10,10 @@ use Rattle.ov_layout.proofs.VidLemmas.{Ascend-weaker, keys-strict, point-missing
 use Rattle.ov_catalog.specs.declared.cvd.Cvd.{Cvd}
 use Rattle.ov_catalog.specs.declared.cvd.Version.{Version}
 use Rattle.ov_layout.specs.declared.part.Part.{Part}
-use Rattle.ov_catalog.specs.Extents.{of_set}
+use Rattle.ov_catalog.specs.Extents.{of_plan, of_set}
 use Rattle.ov_catalog.specs.Numbers.{SetNumbers, VersionNumbers, PartNumbers}
 use Rattle.ov_catalog.specs.Events.{numbered, change}
-use Rattle.ov_catalog.specs.Sets.{set_in, sets_in, numbers_of, stays, version_in, part_in}
+use Rattle.ov_catalog.specs.Sets.{set_in, sets_in, numbers_of, stays, version_in, part_in, plan_in}
 
 abbrev pub number_of : Cvd → ℕ
 number_of d = d.number
@@ -118,7 +118,7 @@ pub missing : (n at : ℕ) (sets : List Cvd) → Ascend 0 (numbers_of sets) → 
 missing n at [] h point none = refl
 missing n at (s ∷ sets) h point none = point-missing number_of (s ∷ sets) s 0 n at h point (none s)
 
--- the extents of a dataset without a plan
+-- the extents of a dataset
 lists-in : (versions : List Version) → map (λ (v : VersionNumbers Extent). v.list) (map version_in versions) ≡ map (λ (v : Version). v.list) versions
 lists-in [] = refl
 lists-in (v ∷ versions) = ap (λ (es : List Extent). v.list ∷ es) (lists-in versions)
@@ -127,9 +127,17 @@ segments-in : (parts : List Part) → flat_map (λ (p : PartNumbers Extent). p.s
 segments-in [] = refl
 segments-in (p ∷ parts) = ap (λ (es : List Extent). p.segments ++ es) (segments-in parts)
 
-pub extents-of : (d : Cvd) → d.plan ≡ None → of_set (set_in d) ≡ map (λ (v : Version). v.list) d.versions.items ++ flat_map (λ (p : Part). p.segments) d.layout.parts
-extents-of d idle =
-    rw (idle, lists-in d.versions.items, segments-in d.layout.parts) (ap (λ (es : List Extent). map (λ (v : Version). v.list) d.versions.items ++ es) (append-nil (flat_map (λ (p : Part). p.segments) d.layout.parts)))
+pub extents-of : (d : Cvd) → of_set (set_in d) ≡ map (λ (v : Version). v.list) d.versions.items ++ (flat_map (λ (p : Part). p.segments) d.layout.parts ++ of_plan (plan_in d.plan))
+extents-of d = rw (lists-in d.versions.items, segments-in d.layout.parts) refl
+
+-- a change of a dataset that isn't there
+pub change-none : (n : ℕ) (f : SetNumbers Extent Extent → SetNumbers Extent Extent) (sets : List (SetNumbers Extent Extent)) → find (numbered n) sets ≡ None → sets ≡ change n f sets
+change-none n f [] h = refl
+change-none n f (s ∷ sets) h =
+    elim (cases_Bool (eqb s.number n)) [
+      | inl e ↦ let no = rw e at h in absurd cc
+      | inr e ↦ rw e (ap (λ (xs : List (SetNumbers Extent Extent)). s ∷ xs) (change-none n f sets (rw e at h)))
+    ]
 
 pub filter-empty : {X : Type 0} (p : X → Bool) (xs : List X) → find p xs ≡ None → filter p xs ≡ []
 filter-empty p [] h = refl

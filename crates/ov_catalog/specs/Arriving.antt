@@ -1,6 +1,6 @@
 -- A commit's event without its dataset.
 --     arrival_off message parents new d      the first part of it that can't follow what the dataset has
-use Rattle.std.specs.Prelude.{◌+◌, ◌≤◌, ◌^◌, ℕ, List, Option, Some, None}
+use Rattle.std.specs.Prelude.{◌≡◌, ◌+◌, ◌≤◌, ◌^◌, ℕ, List, Option, Some, None}
 use Rattle.ov_layout.specs.declared.part.Part.{Part}
 use Rattle.ov_layout.specs.Parts.{records_at}
 use Rattle.ov_place.specs.declared.place_facts.Place.{Place}
@@ -24,3 +24,8 @@ part_asked (Join id) = Some id
 abbrev pub FitsRecords : Place → ℕ → List Part → Type 0
 FitsRecords Own added parts = Unit {0}
 FitsRecords (Join id) added parts = records_at id parts + added ≤ 2 ^ 31
+
+-- a partition of this number isn't the one that is joined
+abbrev pub IsOther : Place → ℕ → Type 0
+IsOther Own id = Unit {0}
+IsOther (Join other) id = other ≡ id → ⊥

@@ -11,6 +11,9 @@ pub mod Reached
 pub mod Stands
 pub mod Snapshots
 pub mod Told
+pub mod Splitting
+pub mod Seen
+pub mod Running
 pub mod Sets
 pub mod Answers
 pub mod Ready

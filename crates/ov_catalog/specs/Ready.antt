@@ -1,10 +1,12 @@
 -- What a catalog keeps ready, so that an event takes no memory.
 --     Kept      what contracts see of a catalog
 --     HasRoom e ready      there is room for the event
-use Rattle.std.specs.Prelude.{◌≡◌, ◌+◌, ◌≤◌, ◌<◌, ◌^◌, ◌-◌, ℕ, List, [], length, Vec, vec_capacity, codes, None, All, true}
+use Rattle.std.specs.Prelude.{◌≡◌, ◌+◌, ◌≤◌, ◌<◌, ◌^◌, ℕ, List, [], length, map, Vec, vec_capacity, codes, Option, None, Some, All, true, false}
 use Rattle.std.specs.declared.alloc.Global.{Global}
 use Rattle.ov_event.specs.declared.event.Event as raw
 use Rattle.ov_event.specs.declared.event.Event.TheVariants as says
+use Rattle.ov_event.specs.declared.event.PlanTarget.{PlanTarget}
+use Rattle.ov_graph.specs.Versions.{IsGraph}
 use Rattle.ov_host.specs.declared.area.Extent.{Extent}
 use Rattle.ov_layout.specs.declared.room.Room as layout
 use Rattle.ov_layout.specs.declared.room.Room.TheVariants as layout_for
@@ -14,30 +16,38 @@ use Rattle.ov_place.specs.declared.place_facts.Place.{Place}
 use Rattle.ov_place.specs.declared.place_facts.Place.TheVariants.{Own, Join}
 use Rattle.ov_value.specs.Shapes.{Shape}
 use Rattle.ov_catalog.specs.declared.cvd.Cvd.{Cvd}
+use Rattle.ov_catalog.specs.declared.cvd.Plan.{Plan}
+use Rattle.ov_catalog.specs.declared.cvd.Target.{Target}
 use Rattle.ov_catalog.specs.declared.room.Room.{Room}
 use Rattle.ov_catalog.specs.declared.room.Room.TheVariants as kept_for
 use Rattle.ov_catalog.specs.declared.room.Spare.{Spare}
 use Rattle.ov_catalog.specs.Numbers.{Numbers}
 use Rattle.ov_catalog.specs.Raw.{place_in, shape_in}
-use Rattle.ov_catalog.specs.Sets.{numbers_of}
+use Rattle.ov_catalog.specs.Events.{graph_of, planned}
+use Rattle.ov_catalog.specs.Running.{IsPlanned, IsRunning, current, left_of}
+use Rattle.ov_catalog.specs.Sets.{numbers_of, plan_in, set_in, version_in}
 
--- for which event there is room: for none, for an Init with a schema, for a Commit to a dataset at a place
+-- for which event there is room: for none, for an Init with a schema, for a Commit to a dataset at a place, for a Plan of a dataset
+-- at a threshold with what is said of its targets, for a Copy or a Flip in a dataset
 pub data Ready : Type 0 where
   Nothing : Ready
   ForInit : Shape → Ready
   ForCommit : ℕ → Place → Ready
+  ForPlan : (cvd p q : ℕ) → List PlanTarget → Ready
+  ForCopy : ℕ → Ready
+  ForFlip : ℕ → Ready
 
 pub record Kept : Type 0 where
   pub numbers : Numbers Extent Extent
   pub ready : Ready
 
--- A drop needs no room. None is made yet for events that aren't built.
+-- A drop needs no room. None is made yet for the events of a snapshot and for added columns.
 abbrev pub HasRoom : raw.Event → Ready → Type 0
 HasRoom (says.Init name schema rows list segment) ready = ready ≡ ForInit (shape_in schema)
 HasRoom (says.Commit cvd vid message parents rows fresh place added list segment) ready = ready ≡ ForCommit cvd (place_in place)
-HasRoom (says.Plan cvd p q targets) ready = ⊥
-HasRoom (says.Copy cvd count segment) ready = ⊥
-HasRoom (says.Flip cvd) ready = ⊥
+HasRoom (says.Plan cvd p q targets) ready = ready ≡ ForPlan cvd p q targets
+HasRoom (says.Copy cvd count segment) ready = ready ≡ ForCopy cvd
+HasRoom (says.Flip cvd) ready = ready ≡ ForFlip cvd
 HasRoom (says.Drop cvd) ready = Unit {0}
 HasRoom (says.Base next) ready = ⊥
 HasRoom (says.Whole said) ready = ⊥
@@ -46,21 +56,33 @@ HasRoom (says.Wide cvd vid message columns parents rows fresh place added list s
 abbrev pub IsForInit : Ready → Type 0
 IsForInit Nothing = ⊥
 IsForInit (ForInit schema) = Unit {0}
-IsForInit (ForCommit cvd place) = ⊥
+IsForInit _ = ⊥
+
+-- what a Plan said of a target
+abbrev pub said_by : Target → PlanTarget
+said_by t = record { size = t.size; source = t.source; kept = t.kept; kept_records = t.kept_records }
 
 abbrev pub ready_in : Room → Ready
 ready_in kept_for.Nothing = Nothing
 ready_in (kept_for.Init spare) = ForInit spare.schema
 ready_in (kept_for.Commit cvd place) = ForCommit cvd (place_in place)
+ready_in (kept_for.Plan cvd plan) = ForPlan cvd plan.p plan.q (map said_by plan.targets)
+ready_in (kept_for.Copy cvd) = ForCopy cvd
+ready_in (kept_for.Flip cvd versions) = ForFlip cvd
 
--- what is true of each dataset: its versions are few and all placed, no partition knows a later one, so many numbers are left
--- for partitions that each later version can have one, and no plan runs
+-- What is true of each dataset: it has versions, not too many, each with parents among those before it; all are placed, and no
+-- partition has another one; its records have numbers; so many numbers are left for partitions that each target that wasn't flipped and each later version
+-- can have one; and a plan that runs can run to its end.
 pub record IsSet (d : Cvd) : Type 0 where
+  pub some : 1 ≤ length d.versions.items
   pub few : length d.versions.items ≤ 65535
+  pub graph : IsGraph (graph_of (map version_in d.versions.items))
   pub new : IsNew (length d.versions.items + 1) d.layout.parts
   pub placed : (vid : ℕ) → 1 ≤ vid → vid ≤ length d.versions.items → is_placed d.layout.parts vid ≡ true
-  pub next : d.layout.next + 65535 < 2 ^ 32 - 1 + length d.versions.items
-  pub idle : d.plan ≡ None
+  pub none_other : is_placed d.layout.parts 0 ≡ false
+  pub records : d.records < 2 ^ 32
+  pub next : d.layout.next + length (left_of d.plan) + 65535 < 2 ^ 32 + length d.versions.items
+  pub plan : IsPlanned (length d.versions.items) d.layout.parts d.plan
 
 -- a dataset without its versions, with room for one
 pub record IsSpare (spare : Spare) : Type 0 where
@@ -81,13 +103,48 @@ pub record FitsVersion (place : Place) (d : Cvd) : Type 0 where
 abbrev pub FitsNumbered : ℕ → Place → Cvd → Type 0
 FitsNumbered cvd place d = d.number ≡ cvd → FitsVersion place d
 
+-- a plan that can begin in a dataset: by what was said of its targets, and so that it can run
+pub record CanBegin (plan : Plan) (d : Cvd) : Type 0 where
+  pub idle : d.plan ≡ None
+  pub begins : plan_in (Some plan) ≡ (planned plan.p plan.q (map said_by plan.targets) (set_in d)).plan
+  pub next : d.layout.next + length plan.targets + 65535 < 2 ^ 32 + length d.versions.items
+  pub runs : IsRunning (length d.versions.items) d.layout.parts plan
+
+abbrev pub CanBeginIn : ℕ → Plan → Cvd → Type 0
+CanBeginIn cvd plan d = d.number ≡ cvd → CanBegin plan d
+
+-- its plan's target has room for a segment more
+abbrev pub HasSegment : Option Plan → Type 0
+HasSegment None = Unit {0}
+HasSegment (Some plan) = length plan.segments.items < vec_capacity plan.segments
+
+abbrev pub HasSegmentIn : ℕ → Cvd → Type 0
+HasSegmentIn cvd d = d.number ≡ cvd → HasSegment d.plan
+
+-- its plan's target, which has these versions, can become a partition: there is room for the segments that it keeps, and for it
+pub record CanFlip (versions : List ℕ) (room : layout.Room) (plan : Plan) : Type 0 where
+  pub versions_are : versions ≡ (current plan).versions
+  pub kept : length plan.segments.items + length (current plan).kept ≤ vec_capacity plan.segments
+  pub room_is : room ≡ layout_for.Placing (length versions)
+
+abbrev pub MayFlip : List ℕ → layout.Room → Option Plan → Type 0
+MayFlip versions room None = Unit {0}
+MayFlip versions room (Some plan) = CanFlip versions room plan
+
+abbrev pub MayFlipIn : ℕ → List ℕ → Cvd → Type 0
+MayFlipIn cvd versions d = d.number ≡ cvd → MayFlip versions d.layout.room d.plan
+
 abbrev pub HasSpace : Room → Vec Cvd Global → Type 0
 HasSpace kept_for.Nothing sets = Unit {0}
-HasSpace (kept_for.Init spare) sets = IsSpare spare × (length sets.items < vec_capacity sets)
+HasSpace (kept_for.Init spare) sets = IsSpare spare × (length sets.items < vec_capacity sets) × (length sets.items < 1024)
 HasSpace (kept_for.Commit cvd place) sets = All (FitsNumbered cvd (place_in place)) sets.items
+HasSpace (kept_for.Plan cvd plan) sets = All (CanBeginIn cvd plan) sets.items
+HasSpace (kept_for.Copy cvd) sets = All (HasSegmentIn cvd) sets.items
+HasSpace (kept_for.Flip cvd versions) sets = All (MayFlipIn cvd versions.items) sets.items
 
--- the datasets stand by their numbers, which are below the next one
+-- there are few datasets, which stand by their numbers, and these are below the next one
 pub record AreSets (next : ℕ) (sets : List Cvd) : Type 0 where
+  pub few : length sets ≤ 1024
   pub ascend : Ascend 0 (numbers_of sets)
   pub below : IsAbove next (numbers_of sets)
   pub sound : All IsSet sets

@@ -18,9 +18,19 @@ part_in part = record { id = part.id; versions = part.versions; holds = part.hol
 abbrev pub target_in : Target → TargetNumbers
 target_in t = record { versions = t.versions; size = t.size; source = t.source; kept = t.kept; kept_records = t.kept_records }
 
+abbrev pub plan_numbers : Plan → PlanNumbers Extent
+plan_numbers plan = record {
+  p = plan.p;
+  q = plan.q;
+  targets = map target_in plan.targets;
+  at = plan.at;
+  copied = plan.copied;
+  segments = plan.segments.items;
+}
+
 abbrev pub plan_in : Option Plan → Option (PlanNumbers Extent)
 plan_in None = None
-plan_in (Some plan) = Some (record { p = plan.p; q = plan.q; targets = map target_in plan.targets; at = plan.at; copied = plan.copied; segments = plan.segments })
+plan_in (Some plan) = Some (plan_numbers plan)
 
 abbrev pub set_in : Cvd → SetNumbers Extent Extent
 set_in d = record {

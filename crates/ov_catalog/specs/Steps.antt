@@ -3,7 +3,7 @@
 --     steps_left n      over all plans
 use Rattle.std.specs.Prelude.{ℕ, ◌+◌, ◌-◌, ◌/◌, List, [], ◌∷◌, Option, Some, None}
 use Rattle.std.specs.List.{sum_by}
-use Rattle.ov_catalog.specs.Numbers.{TargetNumbers, PlanNumbers, Numbers}
+use Rattle.ov_catalog.specs.Numbers.{TargetNumbers, PlanNumbers, SetNumbers, Numbers}
 use Rattle.ov_catalog.specs.Applying.{targets_from}
 
 -- for a target that lacks so many records
@@ -23,5 +23,8 @@ abbrev pub plan_steps : {S : Type 0} → Option (PlanNumbers S) → ℕ
 plan_steps None = 0
 plan_steps (Some plan) = current_steps plan.copied (targets_from plan.at plan.targets)
 
+abbrev pub steps_of : {L S : Type 0} → List (SetNumbers L S) → ℕ
+steps_of sets = sum_by (λ d. plan_steps d.plan) sets
+
 abbrev pub steps_left : {L S : Type 0} → Numbers L S → ℕ
-steps_left n = sum_by (λ d. plan_steps d.plan) n.sets
+steps_left n = steps_of n.sets

@@ -1,28 +1,34 @@
 //! The catalog.
 
-ghost use Rattle.std.specs.Prelude.{◌≡◌, ◌+◌, ◌-◌, ◌<◌, ◌≤◌, ◌^◌, ◌++◌, None, length, find, vec_capacity, option_map, option_copied, OnOk, OnErr, IfSome};
+ghost use Rattle.std.specs.Prelude.{◌≡◌, ◌+◌, ◌-◌, ◌<◌, ◌≤◌, ◌^◌, ◌++◌, ℕ, List, None, length, find, vec_capacity, option_map, option_copied, OnOk, OnErr, IfSome};
 ghost use Rattle.ov_layout.specs.Changes.{extents_of};
 ghost use Rattle.ov_value.specs.Shapes.{Shape};
 ghost use Rattle.ov_catalog.specs.Answers.{Answers};
-ghost use Rattle.ov_catalog.specs.Applying.{first_off, init_off, is_named, of_live, set_numbered};
+ghost use Rattle.ov_catalog.specs.Applying.{taken_off, init_off, is_named, of_live, set_numbered};
 ghost use Rattle.ov_catalog.specs.Arriving.{arrival_off};
-ghost use Rattle.ov_catalog.specs.Events.{Commit, Drop, Init, applied};
+ghost use Rattle.ov_catalog.specs.Events.{Commit, Copy, Drop, Flip, Init, Plan, applied};
 ghost use Rattle.ov_catalog.specs.Extents.{given_up};
 ghost use Rattle.ov_catalog.specs.Numbers.{nothing_yet};
 ghost use Rattle.ov_catalog.specs.Raw.{event_in, place_in, shape_in};
-ghost use Rattle.ov_catalog.specs.Ready.{Nothing, ForInit, ForCommit, HasRoom, IsForInit, IsSet};
+ghost use Rattle.ov_catalog.specs.Planning.{copy_off, flip_off, of_running, plan_off};
+ghost use Rattle.ov_catalog.specs.Ready.{Nothing, ForInit, ForCommit, ForPlan, ForCopy, ForFlip, HasRoom, IsForInit, IsSet};
 ghost use Rattle.ov_catalog.specs.Sets.{set_in, sets_in};
-ghost use Rattle.ov_catalog.specs.Steps.{steps_left};
+ghost use Rattle.ov_catalog.specs.Steps.{steps_left as steps_left_in};
+ghost use Rattle.ov_event.specs.declared.event.PlanTarget.{PlanTarget};
 
 use crate::arrival::Arrival;
 use crate::commit::{commit_in, room_for_commit};
+use crate::copies::{copy_in, room_for_copy};
 use crate::cvd::Cvd;
 use crate::error::ApplyErr;
 use crate::field::Field;
+use crate::flips::{flip_in, room_for_flip};
 use crate::freeing::{drop_from, room_for_drop};
 use crate::init::{begin, check_init, spare_of};
+use crate::plans::{begin_plan, room_for_plan};
 use crate::room::Room;
-use ov_event::{Event, Items, RawSchema};
+use crate::steps::steps_left;
+use ov_event::{Event, Items, PlanTarget, RawSchema};
 use ov_host::Extent;
 use ov_value::Txt;
 use std::alloc::Global;
@@ -81,12 +87,11 @@ impl Catalog {
         self.next
     }
 
-    /// How many migration steps are left. No event begins a plan yet, so there are none.
+    /// How many migration steps are left, over all plans.
     pub fn steps_left(&self) -> u64
-        ensures { result ≡ steps_left self.now.numbers }
+        ensures { result ≡ steps_left_in self.now.numbers }
     {
-        let _ = &self.sets;
-        0
+        steps_left(self.sets.as_slice())
     }
 
     /// The live dataset with this name. Each of its versions is in a partition.
@@ -106,7 +111,7 @@ impl Catalog {
     /// Makes room for an event, so that applying it takes no memory: here, and behind `freed` for the extents that it
     /// gives up. `NotNext` with the first part of the event that is off. It changes nothing else.
     pub fn room_for(&mut self, event: &Event, freed: &mut Vec<Extent>) -> Result<(), ApplyErr>
-        ensures answer { Answers result (first_off event.now self.old.numbers) }
+        ensures answer { Answers result (taken_off event.now self.old.numbers) }
         ensures numbers { self.new.numbers ≡ self.old.numbers }
         ensures ready { OnOk result (HasRoom event.now self.new.ready) }
         ensures freed { freed.new.items ≡ freed.old.items }
@@ -145,14 +150,18 @@ impl Catalog {
                     segment: *segment,
                 },
             ),
+            Event::Plan { cvd, p, q, targets } => {
+                self.room_for_plan(*cvd, *p, *q, targets.as_slice())
+            }
+            Event::Copy {
+                cvd,
+                count,
+                segment,
+            } => self.room_for_copy(*cvd, *count, *segment),
+            Event::Flip { cvd } => self.room_for_flip(*cvd, freed),
             Event::Drop { cvd } => room_for_drop(&self.sets, *cvd, freed),
             // These don't apply yet.
-            Event::Plan { .. }
-            | Event::Copy { .. }
-            | Event::Flip { .. }
-            | Event::Base { .. }
-            | Event::Whole(_)
-            | Event::Wide { .. } => Err(ApplyErr::NotNext {
+            Event::Base { .. } | Event::Whole(_) | Event::Wide { .. } => Err(ApplyErr::NotNext {
                 field: Field::Number,
             }),
         }
@@ -200,10 +209,51 @@ impl Catalog {
         Ok(())
     }
 
+    fn room_for_plan(
+        &mut self,
+        cvd: u32,
+        p: u32,
+        q: u32,
+        targets: &[PlanTarget],
+    ) -> Result<(), ApplyErr>
+        ensures answer { Answers result (of_live (plan_off p q targets.now) (set_numbered cvd self.old.numbers)) }
+        ensures numbers { self.new.numbers ≡ self.old.numbers }
+        ensures ready { OnOk result (self.new.ready ≡ ForPlan cvd p q targets.now) }
+    {
+        let sets = self.sets.as_slice();
+        let plan = room_for_plan(self.alloc, sets, cvd, p, q, targets)?;
+        self.room = Room::Plan { cvd, plan };
+        Ok(())
+    }
+
+    fn room_for_copy(&mut self, cvd: u32, count: u32, segment: Extent) -> Result<(), ApplyErr>
+        ensures answer { Answers result (of_live (λ d. of_running (copy_off count segment) d.plan) (set_numbered cvd self.old.numbers)) }
+        ensures numbers { self.new.numbers ≡ self.old.numbers }
+        ensures ready { OnOk result (self.new.ready ≡ ForCopy cvd) }
+    {
+        self.room = Room::Nothing;
+        room_for_copy(&mut self.sets, cvd, count, segment)?;
+        self.room = Room::Copy { cvd };
+        Ok(())
+    }
+
+    fn room_for_flip(&mut self, cvd: u32, freed: &mut Vec<Extent>) -> Result<(), ApplyErr>
+        ensures answer { Answers result (of_live (λ d. of_running flip_off d.plan) (set_numbered cvd self.old.numbers)) }
+        ensures numbers { self.new.numbers ≡ self.old.numbers }
+        ensures ready { OnOk result (self.new.ready ≡ ForFlip cvd) }
+        ensures freed { freed.new.items ≡ freed.old.items }
+        ensures room { OnOk result (length freed.new.items + length (given_up (Flip cvd) self.old.numbers) ≤ vec_capacity freed.new) }
+    {
+        self.room = Room::Nothing;
+        let versions = room_for_flip(self.alloc, &mut self.sets, cvd, freed)?;
+        self.room = Room::Flip { cvd, versions };
+        Ok(())
+    }
+
     /// Applies an event that there is room for. Takes no memory: the extents that the event gives up are put behind
     /// `freed`. Uses the room up.
     pub fn apply_reserved(&mut self, event: Event, freed: &mut Vec<Extent>)
-        requires applies { first_off event self.old.numbers ≡ None }
+        requires applies { taken_off event self.old.numbers ≡ None }
         requires ready { HasRoom event self.old.ready }
         requires room { length freed.old.items + length (given_up (event_in event) self.old.numbers) ≤ vec_capacity freed.old }
         ensures applied { self.new.numbers ≡ applied (event_in event) self.old.numbers }
@@ -242,14 +292,16 @@ impl Catalog {
                     segment,
                 },
             ),
+            Event::Plan { .. } => self.begin_plan(),
+            Event::Copy {
+                cvd,
+                count,
+                segment,
+            } => self.copy(cvd, count, segment),
+            Event::Flip { cvd } => self.flip(cvd, freed),
             Event::Drop { cvd } => self.drop_set(cvd, freed),
             // These don't apply yet.
-            Event::Plan { .. }
-            | Event::Copy { .. }
-            | Event::Flip { .. }
-            | Event::Base { .. }
-            | Event::Whole(_)
-            | Event::Wide { .. } => {}
+            Event::Base { .. } | Event::Whole(_) | Event::Wide { .. } => {}
         }
     }
 
@@ -275,6 +327,35 @@ impl Catalog {
         self.room = Room::Nothing;
     }
 
+    fn begin_plan(&mut self)
+        ensures { (cvd p q : ℕ) (targets : List PlanTarget) → self.old.ready ≡ ForPlan cvd p q targets → self.new.numbers ≡ applied (Plan cvd p q targets) self.old.numbers }
+    {
+        if let Room::Plan { cvd, plan } = mem::replace(&mut self.room, Room::Nothing) {
+            begin_plan(&mut self.sets, cvd, plan);
+        }
+    }
+
+    fn copy(&mut self, cvd: u32, count: u32, segment: Extent)
+        requires ready { self.old.ready ≡ ForCopy cvd }
+        requires applies { of_live (λ d. of_running (copy_off count segment) d.plan) (set_numbered cvd self.old.numbers) ≡ None }
+        ensures { self.new.numbers ≡ applied (Copy cvd count (extents_of segment)) self.old.numbers }
+    {
+        copy_in(&mut self.sets, cvd, count, segment);
+        self.room = Room::Nothing;
+    }
+
+    fn flip(&mut self, cvd: u32, freed: &mut Vec<Extent>)
+        requires ready { self.old.ready ≡ ForFlip cvd }
+        requires applies { of_live (λ d. of_running flip_off d.plan) (set_numbered cvd self.old.numbers) ≡ None }
+        requires room { length freed.old.items + length (given_up (Flip cvd) self.old.numbers) ≤ vec_capacity freed.old }
+        ensures flipped { self.new.numbers ≡ applied (Flip cvd) self.old.numbers }
+        ensures freed { freed.new.items ≡ freed.old.items ++ given_up (Flip cvd) self.old.numbers }
+    {
+        if let Room::Flip { versions, .. } = mem::replace(&mut self.room, Room::Nothing) {
+            flip_in(self.alloc, &mut self.sets, cvd, versions, freed);
+        }
+    }
+
     fn drop_set(&mut self, cvd: u32, freed: &mut Vec<Extent>)
         requires room { length freed.old.items + length (given_up (Drop cvd) self.old.numbers) ≤ vec_capacity freed.old }
         ensures dropped { self.new.numbers ≡ applied (Drop cvd) self.old.numbers }
@@ -286,7 +367,7 @@ impl Catalog {
 
     /// Makes room for an event and applies it. The extents that it gives up are forgotten.
     pub fn apply(&mut self, event: Event) -> Result<(), ApplyErr>
-        ensures answer { Answers result (first_off event self.old.numbers) }
+        ensures answer { Answers result (taken_off event self.old.numbers) }
         ensures applied { OnOk result (self.new.numbers ≡ applied (event_in event) self.old.numbers) }
         ensures err { OnErr result (self.new.numbers ≡ self.old.numbers) }
     {

@@ -6,19 +6,20 @@ ghost use Rattle.ov_layout.specs.Changes.{IsThere, extents_of};
 ghost use Rattle.ov_layout.specs.Parts.{Ascend};
 ghost use Rattle.ov_place.specs.Placement.{placed};
 ghost use Rattle.ov_catalog.specs.Answers.{Answers};
-ghost use Rattle.ov_catalog.specs.Applying.{facts_of, is_count as is_count_by, id_in, is_place as is_place_by, of_live, part_serving as part_serving_in};
+ghost use Rattle.ov_catalog.specs.Applying.{copied_in, facts_of, is_count as is_count_by, id_in, is_place as is_place_by, is_unmoved as is_unmoved_by, of_live, part_serving as part_serving_in, stored as stored_by};
 ghost use Rattle.ov_catalog.specs.Events.{change, numbered, version_of, with_version};
 ghost use Rattle.ov_catalog.specs.Raw.{place_in};
 ghost use Rattle.ov_catalog.specs.Ready.{FitsNumbered, FitsVersion, IsSet};
-ghost use Rattle.ov_catalog.specs.Sets.{numbers_of, part_in, set_in, sets_in};
+ghost use Rattle.ov_catalog.specs.Running.{is_in_target};
+ghost use Rattle.ov_catalog.specs.Sets.{numbers_of, part_in, plan_in, set_in, sets_in};
 ghost use Rattle.ov_catalog.specs.Arriving.{arrival_off, part_asked};
 
 use crate::arrival::Arrival;
-use crate::cvd::{Cvd, Version};
+use crate::cvd::{Cvd, Plan, Target, Version};
 use crate::error::ApplyErr;
 use crate::extents::{is_list, is_segment};
 use crate::field::Field;
-use crate::finding::{place_of, records_at};
+use crate::finding::{is_among, place_of, records_at};
 use crate::parents::{check_parents, heaviest};
 use crate::placing::place_version;
 use crate::refusing::unless;
@@ -49,6 +50,47 @@ fn part_serving(layout: &Layout, vid: u32) -> u32
     }
 }
 
+// Whether a version is in one of these targets.
+fn is_in(targets: &[Target], vid: u32) -> bool
+    requires { All (λ t. Ascend 0 t.versions) targets.now }
+    ensures { result ≡ is_in_target targets.now vid }
+{
+    for target in targets {
+        if is_among(target.versions.as_slice(), vid) {
+            return true;
+        }
+    }
+    false
+}
+
+// Whether a version is in a target that wasn't flipped yet while a plan runs.
+fn is_unmoved(d: &Cvd, vid: u32) -> bool
+    requires { IsSet d.now }
+    ensures { result ≡ is_unmoved_by (plan_in d.now.plan) vid }
+{
+    match &d.plan {
+        None => false,
+        Some(plan) => is_in(&plan.targets.as_slice()[plan.at as usize..], vid),
+    }
+}
+
+// How many records were copied for the current target of a plan.
+fn copied_records(plan: &Option<Plan>) -> u32
+    ensures { result ≡ copied_in (plan_in plan.now) }
+{
+    match plan {
+        None => 0,
+        Some(plan) => plan.copied,
+    }
+}
+
+// How many records are kept, with those copied for the current target of a plan.
+fn stored(d: &Cvd) -> u64
+    ensures { result ≡ stored_by (set_in d.now) }
+{
+    d.layout.stored() + u64::from(copied_records(&d.plan))
+}
+
 /// Where the dataset's next version goes, with these parents, each a version and the weight of its edge.
 pub fn next_place(d: &Cvd, parents: &[(u32, u32)]) -> Place
     requires { IsSet d.now }
@@ -57,10 +99,10 @@ pub fn next_place(d: &Cvd, parents: &[(u32, u32)]) -> Place
     let (parent, weight) = heaviest(parents);
     place(&PlaceFacts {
         threshold: d.threshold,
-        unmoved: false,
+        unmoved: is_unmoved(d, parent),
         weight,
         records: u64::from(d.records),
-        stored: d.layout.stored(),
+        stored: stored(d),
         parent: part_serving(&d.layout, parent),
     })
 }

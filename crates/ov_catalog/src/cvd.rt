@@ -44,7 +44,7 @@ pub struct Plan {
     /// How many records were copied for it.
     pub copied: u32,
     /// Where these are.
-    pub segments: Items<Extent>,
+    pub segments: Vec<Extent>,
 }
 
 /// A dataset.

@@ -8,15 +8,16 @@ use ov_host::Extent;
 /// The page area has so many pages at most, 2^22.
 const MOST_PAGES: u64 = ov_host::PAGES as u64;
 
-fn is_extent(extent: Extent) -> bool
+/// Whether an extent is one: it passes no page of the area, and an empty one has page 0.
+pub fn is_extent(extent: Extent) -> bool
     ensures { result ≡ is_extent_by extent }
 {
     u64::from(extent.page) + u64::from(extent.pages()) <= MOST_PAGES
         && (extent.bytes != 0 || extent.page == 0)
 }
 
-// Both or none.
-fn is_same(a: bool, b: bool) -> bool
+/// Both or none.
+pub fn is_same(a: bool, b: bool) -> bool
     ensures { result ≡ is_same_by a b }
 {
     if a { b } else { !b }

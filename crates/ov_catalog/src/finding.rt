@@ -1,9 +1,9 @@
-//! Datasets by their names and numbers, and partitions by their numbers.
+//! Datasets by their names and numbers, partitions by their numbers, and numbers among others.
 
 ghost use Rattle.std.specs.Prelude.{◌≡◌, ◌<◌, length, find, None, MatchOption, HoldsAt};
 ghost use Rattle.std.specs.List.{list_any};
 ghost use Rattle.ov_layout.specs.Index.{numbers_of as part_numbers};
-ghost use Rattle.ov_layout.specs.Parts.{Ascend, records_at as records_at_of};
+ghost use Rattle.ov_layout.specs.Parts.{Ascend, has, part_numbered, records_at as records_at_of};
 ghost use Rattle.ov_catalog.specs.Applying.{is_named};
 ghost use Rattle.ov_catalog.specs.Events.{numbered};
 ghost use Rattle.ov_catalog.specs.Sets.{numbers_of, sets_in};
@@ -48,4 +48,26 @@ pub fn records_at(parts: &[Part], id: u32) -> u32
     } else {
         0
     }
+}
+
+/// The place of the partition with a number.
+pub fn part_at(parts: &[Part], id: u32) -> Option<usize>
+    requires { Ascend 0 (part_numbers parts.now) }
+    ensures { MatchOption result (part_numbered id parts.now ≡ None) (λ at. (at < length parts.now) × HoldsAt (λ part. part.id ≡ id) parts.now at) }
+{
+    let at = parts.partition_point(|part| part.id < id);
+    if at < parts.len() && parts[at].id == id {
+        Some(at)
+    } else {
+        None
+    }
+}
+
+/// Whether a number is among ascending ones.
+pub fn is_among(numbers: &[u32], number: u32) -> bool
+    requires { Ascend 0 numbers.now }
+    ensures { result ≡ has numbers.now number }
+{
+    let at = numbers.partition_point(|n| *n < number);
+    at < numbers.len() && numbers[at] == number
 }

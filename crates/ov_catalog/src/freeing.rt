@@ -5,11 +5,11 @@ ghost use Rattle.ov_layout.specs.Parts.{Ascend};
 ghost use Rattle.ov_catalog.specs.Answers.{Answers};
 ghost use Rattle.ov_catalog.specs.Applying.{of_live};
 ghost use Rattle.ov_catalog.specs.Events.{numbered};
-ghost use Rattle.ov_catalog.specs.Extents.{of_set};
+ghost use Rattle.ov_catalog.specs.Extents.{of_plan, of_set};
 ghost use Rattle.ov_catalog.specs.Ready.{IsSet};
-ghost use Rattle.ov_catalog.specs.Sets.{numbers_of, set_in, sets_in, stays};
+ghost use Rattle.ov_catalog.specs.Sets.{numbers_of, plan_in, set_in, sets_in, stays};
 
-use crate::cvd::{Cvd, Version};
+use crate::cvd::{Cvd, Plan, Version};
 use crate::error::ApplyErr;
 use crate::field::Field;
 use crate::finding::place_of;
@@ -22,11 +22,22 @@ fn extents_in(d: &Cvd) -> Option<usize>
     ensures { IfSome result (λ count. count ≡ length (of_set (set_in d.now))) }
 {
     let segments = segments_in(d.layout.parts())?;
-    let count = segments.checked_add(d.versions.len())?;
+    let lists = segments.checked_add(d.versions.len())?;
+    let count = lists.checked_add(copied_in(&d.plan))?;
     Some(count)
 }
 
-fn segments_in(parts: &[Part]) -> Option<usize>
+fn copied_in(plan: &Option<Plan>) -> usize
+    ensures { result ≡ length (of_plan (plan_in plan.now)) }
+{
+    match plan {
+        None => 0,
+        Some(plan) => plan.segments.len(),
+    }
+}
+
+/// How many segments partitions have; `None` where a usize can't count them.
+pub fn segments_in(parts: &[Part]) -> Option<usize>
     ensures { IfSome result (λ count. count ≡ sum_by (λ part. length part.segments) parts.now) }
 {
     let mut count = 0usize;
@@ -44,6 +55,17 @@ fn give_up(d: &Cvd, freed: &mut Vec<Extent>)
 {
     give_lists(&d.versions, freed);
     give_segments(d.layout.parts(), freed);
+    give_copied(&d.plan, freed);
+}
+
+fn give_copied(plan: &Option<Plan>, freed: &mut Vec<Extent>)
+    requires { length freed.old.items + length (of_plan (plan_in plan.now)) ≤ vec_capacity freed.old }
+    ensures { freed.new.items ≡ freed.old.items ++ of_plan (plan_in plan.now) }
+{
+    if let Some(plan) = plan {
+        // There is room, so this takes no memory.
+        let _ = freed.extend_from_slice(&plan.segments);
+    }
 }
 
 fn give_lists(versions: &[Version], freed: &mut Vec<Extent>)
@@ -59,7 +81,8 @@ fn give_lists(versions: &[Version], freed: &mut Vec<Extent>)
 
 fn give_segments(parts: &[Part], freed: &mut Vec<Extent>)
     requires { length freed.old.items + length (flat_map (λ part. part.segments) parts.now) ≤ vec_capacity freed.old }
-    ensures { freed.new.items ≡ freed.old.items ++ flat_map (λ part. part.segments) parts.now }
+    ensures freed { freed.new.items ≡ freed.old.items ++ flat_map (λ part. part.segments) parts.now }
+    ensures capacity { vec_capacity freed.old ≤ vec_capacity freed.new }
 {
     for part in parts {
         // There is room, so this takes no memory.

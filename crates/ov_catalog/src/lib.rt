@@ -2,24 +2,31 @@
 #![tactic(auto)]
 
 mod arrival;
+mod built;
 mod catalog;
 mod commit;
+mod copies;
 mod cvd;
 mod error;
 mod extents;
 mod field;
 mod finding;
+mod flips;
 mod freeing;
 mod init;
 mod laws;
 mod parents;
 mod placing;
+mod plans;
 mod refusing;
 mod room;
 mod schemas;
+mod steps;
+mod targets;
 mod telling;
 mod worked;
 
+pub use built::is_built;
 pub use catalog::Catalog;
 pub use commit::next_place;
 pub use cvd::{Cvd, Plan, Target, Version};

@@ -1,6 +1,6 @@
 //! Room for an event.
 
-use crate::cvd::Version;
+use crate::cvd::{Plan, Version};
 use ov_event::Placed;
 use ov_layout::Layout;
 use ov_value::{Schema, Txt};
@@ -22,4 +22,10 @@ pub enum Room {
     Init(Spare),
     /// For a Commit to the dataset with this number, at this place.
     Commit { cvd: u32, place: Placed },
+    /// For a Plan of this dataset, which is ready here.
+    Plan { cvd: u32, plan: Plan },
+    /// For a Copy in this dataset.
+    Copy { cvd: u32 },
+    /// For a Flip in this dataset, of a target with these versions.
+    Flip { cvd: u32, versions: Vec<u32> },
 }

@@ -1,5 +1,5 @@
 -- Room, and numbers that fit.
-use Rattle.std.proofs.Common.{◌≡◌, ℕ, ◌^◌, ◌<◌, ◌≤◌, true, max, List, length, get_or, sym, ap, subst, ◌∙◌, arith, vec_len, vec_capacity, Vec, Global}
+use Rattle.std.proofs.Common.{◌≡◌, ℕ, ◌-◌, ◌^◌, ◌<◌, ◌≤◌, true, max, List, length, get_or, sym, ap, subst, ◌∙◌, arith, vec_len, vec_capacity, Vec, Global}
 use Rattle.std.specs.Prelude.{All}
 use Rattle.ov_layout.specs.declared.index.Entry.{Entry}
 use Rattle.ov_layout.specs.declared.part.Part.{Part}
@@ -13,7 +13,7 @@ use Rattle.ov_layout.specs.Spares.{HaveRoom, FitsPart, FitsNumbered}
 use Rattle.ov_layout.specs.Kept.{AreNumbers, HasSpace, IsReady, NeedsEntry}
 use Rattle.ov_layout.proofs.VidLemmas.{keys-one}
 use Rattle.ov_layout.proofs.LeaveLemmas.{get_or-any}
-use Rattle.ov_layout.proofs.SumLemmas.{entries-few, cost-fits, stored-fits}
+use Rattle.ov_layout.proofs.SumLemmas.{entries-few, parts-few, stored-bound, cost-fits, stored-fits}
 
 -- room to place so many versions
 pub record HasPlace (count : ℕ) (parts : Vec Part Global) (index : Vec Entry Global) (fresh : Spares) : Type 0 where
@@ -71,3 +71,13 @@ joining-room room id parts index fresh spare e space =
     let entry : NeedsEntry (Joining id) index = subst (λ (r : Room). NeedsEntry r index) e space.entry in
     let len = index.ok.0 in
     record { there = ready.0; fits = ready.1; index_fit = omega (arith, len, entry) }
+
+-- what is stored leaves room for one partition's records more
+pub stored-leaves : (index : List Entry) (parts : List Part) (next stored cost : ℕ) → AreNumbers index parts next stored cost → stored ≤ 2 ^ 64 - 2 ^ 32
+stored-leaves index parts next stored cost h =
+    let count = h.index_is.count in
+    let most = entries-few 0 index h.index_is.entries in
+    let parts_few = parts-few 1 next parts h.sound.sound in
+    let bound = stored-bound parts h.few in
+    let is = h.stored_is in
+    omega (arith, count, most, parts_few, bound, is)

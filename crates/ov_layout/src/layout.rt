@@ -108,7 +108,8 @@ impl Layout {
 
     /// How many records the partitions keep together; one that two of them keep counts twice.
     pub fn stored(&self) -> u64
-        ensures { result ≡ stored_of self.now.parts }
+        ensures sum { result ≡ stored_of self.now.parts }
+        ensures few { result ≤ 2 ^ 64 - 2 ^ 32 }
     {
         self.stored
     }

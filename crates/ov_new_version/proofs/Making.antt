@@ -196,6 +196,3 @@ few_parents count vids named =
 
 pub few_named : (count : ℕ) (vids : List ℕ) → count < 65535 → AreParents count vids → length vids < 65536
 few_named count vids few named = omega (arith, few, few_parents count vids named)
-
-pub idle_set : (d : Cvd) → d.plan ≡ None → (set_in d).plan ≡ None
-idle_set d none = ap plan_in none

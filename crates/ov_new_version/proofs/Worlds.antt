@@ -30,6 +30,7 @@ use Rattle.ov_core.specs.Brought.{extent_at, segments_in}
 use Rattle.law_image.specs.Lists.{list_in}
 use Rattle.law_image.specs.Pages.{readings_of}
 use Rattle.law_events.proofs.Seeing.{place_shown}
+use Rattle.ov_catalog.proofs.Good.{found_known, good}
 use Rattle.ov_version_bytes.specs.Next.{IsNext, held_at, spelled_place}
 use Rattle.ov_version_bytes.specs.Written.{AreGiven, IsWhy, list_written, segment_written}
 use Rattle.ov_version_bytes.specs.declared.write_err.WriteErr.{WriteErr}
@@ -85,11 +86,6 @@ module _ {L M S T : Type 0} (f : L → M) (g : S → T) where
     stored = sum_each s.parts i + copied_each s.plan i;
     parent = serving_each edge.0 s.parts i;
   }
-
-idle_shown : (r : List ℕ) (d : Dataset) (p : Option (PlanNumbers Extent)) (q : Option Plan) → p ≡ None → each_plan (readings_of r).segment p ≡ each_plan Some (shown_plan d q) → q ≡ None
-idle_shown r d None None none same = refl
-idle_shown r d None (Some plan) none same = absurd cc
-idle_shown r d (Some p) q none same = absurd cc
 
 same_place : (p q : Place) → is_place p q ≡ true → p ≡ q
 same_place Own Own e = refl
@@ -164,7 +160,7 @@ module _ (a : Asked) (w : World) (ds : Dataset) (area : List ℕ) (asked : IsAsk
 
   -- ---- the version is the next one
 
-  module _ (idle : a.set.plan ≡ None) (made : Assigned) (place : Place) (is : IsMade a made place)
+  module _ (made : Assigned) (place : Place) (is : IsMade a made place)
       (are : AreRecords ds.cvd.versions (version_in a) made.rids made.weights made.fresh) where
     tree_edge : heaviest (edges_of a) ≡ moves.tree_edge_of ds (version_in a)
     tree_edge =
@@ -175,7 +171,7 @@ module _ (a : Asked) (w : World) (ds : Dataset) (area : List ℕ) (asked : IsAsk
     place_asked =
         let shows = asked.of_world.shows
         in let edge : ℕ × ℕ = moves.tree_edge_of ds (version_in a)
-        in let none : ds.plan ≡ None = idle_shown area ds a.set.plan ds.plan idle (ap (λ s. s.plan) shows)
+        in let none : ds.plan ≡ None = (found_known a.set.number ds w.sets (good w asked.of_world.reached).known asked.of_world.among).plan
         in let facts : facts_of a.set edge ≡ facts_of (shown_set ds) edge =
         sym (facts_each (readings_of area).list (readings_of area).segment a.set edge)
         ∙ ap (λ s. facts_of s edge) shows

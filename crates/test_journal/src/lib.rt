@@ -15,6 +15,8 @@ mod images;
 #[cfg(test)]
 mod journals;
 #[cfg(test)]
+mod migrations;
+#[cfg(test)]
 mod openings;
 #[cfg(test)]
 mod pages;

@@ -6,4 +6,4 @@ use Rattle.ov_catalog.proofs.commit.next_place.Goals as goal
 pub returns : goal.returns
 returns c =
     c.place.ensures
-    ∙ ap placed (facts-are c.args.d.now _ c.heaviest-parent.result c.from.result c.stored.result c.part_serving.result c.requires.idle c.heaviest-parent.ensures c.from.ensures c.stored.ensures c.part_serving.ensures)
+    ∙ ap placed (facts-are c.args.d.now _ c.heaviest-parent.result c.is_unmoved.result c.from.result c.stored.result c.part_serving.result c.is_unmoved.ensures c.heaviest-parent.ensures c.from.ensures c.stored.ensures c.part_serving.ensures)

@@ -17,7 +17,7 @@ use Rattle.law_reads.proofs.Counted.{numbers}
 use Rattle.std.specs.Prelude.{◌⊎◌}
 use Rattle.ov_new_version.specs.Joined.{part_at, joined_of, IsPlaceThere, IsReadOf}
 use Rattle.ov_new_version.proofs.Answering.{err_match, not_held, not_written}
-use Rattle.ov_new_version.proofs.Making.{MayBe, IsMade, idle_set, made_is, may_be, vid_is, few_named, rids_given, event_told, commit_is, applies}
+use Rattle.ov_new_version.proofs.Making.{MayBe, IsMade, made_is, may_be, vid_is, few_named, rids_given, event_told, commit_is, applies}
 use Rattle.ov_new_version.proofs.Worlds.{all_records, is_next, made_spared, spared, too_much}
 use Rattle.ov_new_version.proofs.Placing.{as_many, place_there, joined_is}
 use Rattle.ov_new_version.proofs.committing.commit_of.Goals as goal
@@ -160,11 +160,11 @@ returns-in_err-brought-clause-world c =
     in let counts = numbers w area a.set ds asked.of_world
     in let are : AreRecords ds.cvd.versions (version_in a) made.rids made.weights made.fresh =
     c.in_ok-made.ensures.records ds.cvd.versions (version_in a) (sym c.deref.ensures.value) asked.parents counts.records
-    in let next = is_next a w ds area asked (idle_set c.args.d.now c.requires.set.idle) made c.in_ok-place.place is are (c.len.result + 1) held (vid_is c.args.d.now (c.len.result + 1) (ap (λ n. n + 1) count)) there read
+    in let next = is_next a w ds area asked made c.in_ok-place.place is are (c.len.result + 1) held (vid_is c.args.d.now (c.len.result + 1) (ap (λ n. n + 1) count)) there read
     in let given : AreGiven made.rids a.rows = subst (λ rids. AreGiven rids a.rows) (sym is.rids) (rids_given a may)
     in let e = c.in_err-brought.field-0.0
     in err_match (λ m. IsAnswered a w ds m.brought.event m.fresh m.brought.list.items m.brought.segment.items) (λ x. IsSpared x a w ds) c.from_residual-in_err-brought.result (of_write e) c.from_residual-in_err-brought.ensures
-    (too_much a w ds area asked (idle_set c.args.d.now c.requires.set.idle) made c.in_ok-place.place is are may given (c.len.result + 1) held next e c.in_err-brought.ensures.cause)
+    (too_much a w ds area asked made c.in_ok-place.place is are may given (c.len.result + 1) held next e c.in_err-brought.ensures.cause)
 
 pub returns-clause-world : goal.returns-clause-world
 returns-clause-world c =
@@ -188,7 +188,7 @@ returns-clause-world c =
     in let counts = numbers w area a.set ds asked.of_world
     in let are : AreRecords ds.cvd.versions (version_in a) made.rids made.weights made.fresh =
     c.in_ok-made.ensures.records ds.cvd.versions (version_in a) (sym c.deref.ensures.value) asked.parents counts.records
-    in let next = is_next a w ds area asked (idle_set c.args.d.now c.requires.set.idle) made c.in_ok-place.place is are (c.len.result + 1) held (vid_is c.args.d.now (c.len.result + 1) (ap (λ n. n + 1) count)) there read
+    in let next = is_next a w ds area asked made c.in_ok-place.place is are (c.len.result + 1) held (vid_is c.args.d.now (c.len.result + 1) (ap (λ n. n + 1) count)) there read
     in record {
       says = c.in_ok-brought.ensures.says w ds asked.of_world.reached asked.of_world.among next;
       fresh_is = are.fresh_is;

@@ -21,7 +21,7 @@ invariant_of-self c =
     let ok = c.push.ensures.succeeds (omega (arith, room, len)) in
     let items : c.push.new.self.items ≡ inside.sets.items ++ d ∷ [] = rw ok at c.push.ensures.items in
     let number = ap (λ (s : SetNumbers Extent Extent). s.number) c.begin-d.ensures.made in
-    (rw items (sets-push inside.next inside.sets.items d c.self.invariant.0 number c.begin-d.ensures.set), rw c.in-Init.ensures.after tt)
+    (rw items (sets-push inside.next inside.sets.items d c.self.invariant.0 space.2 number c.begin-d.ensures.set), rw c.in-Init.ensures.after tt)
 
 pub returns-in-Init : goal.returns-in-Init
 returns-in-Init c schema is =

@@ -1,0 +1,6 @@
+use Rattle.std.proofs.Common.{arith}
+use Rattle.ov_layout.proofs.VidLemmas.{has-get}
+use Rattle.ov_catalog.proofs.targets.is_seen.Goals as goal
+
+pub bounds-seen-vid : goal.bounds-seen-vid
+bounds-seen-vid c = c.requires _ (has-get c.args.vids.now c.loop-vid.vid-index 0 c.loop-vid-test.true)
