@@ -106,9 +106,10 @@ impl Asked {
         Ok(answer_to(self.alloc, &self.store, &mut self.host, user, text))
     }
 
-    /// What is printed of it.
-    pub fn says(&mut self, user: &str, text: &str) -> Result<Vec<u8>, Fail> {
+    /// Whether this is printed of it.
+    pub fn prints(&mut self, user: &str, text: &str, said: &str) -> Result<bool, Fail> {
         let reply = self.reply(user, text)??;
-        Ok(reply_text(self.alloc, &reply)?)
+        let printed = reply_text(self.alloc, &reply)?;
+        Ok(printed.as_slice() == said.as_bytes())
     }
 }

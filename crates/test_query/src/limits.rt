@@ -17,24 +17,28 @@ fn nested(alloc: Global, open: &str, close: &str, count: usize) -> Result<String
     Ok(text)
 }
 
-const REFUSED: &[u8] = b"error 41: not a query\n";
+const FOUND: &str = "1\n(1 rows)\n";
+
+const REFUSED: &str = "error 41: not a query\n";
 
 #[test]
 fn a_hundred_may_be_open(rt: HostRuntime) -> Result<(), Fail> {
     let alloc = rt.alloc();
     let mut asked = Asked::people(alloc)?;
     for (open, close, deep, said) in [
-        ("(", ")", 100, b"1\n(1 rows)\n".as_slice()),
+        ("(", ")", 100, FOUND),
         ("(", ")", 101, REFUSED),
-        ("NOT ", "", 100, b"1\n(1 rows)\n".as_slice()),
+        ("NOT ", "", 100, FOUND),
         ("NOT ", "", 101, REFUSED),
         // Both kinds count together.
-        ("NOT (", ")", 50, b"1\n(1 rows)\n".as_slice()),
+        ("NOT (", ")", 50, FOUND),
         ("NOT (", ")", 51, REFUSED),
     ] {
         let text = nested(alloc, open, close, deep)?;
-        let printed = asked.says("admin", text.as_str())?;
-        assert!(rt; printed.as_slice() == said, "{open} {deep}");
+        assert!(rt;
+            asked.prints("admin", text.as_str(), said)?,
+            "{open} {deep}"
+        );
     }
     Ok(())
 }
@@ -58,7 +62,6 @@ fn a_text_may_have_65536_bytes(rt: HostRuntime) -> Result<(), Fail> {
     let mut asked = Asked::people(alloc)?;
     let text = longest(alloc)?;
     assert_eq!(rt; text.len(), 65_536);
-    let printed = asked.says("admin", text.as_str())?;
-    assert!(rt; printed.as_slice() == b"2\n(1 rows)\n");
+    assert!(rt; asked.prints("admin", text.as_str(), "2\n(1 rows)\n")?);
     Ok(())
 }

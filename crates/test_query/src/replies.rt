@@ -98,8 +98,7 @@ const ANSWERS: [(&str, &str); 22] = [
 fn queries_print_their_answers(rt: HostRuntime) -> Result<(), Fail> {
     let mut asked = Asked::people(rt.alloc())?;
     for (text, said) in ANSWERS {
-        let printed = asked.says("admin", text)?;
-        assert!(rt; printed.as_slice() == said.as_bytes(), "{text}");
+        assert!(rt; asked.prints("admin", text, said)?, "{text}");
     }
     Ok(())
 }
@@ -190,8 +189,7 @@ const REFUSALS: [(&str, &str); 24] = [
 fn the_first_refusal_counts(rt: HostRuntime) -> Result<(), Fail> {
     let mut asked = Asked::people(rt.alloc())?;
     for (text, said) in REFUSALS {
-        let printed = asked.says("admin", text)?;
-        assert!(rt; printed.as_slice() == said.as_bytes(), "{text}");
+        assert!(rt; asked.prints("admin", text, said)?, "{text}");
     }
     Ok(())
 }
@@ -230,8 +228,7 @@ const BY_USERS: [(&str, &str, &str); 6] = [
 fn the_stores_own_datasets_are_for_admin(rt: HostRuntime) -> Result<(), Fail> {
     let mut asked = Asked::people(rt.alloc())?;
     for (user, text, said) in BY_USERS {
-        let printed = asked.says(user, text)?;
-        assert!(rt; printed.as_slice() == said.as_bytes(), "{user}: {text}");
+        assert!(rt; asked.prints(user, text, said)?, "{user}: {text}");
     }
     Ok(())
 }
@@ -245,13 +242,13 @@ fn a_fault_is_no_answer(rt: HostRuntime) -> Result<(), Fail> {
     let mut fail = Vec::new(alloc);
     fail.push(opened)?;
     let mut asked = people.failing(fail)?;
-    let refused = asked.says("admin", "SELECT nme FROM VERSION 1, 2 OF CVD people")?;
-    assert!(rt; refused.as_slice() == b"error 42: no column nme\n");
+    let nme = "SELECT nme FROM VERSION 1, 2 OF CVD people";
+    assert!(rt; asked.prints("admin", nme, "error 42: no column nme\n")?);
     assert_eq!(rt; asked.host.calls(), opened);
     let failed = asked.reply("admin", "SELECT * FROM VERSION 1, 2 OF CVD people")?;
     assert_eq!(rt; failed.err(), Some(StoreErr::Host));
-    let said = asked.says("admin", "SELECT COUNT(*) FROM VERSION 1, 2 OF CVD people")?;
-    assert!(rt; said.as_slice() == b"5\n(1 rows)\n");
+    let count = "SELECT COUNT(*) FROM VERSION 1, 2 OF CVD people";
+    assert!(rt; asked.prints("admin", count, "5\n(1 rows)\n")?);
     Ok(())
 }
 
@@ -275,9 +272,9 @@ fn only_what_is_read_is_damaged(rt: HostRuntime) -> Result<(), Fail> {
     assert_eq!(rt; one.err(), Some(damaged));
     let all = asked.reply("admin", "SELECT * FROM CVD people")?;
     assert_eq!(rt; all.err(), Some(damaged));
-    let other = asked.says("admin", "SELECT COUNT(*) FROM VERSION 2 OF CVD people")?;
-    assert!(rt; other.as_slice() == b"3\n(1 rows)\n");
-    let refused = asked.says("admin", "SELECT nme FROM VERSION 1 OF CVD people")?;
-    assert!(rt; refused.as_slice() == b"error 42: no column nme\n");
+    let count = "SELECT COUNT(*) FROM VERSION 2 OF CVD people";
+    assert!(rt; asked.prints("admin", count, "3\n(1 rows)\n")?);
+    let nme = "SELECT nme FROM VERSION 1 OF CVD people";
+    assert!(rt; asked.prints("admin", nme, "error 42: no column nme\n")?);
     Ok(())
 }
