@@ -66,13 +66,16 @@ module _ (d : Deed) (s : Session) (w v : World) (m : Move) (left : List Move) (s
 
 -- ---- it is refused by numbers
 
+pub none_some : (off : StoreErr) → None ≡ Some off → ⊥
+none_some off e = absurd cc
+
 abbrev pub IsNew : StoreErr → Type 0
 IsNew why.CvdExists = Unit {0}
 IsNew why.TooManyCvds = Unit {0}
 IsNew why.NoNumbers = Unit {0}
 IsNew _ = ⊥
 
-some_off : (x y : StoreErr) → Some x ≡ Some y → x ≡ y
+pub some_off : (x y : StoreErr) → Some x ≡ Some y → x ≡ y
 some_off x y e = ap (λ o. elim o as (λ _. StoreErr) [ None ↦ x | Some z ↦ z ]) e
 
 pub new_is : (n : Numbers Extent Extent) (name : List ℕ) (off : StoreErr) → new_off n name ≡ Some off → IsNew off

@@ -84,6 +84,8 @@ pub fn generate<H: Host>(
     ensures faults { (H.state host.old).faults ≤ (H.state host.new).faults }
     ensures counted { min (H.state host.old).fetched (2 ^ 64 - 1) ≤ (H.state host.new).fetched }
     ensures unread { (off : StoreErrValue) → new_off store.old.held.numbers wanted.now.cvd ≡ Some off → H.state host.new ≡ H.state host.old }
+    ensures first { (off : StoreErrValue) → new_off store.old.held.numbers wanted.now.cvd ≡ Some off → IfErr result (λ e. e ≡ off) }
+    ensures allowed { OnOk result (new_off store.old.held.numbers wanted.now.cvd ≡ None) }
     ensures cause { IsErrOf result StoreErr.Host → Rose (H.state host.old).faults (H.state host.new).faults }
     ensures damaged { IfErr result (IsDamageOf (HasDamagedVersion store.new.held wanted.now.cvd wanted.now.rows wanted.now.versions (H.state host.new))) }
     ensures undamaged { (w : World) → IsAtWorld w store.old.held (H.state host.old) → IfErr result IsUndamaged }

@@ -54,19 +54,19 @@ fn tiny(alloc: Global) -> Result<Wanted, AllocError>
 
 // A host in memory beside what is answered over it, and how many calls the opening made.
 #[derive(Drop)]
-struct Run {
+struct Answered {
     host: MemHost,
     opened: u64,
     made: Result<Generated, StoreErr>,
 }
 
 // Generates the four versions on an empty host, of which the calls with these numbers fail.
-fn run(alloc: Global, fail: Vec<u64>) -> Result<Run, Fail> {
+fn run(alloc: Global, fail: Vec<u64>) -> Result<Answered, Fail> {
     let mut host = MemHost::new(alloc, Vec::new(alloc), Vec::new(alloc), fail);
     let mut store = Store::open(alloc, &mut host)?;
     let opened = host.calls();
     let made = generate(alloc, &mut store, &mut host, &four(alloc)?);
-    Ok(Run { host, opened, made })
+    Ok(Answered { host, opened, made })
 }
 
 // Whether it is the text of some first versions.
@@ -77,7 +77,7 @@ fn is_front(text: &[u8]) -> bool {
 #[test]
 fn a_dataset_is_as_the_rules_say(rt: HostRuntime) -> Result<(), Fail> {
     let alloc = rt.alloc();
-    let Run { host, made, .. } = run(alloc, Vec::new(alloc))?;
+    let Answered { host, made, .. } = run(alloc, Vec::new(alloc))?;
     assert_eq!(rt; made, Ok(MADE));
     let text = told(alloc, host)?;
     assert!(rt; text.as_slice() == VERSIONS.as_bytes());
@@ -102,7 +102,7 @@ fn the_smallest_dataset_has_a_row(rt: HostRuntime) -> Result<(), Fail> {
 #[test]
 fn a_stop_leaves_the_first_versions(rt: HostRuntime) -> Result<(), Fail> {
     let alloc = rt.alloc();
-    let Run { host, opened, .. } = run(alloc, Vec::new(alloc))?;
+    let Answered { host, opened, .. } = run(alloc, Vec::new(alloc))?;
     for call in opened..=host.calls() {
         let left = host.crash_at(call.min(host.calls()), u64::MAX, u64::MAX, &[0xA5])?;
         let text = told(alloc, left)?;
@@ -113,7 +113,7 @@ fn a_stop_leaves_the_first_versions(rt: HostRuntime) -> Result<(), Fail> {
 
 // Whether a fault of this call is answered, and leaves the first versions.
 fn fails_at(alloc: Global, call: u64) -> Result<bool, Fail> {
-    let Run { host, made, .. } = run(alloc, vec![in alloc; call]?)?;
+    let Answered { host, made, .. } = run(alloc, vec![in alloc; call]?)?;
     let text = told(alloc, host)?;
     Ok(made == Err(StoreErr::Host) && is_front(text.as_slice()))
 }
@@ -121,7 +121,7 @@ fn fails_at(alloc: Global, call: u64) -> Result<bool, Fail> {
 #[test]
 fn a_failed_call_leaves_the_first_versions(rt: HostRuntime) -> Result<(), Fail> {
     let alloc = rt.alloc();
-    let Run { host, opened, .. } = run(alloc, Vec::new(alloc))?;
+    let Answered { host, opened, .. } = run(alloc, Vec::new(alloc))?;
     for call in opened..host.calls() {
         assert!(rt; fails_at(alloc, call)?, "call {call}");
     }

@@ -1,5 +1,5 @@
 use Rattle.std.proofs.Common.{◌≡◌, ◌≤◌, ◌+◌, ◌-◌, ◌*◌, ◌∙◌, ℕ, suc, List, [], length, refl, sym, ap, subst, arith}
-use Rattle.std.specs.Prelude.{Err, None, Ok}
+use Rattle.std.specs.Prelude.{Err, None, Ok, Some}
 use Rattle.ov_gen.specs.Versions.{IsGrown, Source}
 use Rattle.ov_model.specs.Act.{Session, init_refusal, unless}
 use Rattle.ov_model.specs.Book.{Row}
@@ -25,7 +25,7 @@ use Rattle.ov_generate.proofs.Damages.{undamaged_of, unmoved_none, version_damag
 use Rattle.ov_generate.proofs.Firsts.{by_off, first_made, free_named, may_off}
 use Rattle.ov_generate.proofs.Numbers.{known_first}
 use Rattle.ov_generate.proofs.Reading.{err_of, if_err, match_err}
-use Rattle.ov_generate.proofs.Whole.{IsGrowing, first_off, first_long, growing_done, growing_first, growing_more, growing_off, new_is, refused_first, the_deed}
+use Rattle.ov_generate.proofs.Whole.{IsGrowing, first_off, first_long, growing_done, growing_first, growing_more, growing_off, new_is, none_some, refused_first, some_off, the_deed}
 use Rattle.ov_generate.proofs.generating.generate.Goals as goal
 
 pub returns-in_err-may_begin-clause-acts : goal.returns-in_err-may_begin-clause-acts
@@ -252,3 +252,34 @@ returns-in_err-made-clause-undamaged g c = λ w at.
     = c.loop-before.invariant.growing w s at (c.in_ok-may_begin.ensures.world w old at)
     in let not_made = c.in_err-made.ensures.world growing.v growing.g w.next growing.doing.at growing.has (omega (arith, growing.versions_are, c.loop-before-test.true)) growing.state_is
     in if_err IsUndamaged c.from_residual-in_err-made.result off c.from_residual-in_err-made.ensures (undamaged_of off (unmoved_none (move_next w.next a.rows growing.g) growing.v c.loop-before.store.held mid new off not_made))
+
+-- ---- what comes first
+
+pub returns-in_err-may_begin-clause-first : goal.returns-in_err-may_begin-clause-first
+returns-in_err-may_begin-clause-first g c = λ off is.
+    let answer : new_off c.args.store.now.held.numbers c.args.wanted.now.cvd ≡ Some c.in_err-may_begin.field-0.0
+    = subst (λ (n : List ℕ). new_off c.args.store.now.held.numbers n ≡ Some c.in_err-may_begin.field-0.0) c.as_str-cvd.ensures.text c.in_err-may_begin.ensures.answer
+    in if_err (λ e. e ≡ off) c.from_residual.result c.in_err-may_begin.field-0.0 c.from_residual.ensures (some_off c.in_err-may_begin.field-0.0 off (sym answer ∙ is))
+
+pub returns-in_err-rows-clause-first : goal.returns-in_err-rows-clause-first
+returns-in_err-rows-clause-first g c = λ off is.
+    absurd (none_some off (sym (subst (λ (n : List ℕ). new_off c.args.store.now.held.numbers n ≡ None) c.as_str-cvd.ensures.text c.in_ok-may_begin.ensures.answer) ∙ is))
+
+pub returns-in_err-message-clause-first : goal.returns-in_err-message-clause-first
+returns-in_err-message-clause-first g c = λ off is.
+    absurd (none_some off (sym (subst (λ (n : List ℕ). new_off c.args.store.now.held.numbers n ≡ None) c.as_str-cvd.ensures.text c.in_ok-may_begin.ensures.answer) ∙ is))
+
+pub returns-in_err-generate_schema-clause-first : goal.returns-in_err-generate_schema-clause-first
+returns-in_err-generate_schema-clause-first g c = λ off is.
+    absurd (none_some off (sym (subst (λ (n : List ℕ). new_off c.args.store.now.held.numbers n ≡ None) c.as_str-cvd.ensures.text c.in_ok-may_begin.ensures.answer) ∙ is))
+
+pub returns-in_err-begun-clause-first : goal.returns-in_err-begun-clause-first
+returns-in_err-begun-clause-first g c = λ off is.
+    absurd (none_some off (sym (subst (λ (n : List ℕ). new_off c.args.store.now.held.numbers n ≡ None) c.as_str-cvd.ensures.text c.in_ok-may_begin.ensures.answer) ∙ is))
+
+pub returns-in_err-made-clause-first : goal.returns-in_err-made-clause-first
+returns-in_err-made-clause-first g c = λ off is.
+    absurd (none_some off (sym (subst (λ (n : List ℕ). new_off c.args.store.now.held.numbers n ≡ None) c.as_str-cvd.ensures.text c.in_ok-may_begin.ensures.answer) ∙ is))
+
+pub returns-clause-allowed : goal.returns-clause-allowed
+returns-clause-allowed g c = subst (λ (n : List ℕ). new_off c.args.store.now.held.numbers n ≡ None) c.as_str-cvd.ensures.text c.in_ok-may_begin.ensures.answer
