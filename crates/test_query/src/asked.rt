@@ -68,8 +68,10 @@ impl Asked {
 
     fn raise(&mut self) -> Result<(), Fail> {
         let message = Txt::new(self.alloc, "raise")?;
-        let schema = schema_of(self.alloc)?;
-        let rows = read_csv(self.alloc, &schema, RAISED)?;
+        let Some(d) = self.store.catalog().cvd("people") else {
+            return Err("the people are there".into());
+        };
+        let rows = read_csv(self.alloc, &d.schema, RAISED)?;
         if message.len() > 1_024 || !self.store.usable() {
             return Err("it may be called".into());
         }

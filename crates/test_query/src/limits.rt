@@ -47,12 +47,10 @@ fn a_hundred_may_be_open(rt: HostRuntime) -> Result<(), Fail> {
 fn longest(alloc: Global) -> Result<String, AllocError> {
     let mut text = String::new(alloc);
     text.push_str("SELECT id FROM VERSION 1 OF CVD people WHERE id = 2")?;
-    while text.len() + 10 <= 65_536 {
+    for _ in 0..6_548 {
         text.push_str(" OR id = 7")?;
     }
-    while text.len() < 65_536 {
-        text.push_str(" ")?;
-    }
+    text.push_str("     ")?;
     Ok(text)
 }
 
