@@ -33,7 +33,13 @@ fn begin(alloc: Global) -> Result<Event, AllocError> {
 }
 
 /// A version behind the one before it, in partition 1.
-fn follow(alloc: Global, vid: u32, weight: u32, rows: u32, fresh: u32) -> Result<Event, AllocError> {
+fn follow(
+    alloc: Global,
+    vid: u32,
+    weight: u32,
+    rows: u32,
+    fresh: u32,
+) -> Result<Event, AllocError> {
     let parents = Vec::from_slice(alloc, &[(vid.saturating_sub(1), weight)])?;
     let page = vid.saturating_mul(2);
     Ok(Event::Commit {
@@ -119,9 +125,14 @@ fn a_chain_migrates(rt: HostRuntime) -> Result<(), Fail> {
     assert_eq!(rt; catalog.steps_left(), 2);
     assert!(rt; catalog.apply(copy(1, 21)).is_ok());
     let freed = flip(alloc, &mut catalog);
-    assert_eq!(rt; freed.map(|freed| freed.first().copied()), Some(Some(at(1, 96))));
+    assert_eq!(rt;
+        freed.map(|freed| freed.first().copied()),
+        Some(Some(at(1, 96)))
+    );
     assert_eq!(rt; catalog.steps_left(), 0);
-    let stored = catalog.cvd("chain").map(|d| (d.layout.stored(), d.layout.next_id()));
+    let stored = catalog
+        .cvd("chain")
+        .map(|d| (d.layout.stored(), d.layout.next_id()));
     assert_eq!(rt; stored, Some((9, 4)));
     Ok(())
 }
@@ -137,14 +148,23 @@ fn refusal(catalog: &mut Catalog, event: Event) -> Option<Field> {
 fn steps_come_in_their_turn(rt: HostRuntime) -> Result<(), Fail> {
     let alloc = rt.alloc();
     let mut catalog = chain(alloc)?;
-    assert_eq!(rt; refusal(&mut catalog, Event::Flip { cvd: 1 }), Some(Field::Plan));
-    assert_eq!(rt; refusal(&mut catalog, Event::Flip { cvd: 2 }), Some(Field::Number));
+    assert_eq!(rt;
+        refusal(&mut catalog, Event::Flip { cvd: 1 }),
+        Some(Field::Plan)
+    );
+    assert_eq!(rt;
+        refusal(&mut catalog, Event::Flip { cvd: 2 }),
+        Some(Field::Number)
+    );
     assert_eq!(rt; refusal(&mut catalog, plan(alloc, 1)?), Some(Field::Count));
     assert!(rt; catalog.apply(plan(alloc, 2)?).is_ok());
     assert_eq!(rt; refusal(&mut catalog, plan(alloc, 2)?), Some(Field::Plan));
     assert_eq!(rt; refusal(&mut catalog, copy(3, 20)), Some(Field::Count));
     assert_eq!(rt; refusal(&mut catalog, copy(4, 4194304)), Some(Field::Place));
-    assert_eq!(rt; refusal(&mut catalog, Event::Flip { cvd: 1 }), Some(Field::Count));
+    assert_eq!(rt;
+        refusal(&mut catalog, Event::Flip { cvd: 1 }),
+        Some(Field::Count)
+    );
     let joins = follow(alloc, 4, 5, 5, 0)?;
     assert_eq!(rt; refusal(&mut catalog, joins), Some(Field::Placing));
     Ok(())
