@@ -1,12 +1,16 @@
 use Rattle.std.proofs.Common.{◌∙◌, List, ℕ, sym, ap}
 use Rattle.ov_cmd.specs.Errors.{refusal_of}
 use Rattle.ov_cmd.specs.Said.{said}
-use Rattle.ov_model.specs.Line.{Asks, Refused}
+use Rattle.ov_model.specs.Line.{Asks, Comment, Refused}
 use Rattle.ov_model.specs.Users.{permit}
 use Rattle.ov_model.specs.declared.refusal.Refusal.TheVariants as no
 use Rattle.ov_session.proofs.Shaping.{by_denied, by_permitted, served_by}
 use Rattle.ov_session.specs.declared.lines.Unasked.TheVariants as unasked
 use Rattle.ov_session.proofs.lines.asked.Goals as goal
+
+pub returns-in-Ok-None-clause-ok : goal.returns-in-Ok-None-clause-ok
+returns-in-Ok-None-clause-ok c =
+    served_by c.args.user.now c.args.line.now Comment (c.in-Ok-None.ensures.ok ∙ ap said c.in-Ok-None.field-0-is)
 
 pub returns-in-Ok-clause-ok : goal.returns-in-Ok-clause-ok
 returns-in-Ok-clause-ok c =
