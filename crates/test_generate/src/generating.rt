@@ -2,14 +2,14 @@
 
 ghost use Rattle.std.specs.Prelude.{IfOk, IsTrue};
 ghost use Rattle.ov_generate.specs.Making.{IsWanted};
-ghost use Rattle.ov_value.specs.Naming.{is_name};
+ghost use Rattle.ov_value.specs.Naming.{is_name as is_name_of};
 
 use crate::opened::told;
 use ov_generate::{Generated, Wanted, generate};
 use ov_memhost::MemHost;
 use ov_store::{Store, StoreErr};
-use ov_value::Txt;
-use std::alloc::{AllocError, Global};
+use ov_value::{Txt, is_name};
+use std::alloc::Global;
 use std::test::Fail;
 
 // Four versions of a dataset of the seed 7, whose first one has three rows: of the parents 1, 1 and 3. They were computed by the
@@ -28,24 +28,35 @@ const MADE: Generated = Generated {
     members: 16,
 };
 
-fn four(alloc: Global) -> Result<Wanted, AllocError>
-    ensures name { IfOk result (λ made. IsTrue (is_name made.cvd)) }
+// A name of a dataset.
+fn named(alloc: Global, name: &str) -> Result<Txt, Fail>
+    ensures { IfOk result (λ made. IsTrue (is_name_of made)) }
+{
+    let name = Txt::new(alloc, name)?;
+    if !is_name(name.as_str()) {
+        return Err("it is no name")?;
+    }
+    Ok(name)
+}
+
+fn four(alloc: Global) -> Result<Wanted, Fail>
+    ensures name { IfOk result (λ made. IsTrue (is_name_of made.cvd)) }
     ensures wanted { IfOk result IsWanted }
 {
     Ok(Wanted {
-        cvd: Txt::new(alloc, "g")?,
+        cvd: named(alloc, "g")?,
         seed: 7,
         rows: 3,
         versions: 4,
     })
 }
 
-fn tiny(alloc: Global) -> Result<Wanted, AllocError>
-    ensures name { IfOk result (λ made. IsTrue (is_name made.cvd)) }
+fn tiny(alloc: Global) -> Result<Wanted, Fail>
+    ensures name { IfOk result (λ made. IsTrue (is_name_of made.cvd)) }
     ensures wanted { IfOk result IsWanted }
 {
     Ok(Wanted {
-        cvd: Txt::new(alloc, "tiny")?,
+        cvd: named(alloc, "tiny")?,
         seed: 0,
         rows: 1,
         versions: 1,
