@@ -3,7 +3,7 @@
 --     records_at columns bytes places      those at all places, in order
 --     AreAt columns bytes places      the bytes at each place spell a row of the columns, of which there are at most 64
 --     Content      what contracts see of a table: its columns and its records
-use Rattle.std.specs.Prelude.{◌≤◌, ◌-◌, ℕ, List, [], ◌∷◌, ◌++◌, length, map, take, drop}
+use Rattle.std.specs.Prelude.{◌≤◌, ◌+◌, ◌-◌, ℕ, Bool, List, [], ◌∷◌, ◌++◌, length, map, take, drop}
 use Rattle.std.specs.List.{All}
 use Rattle.ov_value.specs.declared.column.Column.{Column}
 use Rattle.ov_value.specs.Decoding.{row_of, AreRow}
@@ -19,6 +19,11 @@ record_at columns bytes p = record { rid = p.rid; row = row_of columns p.marked 
 
 abbrev pub records_at : List Column → List ℕ → List Place → List Record
 records_at columns bytes places = map (record_at columns bytes) places
+
+-- bytes, with marks in front or without, that spell a row of these columns, of which there are at most 64
+pub record AreBytes (columns : List Column) (marked : Bool) (bytes : List ℕ) : Type 0 where
+  pub few : length columns ≤ 64
+  pub spelled : AreRow columns marked bytes
 
 pub record IsAt (columns : List Column) (bytes : List ℕ) (p : Place) : Type 0 where
   pub order : p.start ≤ p.end
@@ -37,3 +42,11 @@ pub record Content : Type 0 where
 -- with one more record at the end
 abbrev pub pushed : Content → Record → Content
 pushed table r = record table { records = table.records ++ r ∷ [] }
+
+-- with the records of another at the end
+abbrev pub joined : Content → Content → Content
+joined table other = record table { records = table.records ++ other.records }
+
+-- the place behind so many bytes more
+abbrev pub moved_by : ℕ → Place → Place
+moved_by base p = record p { start = base + p.start; end = base + p.end }

@@ -1,19 +1,19 @@
 //! Records in one buffer.
 
-ghost use Rattle.std.specs.Prelude.{◌≡◌, ◌↔◌, ◌<◌, List, [], length, IsTrue, IfOk, OnOk, OnErr, slice_index_or};
+ghost use Rattle.std.specs.Prelude.{◌≡◌, ◌==◌, ◌<◌, ◌≤◌, ◌+◌, ◌^◌, [], length, map, IfOk, OnOk, OnErr, slice_index_or};
+ghost use Rattle.std.specs.List.{All, dedup};
 ghost use Rattle.std.specs.List.Sorted.{IsPermutation, IsNonDecreasingBy, IsStableByKey};
 ghost use Rattle.std.specs.Ordering.{nat_cmp};
-ghost use Rattle.ov_value.specs.declared.column.Column.{Column as ColumnValue};
-ghost use Rattle.ov_value.specs.Rows.{HasKinds, key_cmp};
 ghost use Rattle.ov_value.specs.Spelling.{IsRow};
 ghost use Rattle.ov_value.specs.Decoding.{row_of, AreRow};
 ghost use Rattle.ov_segment.specs.declared.numbered.Record.{Record as RecordValue};
-ghost use Rattle.ov_segment.specs.Tables.{pushed};
+ghost use Rattle.ov_segment.specs.declared.place.Place.{Place as PlaceValue};
+ghost use Rattle.ov_segment.specs.Tables.{joined, moved_by, pushed};
 
 use crate::place::Place;
-use ov_value::{Cells, Column, Row, Schema, append_row};
+use crate::row_ref::RowRef;
+use ov_value::{Column, Row, Schema, append_row};
 use std::alloc::{AllocError, Global};
-use std::cmp::Ordering;
 use std::marker::Model;
 
 /// Records of one schema, whose rows stay bytes in one buffer. Contracts see the schema's columns and the list of the
@@ -140,54 +140,58 @@ impl Table {
         self.places[i].rid
     }
 
-    /// The values of the row at a position. It takes no memory.
-    pub fn cells(&self, i: usize) -> Cells<'_>
+    /// The row at a position, where its bytes lie.
+    pub fn row(&self, i: usize) -> RowRef<'_>
         requires { i < length self.now.records }
         ensures { (none : RecordValue) → result ≡ (slice_index_or self.now.records i none).row }
     {
         let place = self.places[i];
-        Cells::of(
+        RowRef::new(
             &self.columns,
             place.marked,
             &self.bytes[place.start..place.end],
         )
     }
 
-    /// Whether two rows, of this table and of another or the same, are equal, where both are of the same columns: a row has
-    /// one spelling, so that their bytes are compared.
-    pub fn same(&self, i: usize, other: &Table, j: usize) -> bool
-        requires first { i < length self.now.records }
-        requires second { j < length other.now.records }
-        ensures { (columns : List ColumnValue) (none : RecordValue)
-            → HasKinds (slice_index_or self.now.records i none).row columns → HasKinds (slice_index_or other.now.records j none).row columns
-            → IsTrue result ↔ ((slice_index_or self.now.records i none).row ≡ (slice_index_or other.now.records j none).row) }
+    /// Appends all records of another table with the same columns, in their order. The bytes are copied at once, and not read.
+    pub fn append(&mut self, other: &Table) -> Result<(), AllocError>
+        requires { self.old.columns ≡ other.now.columns }
+        ensures ok { OnOk result (self.new ≡ joined self.old other.now) }
+        ensures err { OnErr result (self.new ≡ self.old) }
     {
-        let a = self.places[i];
-        let b = other.places[j];
-        are_same(
-            a.marked,
-            &self.bytes[a.start..a.end],
-            b.marked,
-            &other.bytes[b.start..b.end],
-        )
+        let base = self.bytes.len();
+        self.bytes.extend_from_slice(&other.bytes)?;
+        let moved = moved_places(*self.places.allocator(), &other.places, base)?;
+        self.places.extend_from_slice(&moved)?;
+        Ok(())
     }
 
-    /// Compares two rows, of this table and of another or the same, by their keys, as [`Schema::cmp_key`] does.
-    pub fn cmp_key(&self, schema: &Schema, i: usize, other: &Table, j: usize) -> Ordering
-        requires first { i < length self.now.records }
-        requires second { j < length other.now.records }
-        ensures { (none : RecordValue) → result ≡ key_cmp schema.now (slice_index_or self.now.records i none).row (slice_index_or other.now.records j none).row }
+    /// The records at these positions, in this order. No row's bytes are copied; it takes memory for the places alone.
+    pub fn at(self, order: &[usize]) -> Result<Table, AllocError>
+        requires { All (λ i. i < length self.entry.records) order.now }
+        ensures columns { IfOk result (λ made. made.columns ≡ self.entry.columns) }
+        ensures records { (none : RecordValue) → IfOk result (λ made. made.records ≡ map (λ i. slice_index_or self.entry.records i none) order.now) }
     {
-        let a = self.cells(i);
-        let b = other.cells(j);
-        cmp_cells(schema, &a, &b)
+        let Table {
+            columns,
+            bytes,
+            places,
+        } = self;
+        let places = places_at(*places.allocator(), &places, order)?;
+        Ok(Table {
+            columns,
+            bytes,
+            places,
+        })
     }
-}
 
-fn are_same(a_marked: bool, a: &[u8], b_marked: bool, b: &[u8]) -> bool
-    ensures { IsTrue result ↔ ((a_marked ≡ b_marked) × (a.now ≡ b.now)) }
-{
-    a_marked == b_marked && a == b
+    /// Of successive records with one rid the first stays.
+    pub fn drop_repeats(&mut self)
+        ensures columns { self.new.columns ≡ self.old.columns }
+        ensures records { self.new.records ≡ dedup (λ x k. x.rid == k.rid) self.old.records }
+    {
+        drop_repeated(&mut self.places);
+    }
 }
 
 fn sort_places(places: &mut Vec<Place>) -> Result<(), AllocError>
@@ -210,14 +214,40 @@ fn copies_of(alloc: Global, columns: &[Column]) -> Result<Vec<Column>, AllocErro
     Ok(copies)
 }
 
-fn cmp_cells(schema: &Schema, a: &Cells<'_>, b: &Cells<'_>) -> Ordering
-    ensures { result ≡ key_cmp schema.now a.now b.now }
+fn drop_repeated(places: &mut Vec<Place>)
+    ensures { places.new.items ≡ dedup (λ x k. x.rid == k.rid) places.old.items }
 {
-    for place in schema.key() {
-        let order = a.at(*place as usize).compare(b.at(*place as usize));
-        if order != Ordering::Equal {
-            return order;
-        }
+    let same = |a: &mut Place, b: &mut Place| -> bool
+        ensures { (result ≡ (a.entry.now.rid == b.entry.now.rid)) × ((a.exit.now ≡ a.entry.now) × (b.exit.now ≡ b.entry.now)) }
+    { a.rid == b.rid };
+    places.dedup_by(same);
+}
+
+// The places behind so many bytes more.
+fn moved_places(alloc: Global, places: &[Place], base: usize) -> Result<Vec<Place>, AllocError>
+    requires { All (λ p. base + p.end < 2 ^ 64) places.now }
+    ensures { IfOk result (λ moved. moved.items ≡ map (moved_by base) places.now) }
+{
+    let mut moved = Vec::with_capacity(alloc, places.len())?;
+    for place in places {
+        moved.push(Place {
+            start: base + place.start,
+            end: base + place.end,
+            rid: place.rid,
+            marked: place.marked,
+        })?;
     }
-    Ordering::Equal
+    Ok(moved)
+}
+
+// The places at these positions.
+fn places_at(alloc: Global, places: &[Place], order: &[usize]) -> Result<Vec<Place>, AllocError>
+    requires { All (λ i. i < length places.now) order.now }
+    ensures { (none : PlaceValue) → IfOk result (λ found. found.items ≡ map (λ i. slice_index_or places.now i none) order.now) }
+{
+    let mut found = Vec::with_capacity(alloc, order.len())?;
+    for i in order {
+        found.push(places[*i])?;
+    }
+    Ok(found)
 }

@@ -7,6 +7,7 @@ ghost use Rattle.ov_value.specs.Spelling.{row_spelling};
 ghost use Rattle.ov_segment.specs.Segments.{Ascend, segment_spelling, record_bytes};
 
 use crate::numbered::Record;
+use crate::row_ref::RowRef;
 use ov_value::{Bytes, Schema, append_row, is_marked, row_len};
 use std::alloc::{AllocError, Global};
 
@@ -23,12 +24,26 @@ pub fn segment_bytes(
 {
     let mut bytes = Vec::with_capacity(alloc, len_of(records))?;
     for one in records {
-        append_record(&mut bytes, schema, one)?;
+        append_one(&mut bytes, schema, one)?;
     }
     Ok(Bytes::new(bytes))
 }
 
-fn append_record(bytes: &mut Vec<u8>, schema: &Schema, one: &Record) -> Result<(), AllocError>
+/// Appends the record with this rid and row. The row's bytes are copied, and not read.
+pub fn append_record(bytes: &mut Vec<u8>, rid: u32, row: &RowRef<'_>) -> Result<(), AllocError>
+    requires { length (row_spelling row.now).bytes ≤ 65536 }
+    ensures { OnOk result (bytes.new.items ≡ bytes.old.items ++ record_bytes (record { rid = rid; row = row.now })) }
+{
+    let spelled = row.bytes();
+    let mark = if row.is_marked() { 0x8000_0000 } else { 0 };
+    let len = spelled.len() as u32 + mark;
+    bytes.extend_from_slice(&rid.to_be_bytes())?;
+    bytes.extend_from_slice(&len.to_be_bytes())?;
+    bytes.extend_from_slice(spelled)?;
+    Ok(())
+}
+
+fn append_one(bytes: &mut Vec<u8>, schema: &Schema, one: &Record) -> Result<(), AllocError>
     requires fit { Fits schema.now one.now.row }
     requires small { length (row_spelling one.now.row).bytes ≤ 65536 }
     ensures { OnOk result (bytes.new.items ≡ bytes.old.items ++ record_bytes one.now) }
