@@ -6,3 +6,5 @@ pub mod TableLemmas
 pub mod SortLemmas
 pub mod SameLemmas
 pub mod SeekLemmas
+pub mod RowLemmas
+pub mod MovedLemmas

@@ -3,7 +3,7 @@
 --     records_at columns bytes places      those at all places, in order
 --     AreAt columns bytes places      the bytes at each place spell a row of the columns, of which there are at most 64
 --     Content      what contracts see of a table: its columns and its records
-use Rattle.std.specs.Prelude.{◌≤◌, ◌+◌, ◌-◌, ℕ, Bool, List, [], ◌∷◌, ◌++◌, length, map, take, drop}
+use Rattle.std.specs.Prelude.{◌≤◌, ◌+◌, ◌-◌, ℕ, Bool, false, List, [], ◌∷◌, ◌++◌, length, map, take, drop, slice_index_or}
 use Rattle.std.specs.List.{All}
 use Rattle.ov_value.specs.declared.column.Column.{Column}
 use Rattle.ov_value.specs.Decoding.{row_of, AreRow}
@@ -50,3 +50,10 @@ joined table other = record table { records = table.records ++ other.records }
 -- the place behind so many bytes more
 abbrev pub moved_by : ℕ → Place → Place
 moved_by base p = record p { start = base + p.start; end = base + p.end }
+
+-- what stands at no position, and the places at these positions
+abbrev pub no_place : Place
+no_place = record { start = 0; end = 0; rid = 0; marked = false }
+
+abbrev pub places_in : List Place → List ℕ → List Place
+places_in places order = map (λ i. slice_index_or places i no_place) order

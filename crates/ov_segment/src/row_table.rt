@@ -48,8 +48,8 @@ impl RowTable {
 
     /// The rows at these positions, in this order. No row's bytes are copied; it takes memory for the places alone.
     pub fn at(self, order: &[usize]) -> Result<RowTable, AllocError>
-        requires { All (λ i. i < length self.entry) order.now }
-        ensures { IfOk result (λ made. made ≡ map (λ i. slice_index_or self.entry i []) order.now) }
+        requires { All (λ i. i < length self) order.now }
+        ensures { IfOk result (λ made. made ≡ map (λ i. slice_index_or self i []) order.now) }
     {
         let table = self.table.at(order)?;
         Ok(RowTable { table })

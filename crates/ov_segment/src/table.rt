@@ -7,8 +7,7 @@ ghost use Rattle.std.specs.Ordering.{nat_cmp};
 ghost use Rattle.ov_value.specs.Spelling.{IsRow};
 ghost use Rattle.ov_value.specs.Decoding.{row_of, AreRow};
 ghost use Rattle.ov_segment.specs.declared.numbered.Record.{Record as RecordValue};
-ghost use Rattle.ov_segment.specs.declared.place.Place.{Place as PlaceValue};
-ghost use Rattle.ov_segment.specs.Tables.{joined, moved_by, pushed};
+ghost use Rattle.ov_segment.specs.Tables.{joined, moved_by, places_in, pushed};
 
 use crate::place::Place;
 use crate::row_ref::RowRef;
@@ -160,17 +159,25 @@ impl Table {
         ensures err { OnErr result (self.new ≡ self.old) }
     {
         let base = self.bytes.len();
-        self.bytes.extend_from_slice(&other.bytes)?;
-        let moved = moved_places(*self.places.allocator(), &other.places, base)?;
-        self.places.extend_from_slice(&moved)?;
-        Ok(())
+        match self.bytes.extend_from_slice(&other.bytes) {
+            Ok(()) => {}
+            Err(_) => return Err(AllocError),
+        }
+        let moved = match moved_places(*self.places.allocator(), &other.places, base) {
+            Ok(moved) => moved,
+            Err(_) => return Err(AllocError),
+        };
+        match self.places.extend_from_slice(&moved) {
+            Ok(()) => Ok(()),
+            Err(_) => Err(AllocError),
+        }
     }
 
     /// The records at these positions, in this order. No row's bytes are copied; it takes memory for the places alone.
     pub fn at(self, order: &[usize]) -> Result<Table, AllocError>
-        requires { All (λ i. i < length self.entry.records) order.now }
-        ensures columns { IfOk result (λ made. made.columns ≡ self.entry.columns) }
-        ensures records { (none : RecordValue) → IfOk result (λ made. made.records ≡ map (λ i. slice_index_or self.entry.records i none) order.now) }
+        requires { All (λ i. i < length self.records) order.now }
+        ensures columns { IfOk result (λ made. made.columns ≡ self.columns) }
+        ensures records { (none : RecordValue) → IfOk result (λ made. made.records ≡ map (λ i. slice_index_or self.records i none) order.now) }
     {
         let Table {
             columns,
@@ -225,7 +232,7 @@ fn drop_repeated(places: &mut Vec<Place>)
 
 // The places behind so many bytes more.
 fn moved_places(alloc: Global, places: &[Place], base: usize) -> Result<Vec<Place>, AllocError>
-    requires { All (λ p. base + p.end < 2 ^ 64) places.now }
+    requires { All (λ p. (p.start ≤ p.end) × (base + p.end < 2 ^ 64)) places.now }
     ensures { IfOk result (λ moved. moved.items ≡ map (moved_by base) places.now) }
 {
     let mut moved = Vec::with_capacity(alloc, places.len())?;
@@ -243,7 +250,7 @@ fn moved_places(alloc: Global, places: &[Place], base: usize) -> Result<Vec<Plac
 // The places at these positions.
 fn places_at(alloc: Global, places: &[Place], order: &[usize]) -> Result<Vec<Place>, AllocError>
     requires { All (λ i. i < length places.now) order.now }
-    ensures { (none : PlaceValue) → IfOk result (λ found. found.items ≡ map (λ i. slice_index_or places.now i none) order.now) }
+    ensures { IfOk result (λ found. found.items ≡ places_in places.now order.now) }
 {
     let mut found = Vec::with_capacity(alloc, order.len())?;
     for i in order {
