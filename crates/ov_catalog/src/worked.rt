@@ -1,5 +1,5 @@
-//! What is worked out on a chain of three versions, each the contract of a function that does nothing. Plans, their steps, added
-//! columns and checkpoints aren't made yet; these values say what their events will be.
+//! What is worked out on a chain of three versions, each the contract of a function that does nothing. No command begins a plan, adds
+//! columns or makes a checkpoint yet; these values say what the events of each are.
 
 ghost use Rattle.std.specs.Prelude.{◌≡◌, [], ◌∷◌, None, Some, map};
 ghost use Rattle.std.specs.Option.{option_map};
