@@ -6,3 +6,4 @@ pub mod Runs
 pub mod Fronts
 pub mod Keeping
 pub mod Seeking
+pub mod Drafts

@@ -10,6 +10,7 @@
 #![tactic(auto)]
 
 mod at;
+mod draft;
 mod keeping;
 mod laws;
 mod next;
@@ -25,6 +26,7 @@ mod seeking;
 mod table;
 mod writing;
 
+pub use draft::RowDraft;
 pub use keeping::Kept;
 pub use laws::{any_cuts, bad_stays, one_answer};
 pub use next::Next;

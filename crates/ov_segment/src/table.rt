@@ -1,14 +1,17 @@
 //! Records in one buffer.
 
-ghost use Rattle.std.specs.Prelude.{◌≡◌, ◌==◌, ◌<◌, ◌≤◌, ◌+◌, ◌^◌, [], length, map, IfOk, OnOk, OnErr, slice_index_or};
+ghost use Rattle.std.specs.Prelude.{◌≡◌, ◌==◌, ◌<◌, ◌≤◌, ◌+◌, ◌^◌, List, [], length, map, IfOk, OnOk, OnErr, slice_index_or};
 ghost use Rattle.std.specs.List.{All, dedup};
 ghost use Rattle.std.specs.List.Sorted.{IsPermutation, IsNonDecreasingBy, IsStableByKey};
 ghost use Rattle.std.specs.Ordering.{nat_cmp};
 ghost use Rattle.ov_value.specs.Spelling.{IsRow};
 ghost use Rattle.ov_value.specs.Decoding.{row_of, AreRow};
+ghost use Rattle.ov_value.specs.declared.value.Value.{Value as RowValue};
+ghost use Rattle.ov_segment.specs.Drafts.{IsWhole};
 ghost use Rattle.ov_segment.specs.declared.numbered.Record.{Record as RecordValue};
 ghost use Rattle.ov_segment.specs.Tables.{joined, moved_by, places_in, pushed};
 
+use crate::draft::RowDraft;
 use crate::place::Place;
 use crate::row_ref::RowRef;
 use ov_value::{Column, Row, Schema, append_row};
@@ -87,6 +90,38 @@ impl Table {
     {
         let start = self.bytes.len();
         let marked = match append_row(&mut self.bytes, schema, row) {
+            Ok(marked) => marked,
+            Err(_) => return Err(AllocError),
+        };
+        let end = self.bytes.len();
+        let place = Place {
+            start,
+            end,
+            rid,
+            marked,
+        };
+        match self.places.push(place) {
+            Ok(()) => {}
+            Err(_) => return Err(AllocError),
+        }
+        Ok(())
+    }
+
+    /// Appends a record with the row that a draft has. Its bytes are copied.
+    pub fn push_draft(
+        &mut self,
+        schema: &Schema,
+        rid: u32,
+        draft: &RowDraft,
+    ) -> Result<(), AllocError>
+        requires columns { self.old.columns ≡ schema.now.columns }
+        requires row { (row : List RowValue) × IsWhole draft.now row × IsRow schema.now row }
+        ensures ok { (row : List RowValue) → IsWhole draft.now row → IsRow schema.now row → OnOk result (self.new ≡ pushed self.old (record { rid = rid; row = row })) }
+        ensures err { OnErr result (self.new ≡ self.old) }
+    {
+        let _columns = schema.columns();
+        let start = self.bytes.len();
+        let marked = match draft.append_to(&mut self.bytes) {
             Ok(marked) => marked,
             Err(_) => return Err(AllocError),
         };
