@@ -1,13 +1,11 @@
 -- A writer that takes records of any length writes each as the default writer does.
-use Rattle.std.proofs.Common.{◌≡◌, ◌≢◌, ◌++◌, ◌==◌, ◌∷◌, [], ℕ, List, Some, refl, ap, true, length}
+use Rattle.std.proofs.Common.{◌≡◌, ◌≢◌, ◌++◌, ◌==◌, ◌∷◌, [], ℕ, List, Some, refl, ap, length}
 use Rattle.std.specs.Prelude.{if◌then◌else◌, Result, Ok, Err, OnOk, IsOk}
 use Rattle.std.specs.List.{list_any}
 use Rattle.csv.specs.declared.writer.QuoteStyle.TheVariants as style
 use Rattle.csv.specs.declared.writer.WriterBuilder.{WriterBuilder}
-use Rattle.csv.specs.Writing.{default_writer, escaped, field_text, fields_text, is_blank, needs_byte, row_body, row_text, with_flexible}
-
-abbrev flexible : WriterBuilder
-flexible = with_flexible default_writer true
+use Rattle.csv.specs.Writing.{default_writer, escaped, field_text, fields_text, is_blank, needs_byte, row_body, row_text}
+use Rattle.ov_csv.specs.Growing.{flexible}
 
 escaped-same : (bs : List ℕ) → escaped flexible bs ≡ escaped default_writer bs
 unfolding escaped

@@ -175,7 +175,7 @@ pub record IsKept (schema : Shape) (row : Row) : Type 0 where
   pub is_row : IsRow schema row
   pub short : length (row_spelling row).bytes ≤ 65536
 
-row-kept : (schema : Shape) (nth : ℕ) (fields : List (List ℕ)) → IsSound schema → row_refusal schema nth fields ≡ None → IsKept schema (row_in schema.columns fields)
+pub row-kept : (schema : Shape) (nth : ℕ) (fields : List (List ℕ)) → IsSound schema → row_refusal schema nth fields ≡ None → IsKept schema (row_in schema.columns fields)
 row-kept schema nth fields sound e =
     let row = row_in schema.columns fields in
     let p = passed (length fields == length schema.columns) (list_all is_utf8 fields) _ (null_key schema nth 0 schema.columns row) (long_row nth row) _ _ e in

@@ -7,5 +7,6 @@ pub mod IsRows
 pub mod Lists
 pub mod Places
 pub mod Rows
-pub mod Sizes
 pub mod CellFields
+pub mod NullKeys
+pub mod LineLemmas

@@ -9,10 +9,12 @@ ghost use Rattle.ov_model.specs.Csv.{fields_of as row_fields, text_of};
 ghost use Rattle.ov_csv.specs.Growing.{Grows, IsOpen};
 
 use crate::cells::fill_cells;
-use crate::spelling::{fill_names, fill_row};
+use crate::row_line::write_row;
+use crate::spelling::fill_names;
 use csv::{ByteRecord, Error, Writer, WriterBuilder};
 use ov_model::Cell;
-use ov_value::{Column, Kind, Row, Schema};
+use ov_segment::RowTable;
+use ov_value::{Cells, Column, Kind, Schema};
 use std::alloc::{AllocError, Global};
 use std::marker::Model;
 
@@ -68,17 +70,16 @@ impl CsvText {
         Ok(())
     }
 
-    /// Adds the line of a row, whose values stand in these columns.
-    pub fn row(&mut self, columns: &[Column], row: &Row) -> Result<(), AllocError>
-        ensures ok { OnOk result (Grows self.old (row_text default_writer (row_fields columns.now row.now)) self.new) }
+    /// Adds the line of a row, whose values stand in these columns. No row is made of them.
+    pub fn row(&mut self, columns: &[Column], row: Cells<'_>) -> Result<(), AllocError>
+        ensures ok { OnOk result (Grows self.old (row_text default_writer (row_fields columns.now row.entry)) self.new) }
         ensures err { OnErr result (self.new ≡ None) }
     {
         if self.failed {
             return Err(AllocError);
         }
         self.failed = true;
-        fill_row(self.alloc, &mut self.line, columns, row)?;
-        write_line(&mut self.writer, &self.line)?;
+        write_row(self.alloc, &mut self.writer, columns, row)?;
         self.failed = false;
         Ok(())
     }
@@ -119,14 +120,14 @@ impl CsvText {
 }
 
 /// The text of the rows: a header of the schema's column names, and a line for each row, in time linear in the text.
-pub fn write_rows(alloc: Global, schema: &Schema, rows: &[Row]) -> Result<Vec<u8>, AllocError>
+pub fn write_rows(alloc: Global, schema: &Schema, rows: &RowTable) -> Result<Vec<u8>, AllocError>
     ensures { IfOk result (λ text. text.items ≡ text_of schema.now rows.now) }
 {
     let columns = schema.columns();
     let mut text = CsvText::new(alloc);
     text.header(columns)?;
-    for row in rows {
-        text.row(columns, row)?;
+    for place in 0..rows.len() {
+        text.row(columns, rows.row(place).cells())?;
     }
     text.finish()
 }
@@ -141,7 +142,7 @@ fn write_line(writer: &mut Writer<Vec<u8>>, line: &ByteRecord) -> Result<(), All
 }
 
 // The answer of a write into memory, which has no error but want of memory.
-fn done(written: Result<(), Error>) -> Result<(), AllocError>
+pub(crate) fn done(written: Result<(), Error>) -> Result<(), AllocError>
     ensures { OnOk result (IsOk written) }
 {
     match written {

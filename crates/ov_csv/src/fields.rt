@@ -1,67 +1,68 @@
 //! The value that a field spells in a column.
 
-ghost use Rattle.std.specs.Prelude.{◌≡◌, ◌==◌, ◌∷◌, IfOk};
+ghost use Rattle.std.specs.Prelude.{◌≡◌, ◌==◌, ◌∷◌, Some, None};
 ghost use Rattle.std.specs.List.{list_all};
+ghost use Rattle.std.specs.Option.{MatchOption};
+ghost use Rattle.ov_value.specs.Cells.{value_of};
 ghost use Rattle.ov_model.specs.Csv.{field_value, int_value, flag_value, text_value, is_null_mark as is_null_mark_of};
 
-use ov_value::{Kind, Txt, Value};
-use std::alloc::{AllocError, Global};
+use ov_value::{CellRef, Kind};
 
-/// The value that the text spells in a column of the kind, or `None` where it spells none.
-pub(crate) fn read_field(alloc: Global, kind: Kind, text: &str) -> Result<Option<Value>, AllocError>
-    ensures { IfOk result (λ read. read ≡ field_value kind text.now) }
+/// The value that the text spells in a column of the kind, or `None` where it spells none. A text stays where it lies.
+pub(crate) fn read_field(kind: Kind, text: &str) -> Option<CellRef<'_>>
+    ensures { MatchOption result (field_value kind text.now ≡ None) (λ cell. field_value kind text.now ≡ Some (value_of cell)) }
 {
     match kind {
-        Kind::Int => Ok(read_int(text)),
-        Kind::Text => Ok(Some(read_text(alloc, text)?)),
-        Kind::Flag => Ok(read_flag(text)),
+        Kind::Int => read_int(text),
+        Kind::Text => Some(read_text(text)),
+        Kind::Flag => read_flag(text),
     }
 }
 
-fn read_int(text: &str) -> Option<Value>
-    ensures { result ≡ int_value text.now }
+fn read_int(text: &str) -> Option<CellRef<'_>>
+    ensures { MatchOption result (int_value text.now ≡ None) (λ cell. int_value text.now ≡ Some (value_of cell)) }
 {
     if text.is_empty() {
-        return Some(Value::Null);
+        return Some(CellRef::Null);
     }
     match text.parse::<i64>() {
-        Ok(number) => Some(Value::Int(number)),
+        Ok(number) => Some(CellRef::Int(number)),
         Err(_) => None,
     }
 }
 
-fn read_flag(text: &str) -> Option<Value>
-    ensures { result ≡ flag_value text.now }
+fn read_flag(text: &str) -> Option<CellRef<'_>>
+    ensures { MatchOption result (flag_value text.now ≡ None) (λ cell. flag_value text.now ≡ Some (value_of cell)) }
 {
     match text.as_bytes() {
-        b"" => Some(Value::Null),
-        b"true" | b"t" => Some(Value::Flag(true)),
-        b"false" | b"f" => Some(Value::Flag(false)),
+        b"" => Some(CellRef::Null),
+        b"true" | b"t" => Some(CellRef::Flag(true)),
+        b"false" | b"f" => Some(CellRef::Flag(false)),
         _ => None,
     }
 }
 
-fn read_text(alloc: Global, text: &str) -> Result<Value, AllocError>
-    ensures { IfOk result (λ read. read ≡ text_value text.now) }
+fn read_text(text: &str) -> CellRef<'_>
+    ensures { value_of result ≡ text_value text.now }
 {
     match text.strip_prefix('\\') {
-        Some(rest) => read_escaped(alloc, text, rest),
-        None => Ok(Value::Text(Txt::new(alloc, text)?)),
+        Some(rest) => read_escaped(text, rest),
+        None => CellRef::Text(text),
     }
 }
 
 // Of a text that is a backslash and the rest.
-fn read_escaped(alloc: Global, text: &str, rest: &str) -> Result<Value, AllocError>
+fn read_escaped<'a>(text: &'a str, rest: &'a str) -> CellRef<'a>
     requires { text.now ≡ 92 ∷ rest.now }
-    ensures { IfOk result (λ read. read ≡ text_value text.now) }
+    ensures { value_of result ≡ text_value text.now }
 {
     if !is_null_mark(rest.as_bytes()) {
-        return Ok(Value::Text(Txt::new(alloc, text)?));
+        return CellRef::Text(text);
     }
     if rest.len() == 1 {
-        return Ok(Value::Null);
+        return CellRef::Null;
     }
-    Ok(Value::Text(Txt::new(alloc, rest)?))
+    CellRef::Text(rest)
 }
 
 /// Whether the bytes are any number of backslashes and then one `N`.

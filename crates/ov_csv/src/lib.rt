@@ -15,6 +15,7 @@ mod lines;
 mod names;
 mod reading;
 mod records;
+mod row_line;
 mod scans;
 mod spelling;
 mod texts;

@@ -1,12 +1,13 @@
 //! The text of rows of a scan.
 
-ghost use Rattle.std.specs.Prelude.{◌≡◌, IfOk};
+ghost use Rattle.std.specs.Prelude.{◌≡◌, ◌<◌, IfOk, length};
 ghost use Rattle.ov_model.specs.Csv.{text_of};
-ghost use Rattle.ov_fetch.specs.Scans.{IsSound, AllStand, rows_at};
+ghost use Rattle.ov_fetch.specs.Scans.{IsSound, AllStand, row_at, rows_at};
 
 use crate::csv_text::CsvText;
 use ov_fetch::Scan;
-use ov_value::Schema;
+use ov_segment::RecordTable;
+use ov_value::{Cells, Schema};
 use std::alloc::{AllocError, Global};
 
 /// The text of the rows at these positions in the records of a scan: a header of the schema's column names, and a line for
@@ -22,11 +23,17 @@ pub fn write_csv(
     ensures { IfOk result (λ text. text.items ≡ text_of schema.now (rows_at scan.now.records picks.now)) }
 {
     let columns = schema.columns();
-    let records = scan.records.as_slice();
     let mut text = CsvText::new(alloc);
     text.header(columns)?;
     for place in picks {
-        text.row(columns, &records[*place].row)?;
+        text.row(columns, cells_at(&scan.records, *place))?;
     }
     text.finish()
+}
+
+fn cells_at(records: &RecordTable, place: usize) -> Cells<'_>
+    requires { place < length records.now }
+    ensures { result ≡ row_at records.now place }
+{
+    records.cells(place)
 }

@@ -1,14 +1,14 @@
-//! The fields of a row.
+//! The fields of names and values in a record.
 
-ghost use Rattle.std.specs.Prelude.{◌≡◌, [], ◌∷◌, ◌++◌, IfOk, OnOk};
+ghost use Rattle.std.specs.Prelude.{◌≡◌, [], ◌∷◌, ◌++◌, OnOk};
 ghost use Rattle.csv.specs.Records.{fields_of, partial_of};
 ghost use Rattle.ov_value.specs.Shapes.{names};
-ghost use Rattle.ov_model.specs.Csv.{field_of, null_field as null_field_of, text_field, fields_of as row_fields};
+ghost use Rattle.ov_model.specs.Csv.{field_of, null_field as null_field_of, text_field};
 
 use crate::fields::is_null_mark;
 use csv::ByteRecord;
 use itoa::Buffer;
-use ov_value::{Column, Kind, Row, Value};
+use ov_value::{Column, Kind, Value};
 use std::alloc::{AllocError, Global};
 
 /// Makes it the record of the columns' names.
@@ -18,26 +18,6 @@ pub(crate) fn fill_names(line: &mut ByteRecord, columns: &[Column]) -> Result<()
     line.clear();
     for column in columns {
         line.push_field(column.name.as_bytes())?;
-    }
-    Ok(())
-}
-
-/// Makes it the record of the row's values, each in its column.
-pub(crate) fn fill_row(
-    alloc: Global,
-    line: &mut ByteRecord,
-    columns: &[Column],
-    row: &Row,
-) -> Result<(), AllocError>
-    ensures { OnOk result (fields_of line.new ≡ row_fields columns.now row.now) }
-{
-    line.clear();
-    let values = row.values();
-    for (place, column) in columns.iter().enumerate() {
-        match values.get(place) {
-            Some(value) => push_value(alloc, line, column.kind, value)?,
-            None => return Ok(()),
-        }
     }
     Ok(())
 }
@@ -61,7 +41,8 @@ pub(crate) fn push_value(
     }
 }
 
-fn null_field(kind: Kind) -> &'static [u8]
+/// The field of NULL in a column of the kind.
+pub(crate) fn null_field(kind: Kind) -> &'static [u8]
     ensures { result.now ≡ null_field_of kind }
 {
     match kind {

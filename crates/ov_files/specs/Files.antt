@@ -22,11 +22,11 @@ file_rows schema name None = Err (NoFile name)
 file_rows schema name (Some bytes) = rows_of schema bytes
 
 abbrev pub result_of : FileRows → Result (List Row) Refusal
-result_of (Rows rows) = Ok rows.items
+result_of (Rows rows) = Ok rows
 result_of (Refused refusal) = Err refusal
 
 abbrev pub AreFit : Shape → FileRows → Type 0
-AreFit schema (Rows rows) = All (IsRow schema) rows.items × All (λ row. length (row_spelling row).bytes ≤ 65536) rows.items
+AreFit schema (Rows rows) = All (IsRow schema) rows × All (λ row. length (row_spelling row).bytes ≤ 65536) rows
 AreFit schema (Refused refusal) = Unit {0}
 
 -- it tells its files as before, and no count falls

@@ -13,14 +13,15 @@ use crate::reading::read_front;
 use ov_csv::{CsvErr, read_csv};
 use ov_host::{Found, Stage};
 use ov_model::Refusal;
-use ov_value::{Row, Schema, Txt};
+use ov_segment::RowTable;
+use ov_value::{Schema, Txt};
 use std::alloc::Global;
 
 /// What came of reading a file's rows.
 #[derive(Drop)]
 pub enum FileRows {
     /// The rows, in the order of the file.
-    Rows(Vec<Row>),
+    Rows(RowTable),
     /// There is no such file, or its bytes are no rows of the schema.
     Refused(Refusal),
 }

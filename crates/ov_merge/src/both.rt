@@ -6,7 +6,7 @@ ghost use Rattle.ov_merge.specs.Places.{place_cmp};
 ghost use Rattle.ov_merge.specs.Walks.{both as both_of};
 
 use crate::places::cmp_places;
-use ov_segment::Record;
+use ov_segment::RecordTable;
 use ov_value::Schema;
 use std::alloc::{AllocError, Global};
 use std::cmp::Ordering;
@@ -15,7 +15,7 @@ use std::cmp::Ordering;
 pub(crate) fn both(
     alloc: Global,
     schema: &Schema,
-    records: &[Record],
+    records: &RecordTable,
     first: &[usize],
     second: &[usize],
 ) -> Result<Vec<usize>, AllocError>

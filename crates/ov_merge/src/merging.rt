@@ -11,7 +11,7 @@ ghost use Rattle.ov_model.specs.Lists.{joined};
 use crate::both::both;
 use crate::once::once;
 use ov_fetch::{Pick, Scan};
-use ov_segment::Record;
+use ov_segment::RecordTable;
 use ov_value::Schema;
 use std::alloc::{AllocError, Global};
 
@@ -23,12 +23,7 @@ pub fn merge(alloc: Global, schema: &Schema, scan: &Scan) -> Result<Pick, AllocE
     ensures first { IfOk result (λ places. (place : ℕ) → IsIn places place
         → IsFirstPlace schema.now scan.now.records (joined scan.now.picks) place) }
 {
-    let places = merge_picks(
-        alloc,
-        schema,
-        scan.records.as_slice(),
-        scan.picks.as_slice(),
-    )?;
+    let places = merge_picks(alloc, schema, &scan.records, scan.picks.as_slice())?;
     Ok(Pick::new(places))
 }
 
@@ -36,7 +31,7 @@ pub fn merge(alloc: Global, schema: &Schema, scan: &Scan) -> Result<Pick, AllocE
 fn merge_picks(
     alloc: Global,
     schema: &Schema,
-    records: &[Record],
+    records: &RecordTable,
     picks: &[Pick],
 ) -> Result<Vec<usize>, AllocError>
     requires stand { All (AllStand records.now) picks.now }

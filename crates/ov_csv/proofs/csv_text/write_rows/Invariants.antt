@@ -4,5 +4,5 @@ use Rattle.ov_model.specs.Csv.{text_of}
 use Rattle.ov_csv.proofs.csv_text.write_rows.Given as goal
 
 -- the text of the rows so far
-abbrev pub invariant-loop-row : goal.invariant-loop-row
-invariant-loop-row l = l.text ≡ Some (text_of l.schema (take l.row-index l.rows))
+abbrev pub invariant-loop-place : goal.invariant-loop-place
+invariant-loop-place l = l.text ≡ Some (text_of l.schema (take l.place l.rows))

@@ -4,7 +4,7 @@ use Rattle.std.proofs.lemmas.Str.Pattern.{strip_prefix_char}
 use Rattle.ov_csv.proofs.Spelled.{text-plain}
 use Rattle.ov_csv.proofs.fields.read_text.Goals as goal
 
-pub returns-in_ok-new-in-None : goal.returns-in_ok-new-in-None
-returns-in_ok-new-in-None c =
+pub returns-in-None : goal.returns-in-None
+returns-in-None c =
     let none = rw c.in-None.is at (strip_prefix_char 92 _ _ c.strip_prefix.ensures.cases (lit< tt)) in
-    rw c.in_ok-new-in-None.ensures.ok (text-plain _ none)
+    text-plain _ none

@@ -1,11 +1,13 @@
-use Rattle.std.proofs.Common.{◌≡◌, ◌+◌, length}
-use Rattle.ov_model.specs.Csv.{rows_from}
-use Rattle.ov_csv.proofs.Lists.{onto_all}
+use Rattle.std.proofs.Common.{◌≡◌, ◌+◌, length, map}
+use Rattle.ov_csv.proofs.Lists.{IsAnswer}
 use Rattle.ov_csv.proofs.reading.read_rows.Given as goal
 
 -- the answer is the rows so far, and then the answer of the records that are left
-abbrev pub invariant-loop-rows : goal.invariant-loop-rows
-invariant-loop-rows l = rows_from l.schema 1 l.initial.lines ≡ onto_all l.rows.items (rows_from l.schema (length l.rows.items + 1) l.lines)
+abbrev pub invariant-loop-draft : goal.invariant-loop-draft
+invariant-loop-draft l = record {
+  columns : l.table.columns ≡ l.schema.columns;
+  answer : IsAnswer l.schema l.initial.lines (map (λ r. r.row) l.table.records) (length (map (λ r. r.row) l.table.records) + 1) l.lines;
+}
 
-abbrev pub decreases-loop-rows : goal.decreases-loop-rows
-decreases-loop-rows l = length l.lines
+abbrev pub decreases-loop-draft : goal.decreases-loop-draft
+decreases-loop-draft l = length l.lines

@@ -8,9 +8,7 @@ use Rattle.ov_merge.proofs.Merged.{merge_rows, first_place}
 use Rattle.ov_merge.proofs.merging.merge.Goals as goal
 
 pub merge_picks-requires-clause-ordered : goal.merge_picks-requires-clause-ordered
-merge_picks-requires-clause-ordered c =
-    subst (λ records. All (λ pick. InKeyOrder c.args.schema.now (rows_at records pick)) c.as_slice-2.result.now) (sym c.as_slice.ensures)
-    (subst (λ picks. All (λ pick. InKeyOrder c.args.schema.now (rows_at c.args.scan.now.records pick)) picks) (sym c.as_slice-2.ensures) c.requires.ordered)
+merge_picks-requires-clause-ordered c = subst (λ picks. All (λ pick. InKeyOrder c.args.schema.now (rows_at c.args.scan.now.records pick)) picks) (sym c.as_slice.ensures) c.requires.ordered
 
 pub returns : goal.returns
 returns c =
@@ -18,8 +16,7 @@ returns c =
     let records : List Record = c.args.scan.now.records in
     let picks : List (List ℕ) = c.args.scan.now.picks in
     let made : IsMerge (place_cmp schema records) (joined picks) c.in_ok-places.places.items =
-    subst (λ l. IsMerge (place_cmp schema l) (joined picks) c.in_ok-places.places.items) c.as_slice.ensures
-    (subst (λ l. IsMerge (place_cmp schema c.as_slice.result.now) (joined l) c.in_ok-places.places.items) c.as_slice-2.ensures c.in_ok-places.ensures.merge) in
+    subst (λ l. IsMerge (place_cmp schema records) (joined l) c.in_ok-places.places.items) c.as_slice.ensures c.in_ok-places.ensures.merge in
     let same : IsMerge (place_cmp schema records) (joined picks) c.new.result =
     subst (IsMerge (place_cmp schema records) (joined picks)) (sym c.new.ensures) made in
     record {
