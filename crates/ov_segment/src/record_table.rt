@@ -1,6 +1,6 @@
 //! A list of records in one buffer.
 
-ghost use Rattle.std.specs.Prelude.{◌≡◌, ◌<◌, length, slice_index_or};
+ghost use Rattle.std.specs.Prelude.{◌≡◌, ◌<◌, ◌^◌, length, slice_index_or};
 ghost use Rattle.ov_segment.specs.declared.numbered.Record.{Record as RecordValue};
 
 use crate::row_ref::RowRef;
@@ -31,9 +31,17 @@ impl RecordTable {
         RecordTable { table }
     }
 
+    /// The table of them, as it was when they were complete.
+    pub fn table(&self) -> &Table
+        ensures { result.now.records ≡ self.now }
+    {
+        &self.table
+    }
+
     /// How many records there are.
     pub fn len(&self) -> usize
-        ensures { result ≡ length self.now }
+        ensures count { result ≡ length self.now }
+        ensures small { result < 2 ^ 63 }
     {
         self.table.len()
     }

@@ -50,7 +50,8 @@ impl Table {
 
     /// How many records there are.
     pub fn len(&self) -> usize
-        ensures { result ≡ length self.now.records }
+        ensures count { result ≡ length self.now.records }
+        ensures small { result < 2 ^ 63 }
     {
         self.places.len()
     }
