@@ -16,7 +16,7 @@ is_same-requires c = (
   c.args.schema.now.columns,
   c.requires.row.kinds,
   subst (λ r. HasKinds r c.args.schema.now.columns) (sym (c.row-record.ensures none))
-      (fit_at c.args.schema.now c.args.parent.now c.loop-place.place c.requires.fit (omega (arith, c.loop-place-test.true, c.len-place-end.ensures))).kinds,
+      (fit_at c.args.schema.now c.args.parent.now c.loop-place.place c.requires.fit (omega (arith, c.loop-place-test.true, c.len-place-end.ensures.count))).kinds,
 )
 
 pub returns-then-is_or_none-clause-rid : goal.returns-then-is_or_none-clause-rid
@@ -24,7 +24,7 @@ returns-then-is_or_none-clause-rid c =
     let row = c.args.row.now in
     let place = c.loop-place.place in
     let one = at c.args.parent.now place in
-    let within : place < length c.args.parent.now = omega (arith, c.loop-place-test.true, c.len-place-end.ensures) in
+    let within : place < length c.args.parent.now = omega (arith, c.loop-place-test.true, c.len-place-end.ensures.count) in
     let same : is_same_row row one.row ≡ true = ap (is_same_row row) (sym (c.row-record.ensures none)) ∙ sym c.is_same.ensures ∙ c.if-is_same.true in
     let rid : c.rid-rid.result ≡ one.rid = c.rid-rid.ensures none in
     let leaves : leaves_to c.args.found one.rid ≡ true = ap (leaves_to c.args.found) (sym rid) ∙ sym c.is_or_none.ensures ∙ c.if-is_or_none.true in
@@ -35,7 +35,7 @@ returns-then-is_or_none-clause-shared c =
     let row = c.args.row.now in
     let place = c.loop-place.place in
     let one = at c.args.parent.now place in
-    let within : place < length c.args.parent.now = omega (arith, c.loop-place-test.true, c.len-place-end.ensures) in
+    let within : place < length c.args.parent.now = omega (arith, c.loop-place-test.true, c.len-place-end.ensures.count) in
     let same : is_same_row row one.row ≡ true = ap (is_same_row row) (sym (c.row-record.ensures none)) ∙ sym c.is_same.ensures ∙ c.if-is_same.true in
     let rid : c.rid-rid.result ≡ one.rid = c.rid-rid.ensures none in
     let leaves : leaves_to c.args.found one.rid ≡ true = ap (leaves_to c.args.found) (sym rid) ∙ sym c.is_or_none.ensures ∙ c.if-is_or_none.true in
@@ -47,7 +47,7 @@ returns-then-is_or_none-clause-passed c =
     let row = c.args.row.now in
     let place = c.loop-place.place in
     let one = at c.args.parent.now place in
-    let within : place < length c.args.parent.now = omega (arith, c.loop-place-test.true, c.len-place-end.ensures) in
+    let within : place < length c.args.parent.now = omega (arith, c.loop-place-test.true, c.len-place-end.ensures.count) in
     let same : is_same_row row one.row ≡ true = ap (is_same_row row) (sym (c.row-record.ensures none)) ∙ sym c.is_same.ensures ∙ c.if-is_same.true in
     looked_up c.args.schema.now c.args.parent.now row c.args.found place within c.loop-place.invariant same
 
@@ -56,7 +56,7 @@ returns-then-eq-clause-rid c =
     let row = c.args.row.now in
     let place = c.loop-place.place in
     let one = at c.args.parent.now place in
-    let within : place < length c.args.parent.now = omega (arith, c.loop-place-test.true, c.len-place-end.ensures) in
+    let within : place < length c.args.parent.now = omega (arith, c.loop-place-test.true, c.len-place-end.ensures.count) in
     let greater : key_cmp c.args.schema.now one.row row ≡ Greater = ap (λ r. key_cmp c.args.schema.now r c.args.row.now) (sym (c.row-record.ensures none)) ∙ sym c.cmp_key.ensures ∙ is_greater c.cmp_key.result c.eq.result c.eq.ensures c.if-eq.true in
     c.missed.ensures.rid ∙ (looked_above c.args.schema.now c.args.parent.now row c.args.found place within c.loop-place.invariant c.requires.order greater).rid_is
 
@@ -65,7 +65,7 @@ returns-then-eq-clause-shared c =
     let row = c.args.row.now in
     let place = c.loop-place.place in
     let one = at c.args.parent.now place in
-    let within : place < length c.args.parent.now = omega (arith, c.loop-place-test.true, c.len-place-end.ensures) in
+    let within : place < length c.args.parent.now = omega (arith, c.loop-place-test.true, c.len-place-end.ensures.count) in
     let greater : key_cmp c.args.schema.now one.row row ≡ Greater = ap (λ r. key_cmp c.args.schema.now r c.args.row.now) (sym (c.row-record.ensures none)) ∙ sym c.cmp_key.ensures ∙ is_greater c.cmp_key.result c.eq.result c.eq.ensures c.if-eq.true in
     c.missed.ensures.shared
     ∙ (looked_above c.args.schema.now c.args.parent.now row c.args.found place within c.loop-place.invariant c.requires.order greater).shared_is
@@ -76,7 +76,7 @@ loop-place-preserved c =
     let row = c.args.row.now in
     let place = c.loop-place.place in
     let one = at c.args.parent.now place in
-    let within : place < length c.args.parent.now = omega (arith, c.loop-place-test.true, c.len-place-end.ensures) in
+    let within : place < length c.args.parent.now = omega (arith, c.loop-place-test.true, c.len-place-end.ensures.count) in
     elim c.if-is_same.branch [
       | then-is_same+else-is_or_none w ↦
           let same : is_same_row row one.row ≡ true = ap (is_same_row row) (sym (c.row-record.ensures none)) ∙ sym c.is_same.ensures ∙ w.if-is_same.true in

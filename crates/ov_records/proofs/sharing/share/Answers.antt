@@ -21,12 +21,12 @@ loop-i-init c = record {
 }
 
 pub meet-met-requires-clause-row : goal.meet-met-requires-clause-row
-meet-met-requires-clause-row c = subst (Fits c.args.schema.now) (sym c.row.ensures) (c.requires.rows_fit c.loop-i.i [] (omega (arith, c.loop-i-test.true, c.len-i-end.ensures)))
+meet-met-requires-clause-row c = subst (Fits c.args.schema.now) (sym c.row.ensures) (c.requires.rows_fit c.loop-i.i [] (omega (arith, c.loop-i-test.true, c.len-i-end.ensures.count)))
 
 pub meet-met-requires-clause-below : goal.meet-met-requires-clause-below
 meet-met-requires-clause-below c =
     subst (AreBelow c.args.schema.now (take c.loop-i.passed c.args.parent.now)) (sym c.row.ensures)
-    (below_here c.args.schema.now c.args.rows.now c.loop-i.i (omega (arith, c.loop-i-test.true, c.len-i-end.ensures)) (take c.loop-i.passed c.args.parent.now) c.loop-i.invariant.passed)
+    (below_here c.args.schema.now c.args.rows.now c.loop-i.i (omega (arith, c.loop-i-test.true, c.len-i-end.ensures.count)) (take c.loop-i.passed c.args.parent.now) c.loop-i.invariant.passed)
 
 pub loop-i-preserved : goal.loop-i-preserved
 loop-i-preserved c =
@@ -38,7 +38,7 @@ loop-i-preserved c =
     let row = get_or rows i [] in
     let new = c.meet-met.result.rid in
     let front = take c.meet-met.result.passed c.args.parent.now in
-    let within : i < length rows = omega (arith, c.loop-i-test.true, c.len-i-end.ensures) in
+    let within : i < length rows = omega (arith, c.loop-i-test.true, c.len-i-end.ensures.count) in
     let long : length found ≡ length rows = c.loop-i.auto.found ∙ c.requires.found in
     let rid : new ≡ first_of (get_or found i None) (rid_of_row parent row) = c.meet-met.ensures.rid ∙ ap (λ r. first_of (get_or found i None) (rid_of_row parent r)) c.row.ensures in
     let shared : c.meet-met.result.shared ≡ has_found parent new row = c.meet-met.ensures.shared ∙ ap (λ r. has_found parent new r) c.row.ensures in

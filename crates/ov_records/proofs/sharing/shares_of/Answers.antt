@@ -11,7 +11,7 @@ use Rattle.ov_records.proofs.sharing.shares_of.Goals as goal
 
 pub loop-parent-init : goal.loop-parent-init
 loop-parent-init c = record {
-  found = c.in_ok-found.ensures.items_if_clones_equal (λ y h. search rules) ∙ ap (λ n. replicate n None) c.len.ensures ∙ none_found c.args.rows.now;
+  found = c.in_ok-found.ensures.items_if_clones_equal (λ y h. search rules) ∙ ap (λ n. replicate n None) c.len.ensures.count ∙ none_found c.args.rows.now;
   weights = λ next. c.in_ok-weights.ensures.items;
 }
 
