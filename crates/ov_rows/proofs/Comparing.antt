@@ -15,8 +15,7 @@ use Rattle.ov_value.specs.Order.{key_cmp_total}
 use Rattle.ov_value.specs.Shapes.{Shape}
 use Rattle.ov_model.specs.Book.{Row}
 use Rattle.ov_model.specs.Lists.{Rises}
-use Rattle.ov_rows.specs.declared.file_rows.FileRow.{FileRow}
-use Rattle.ov_rows.specs.FileRows.{numbered, file_row_cmp}
+use Rattle.ov_rows.specs.FileRows.{FileRow, numbered, file_row_cmp}
 use Rattle.ov_rows.proofs.Members.{below_all}
 
 pub clash : false ≡ true → ⊥

@@ -5,4 +5,6 @@ pub mod Neighbours
 pub mod Numbering
 pub mod Ordered
 pub mod Passing
+pub mod Positions
 pub mod Repeating
+pub mod Standing

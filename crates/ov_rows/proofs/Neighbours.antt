@@ -7,8 +7,7 @@ use Rattle.ov_value.specs.Rows.{key_cmp}
 use Rattle.ov_value.specs.Order.{key_cmp_total}
 use Rattle.ov_value.specs.Shapes.{Shape}
 use Rattle.ov_model.specs.Lists.{IsIn, Rises}
-use Rattle.ov_rows.specs.declared.file_rows.FileRow.{FileRow}
-use Rattle.ov_rows.specs.FileRows.{file_row_cmp, least_repeat}
+use Rattle.ov_rows.specs.FileRows.{FileRow, file_row_cmp, least_repeat}
 use Rattle.ov_rows.proofs.Comparing.{no_number, equal_is, not_less, is_equal, is_less, parts, file_rows_total}
 use Rattle.ov_rows.proofs.Members.{below_one}
 use Rattle.ov_rows.proofs.Passing.{AllTies, HasTie, none_behind, some_behind}

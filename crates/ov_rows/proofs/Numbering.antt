@@ -3,8 +3,7 @@ use Rattle.std.proofs.Common.{◌≡◌, ℕ, suc, ◌+◌, List, [], ◌∷◌,
 use Rattle.std.specs.List.Sorted.{IsPermutation}
 use Rattle.std.proofs.lemmas.List.Sorted.{IsPermutation-to_front, IsPermutation-pop_more}
 use Rattle.ov_model.specs.Book.{Row}
-use Rattle.ov_rows.specs.declared.file_rows.FileRow.{FileRow}
-use Rattle.ov_rows.specs.FileRows.{numbered}
+use Rattle.ov_rows.specs.FileRows.{FileRow, numbered}
 
 abbrev pub row_of : FileRow → Row
 row_of r = r.row

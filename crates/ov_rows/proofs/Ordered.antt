@@ -14,8 +14,7 @@ use Rattle.ov_model.specs.Book.{Row}
 use Rattle.ov_model.specs.Lists.{IsIn, IsBelow, Rises}
 use Rattle.ov_model.specs.Merge.{has_key, firsts, placed, in_key_order, merged}
 use Rattle.ov_model.proofs.Merging.{merged_rises}
-use Rattle.ov_rows.specs.declared.file_rows.FileRow.{FileRow}
-use Rattle.ov_rows.specs.FileRows.{numbered, file_row_cmp, least_repeat}
+use Rattle.ov_rows.specs.FileRows.{FileRow, numbered, file_row_cmp, least_repeat}
 use Rattle.ov_rows.proofs.Comparing.{is_less, parts}
 use Rattle.ov_rows.proofs.Members.{carried, in_end, in_more, in_either, rising_same}
 use Rattle.ov_rows.proofs.Numbering.{row_of, rows_of_numbered}

@@ -8,8 +8,7 @@ use Rattle.std.proofs.lemmas.Bool.Decides.{nat_tests}
 use Rattle.std.proofs.lemmas.List.{drop_more}
 use Rattle.ov_value.specs.Rows.{key_cmp}
 use Rattle.ov_value.specs.Shapes.{Shape}
-use Rattle.ov_rows.specs.declared.file_rows.FileRow.{FileRow}
-use Rattle.ov_rows.specs.FileRows.{lesser, least_behind, least_repeat}
+use Rattle.ov_rows.specs.FileRows.{FileRow, lesser, least_behind, least_repeat}
 use Rattle.ov_rows.proofs.Comparing.{clash, no_number}
 
 pub eq_tests : (o : Ordering) → (ordering_index o == 1) ≡ is_eq o

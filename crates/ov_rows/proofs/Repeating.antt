@@ -13,8 +13,7 @@ use Rattle.ov_value.specs.Shapes.{Shape}
 use Rattle.ov_model.specs.Book.{Row}
 use Rattle.ov_model.specs.Lists.{IsIn, Rises}
 use Rattle.ov_model.specs.Merge.{has_key}
-use Rattle.ov_rows.specs.declared.file_rows.FileRow.{FileRow}
-use Rattle.ov_rows.specs.FileRows.{numbered, file_row_cmp, least_repeat}
+use Rattle.ov_rows.specs.FileRows.{FileRow, numbered, file_row_cmp, least_repeat}
 use Rattle.ov_rows.specs.Refusing.{first_repeat}
 use Rattle.ov_rows.proofs.Comparing.{clash, equal_is, is_equal}
 use Rattle.ov_rows.proofs.Members.{carried}

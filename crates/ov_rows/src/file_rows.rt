@@ -1,69 +1,64 @@
-//! Rows beside their numbers in a file, while they are put in order.
+//! The rows of a file by their keys: which stands where.
 
-ghost use Rattle.std.specs.Prelude.{◌≡◌, ◌≤◌, IfOk, OnOk, length, map};
+ghost use Rattle.std.specs.Prelude.{◌≡◌, ◌<◌, ◌≤◌, IfOk, OnOk, length};
+ghost use Rattle.std.specs.List.{All};
 ghost use Rattle.std.specs.List.Sorted.{IsPermutation, IsSorted};
 ghost use Rattle.ov_model.specs.Lists.{Rises};
-ghost use Rattle.ov_rows.specs.FileRows.{numbered, file_row_cmp};
+ghost use Rattle.ov_model.specs.Records.{counted};
+ghost use Rattle.ov_rows.specs.FileRows.{numbered, file_row_cmp, lines_at, position_cmp};
 
-use ov_value::{Row, Schema};
+use ov_segment::RowTable;
+use ov_value::Schema;
 use std::alloc::{AllocError, Global};
+use std::cmp::Ordering;
 
-/// A row of a file, and its number there, counted from 1.
-#[derive(Drop)]
-pub(crate) struct FileRow {
-    pub row: Row,
-    pub nth: u32,
-}
-
-/// The rows with their numbers, by their keys, and those of one key by their numbers.
-pub(crate) fn sorted_file_rows(
+/// The positions of the rows by their keys, and those of one key as they stand.
+pub(crate) fn sorted_positions(
     alloc: Global,
     schema: &Schema,
-    rows: Vec<Row>,
-) -> Result<Vec<FileRow>, AllocError>
-    requires { length rows.items ≤ 1000000 }
-    ensures moved { IfOk result (λ made. IsPermutation (numbered 1 rows.items) made.items) }
-    ensures rise { IfOk result (λ made. Rises (file_row_cmp schema.now) made.items) }
+    rows: &RowTable,
+) -> Result<Vec<usize>, AllocError>
+    requires { 0 < length rows.now }
+    ensures within { IfOk result (λ order. All (λ i. i < length rows.now) order.items) }
+    ensures moved { IfOk result (λ order. IsPermutation (numbered 1 rows.now) (lines_at rows.now order.items)) }
+    ensures rise { IfOk result (λ order. Rises (file_row_cmp schema.now) (lines_at rows.now order.items)) }
 {
-    let mut made = number_rows(alloc, rows)?;
-    sort_file_rows(schema, &mut made)?;
-    Ok(made)
+    let mut order = positions(alloc, rows.len())?;
+    sort_positions(schema, rows, &mut order)?;
+    Ok(order)
 }
 
-// The rows with their numbers, in some order: they are taken from the end, so that each is moved and none is copied.
-fn number_rows(alloc: Global, rows: Vec<Row>) -> Result<Vec<FileRow>, AllocError>
-    requires { length rows.items ≤ 1000000 }
-    ensures { IfOk result (λ made. IsPermutation (numbered 1 rows.items) made.items) }
+// The positions of so many rows.
+fn positions(alloc: Global, count: usize) -> Result<Vec<usize>, AllocError>
+    ensures { IfOk result (λ order. order.items ≡ counted 0 count) }
 {
-    let mut left = rows;
-    let mut made = Vec::with_capacity(alloc, left.len())?;
-    while let Some(row) = left.pop() {
-        made.push(FileRow {
-            row,
-            nth: left.len() as u32 + 1,
-        })?;
+    let mut order = Vec::with_capacity(alloc, count)?;
+    for i in 0..count {
+        order.push(i)?;
     }
-    Ok(made)
+    Ok(order)
 }
 
-// Sorts them in place.
-fn sort_file_rows(schema: &Schema, rows: &mut Vec<FileRow>) -> Result<(), AllocError>
-    ensures permutation { IsPermutation rows.old.items rows.new.items }
-    ensures sorted { OnOk result (IsSorted (file_row_cmp schema.now) rows.new.items) }
+// Sorts them in place. A position past the last row counts as the last one's, so that any two can be compared.
+fn sort_positions(
+    schema: &Schema,
+    rows: &RowTable,
+    order: &mut Vec<usize>,
+) -> Result<(), AllocError>
+    requires { 0 < length rows.now }
+    ensures permutation { IsPermutation order.old.items order.new.items }
+    ensures sorted { OnOk result (IsSorted (position_cmp schema.now rows.now) order.new.items) }
 {
-    rows.sort_by(|a, b| schema.cmp_key(&a.row, &b.row).then(a.nth.cmp(&b.nth)))?;
+    order.sort_by(|a, b| cmp_positions(schema, rows, *a, *b))?;
     Ok(())
 }
 
-/// The rows alone, in the same order.
-pub(crate) fn rows_of(alloc: Global, rows: Vec<FileRow>) -> Result<Vec<Row>, AllocError>
-    ensures { IfOk result (λ made. made.items ≡ map (λ r. r.row) rows.items) }
+fn cmp_positions(schema: &Schema, rows: &RowTable, a: usize, b: usize) -> Ordering
+    requires { 0 < length rows.now }
+    ensures { result ≡ position_cmp schema.now rows.now a b }
 {
-    let mut left = rows;
-    let mut made = Vec::with_capacity(alloc, left.len())?;
-    while let Some(last) = left.pop() {
-        made.push(last.row)?;
-    }
-    made.reverse();
-    Ok(made)
+    let last = rows.len() - 1;
+    rows.row(a.min(last))
+        .cmp_key(schema, &rows.row(b.min(last)))
+        .then(a.cmp(&b))
 }

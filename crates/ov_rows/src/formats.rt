@@ -2,15 +2,17 @@
 
 ghost use Rattle.std.specs.Prelude.{◌≡◌, ◌≤◌, length};
 ghost use Rattle.std.specs.List.{list_any};
-ghost use Rattle.ov_value.specs.Rows.{is_null};
+ghost use Rattle.ov_value.specs.Cells.{value_of};
+ghost use Rattle.ov_value.specs.Rows.{is_null as is_null_of};
 ghost use Rattle.ov_model.specs.Act.{null_row};
 ghost use Rattle.ov_rows.specs.Refusing.{format_off as format_off_of};
 
 use crate::rows_err::RowsErr;
-use ov_value::Row;
+use ov_segment::{RowRef, RowTable};
+use ov_value::CellRef;
 
 /// Why these rows, or columns that are added with them, are refused in a store of this format.
-pub(crate) fn format_off(format: u32, adds: bool, rows: &[Row]) -> Option<RowsErr>
+pub(crate) fn format_off(format: u32, adds: bool, rows: &RowTable) -> Option<RowsErr>
     requires { length rows.now ≤ 1000000 }
     ensures { result ≡ format_off_of format adds rows.now }
 {
@@ -25,20 +27,35 @@ pub(crate) fn format_off(format: u32, adds: bool, rows: &[Row]) -> Option<RowsEr
 }
 
 // The first row that has a NULL, counted from 1.
-fn first_null(rows: &[Row]) -> Option<u32>
+fn first_null(rows: &RowTable) -> Option<u32>
     requires { length rows.now ≤ 1000000 }
     ensures { result ≡ null_row 1 rows.now }
 {
-    for (i, row) in rows.iter().enumerate() {
-        if has_null(row) {
+    for i in 0..rows.len() {
+        if has_null(&rows.row(i)) {
             return Some(i as u32 + 1);
         }
     }
     None
 }
 
-fn has_null(row: &Row) -> bool
-    ensures { result ≡ list_any is_null row.now }
+fn has_null(row: &RowRef<'_>) -> bool
+    ensures { result ≡ list_any is_null_of row.now }
 {
-    row.values().iter().any(|value| value.is_null())
+    let mut cells = row.cells();
+    while let Some(cell) = cells.next() {
+        if is_null(cell) {
+            return true;
+        }
+    }
+    false
+}
+
+fn is_null(cell: CellRef<'_>) -> bool
+    ensures { result ≡ is_null_of (value_of cell.entry) }
+{
+    match cell {
+        CellRef::Null => true,
+        _ => false,
+    }
 }
