@@ -1,5 +1,7 @@
 pub mod Values
 pub mod Free
 pub mod ThreeValues
-pub mod Among
 pub mod Spots
+pub mod Found
+pub mod FoundTruths
+pub mod Among

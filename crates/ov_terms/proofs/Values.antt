@@ -1,30 +1,31 @@
 -- The values of a column in a group, from a place on.
-use Rattle.std.proofs.Common.{◌≡◌, ◌<◌, ◌+◌, ◌∷◌, ℕ, List, Bool, true, false, ap, refl, add-one, length, drop, get_or, drop-cons}
+use Rattle.std.proofs.Common.{◌≡◌, ◌<◌, ◌+◌, ◌∷◌, ℕ, List, Bool, true, false, true≢false, suc, ◌∙◌, ap, refl, sym, arith, add-one, length, drop, get_or, drop-cons}
 use Rattle.std.specs.Prelude.{ℤ, if◌then◌else◌, not}
 use Rattle.ov_value.specs.declared.value.Value.{Value}
 use Rattle.ov_value.specs.declared.value.Value.TheVariants as value
-use Rattle.ov_value.specs.Shapes.{Shape}
 use Rattle.ov_segment.specs.declared.numbered.Record.{Record}
-use Rattle.ov_model.specs.Answers.{cell_order, first_by, greatest_from, is_below, is_null_cell, is_present, least_from, plus, present, sum_from, value_in, value_order}
+use Rattle.ov_model.specs.Answers.{cell_order, first_by, greatest_from, is_below, is_null_cell, is_present, least_from, plus, sum_from, value_order}
 use Rattle.ov_model.specs.declared.answer.Cell.{Cell}
 use Rattle.ov_model.specs.declared.answer.Cell.TheVariants as cell
-use Rattle.ov_model.specs.declared.query.Col.{Col}
+use Rattle.ov_terms.specs.Finding.{present_at, value_at}
+use Rattle.ov_terms.specs.declared.lookup.Lookup.{Lookup}
 use Rattle.ov_terms.specs.declared.spot.Spot.{Spot}
 use Rattle.ov_terms.specs.Best.{better}
+use Rattle.ov_terms.specs.Summing.{plus_cell}
 use Rattle.ov_terms.specs.Standing.{pair_at, pairs_at}
 
 abbrev pub onto : Value → List Value → List Value
 onto v vs = if is_present v then v ∷ vs else vs
 
-abbrev pub values : Shape → List Record → Col → List Spot → List Value
-values schema records col group = present schema (pairs_at records group) col
+abbrev pub values : List Record → Lookup → List Spot → List Value
+values records found group = present_at (pairs_at records group) found
 
 -- the value at a place, in front of those behind it
-pub values-more : (schema : Shape) (records : List Record) (col : Col) (group : List Spot) (i : ℕ) (d : Spot) → i < length group
-    → values schema records col (drop i group) ≡ onto (value_in schema (pair_at records (get_or group i d)) col) (values schema records col (drop (i + 1) group))
-values-more schema records col group i d lt =
+pub values-more : (records : List Record) (found : Lookup) (group : List Spot) (i : ℕ) (d : Spot) → i < length group
+    → values records found (drop i group) ≡ onto (value_at found (pair_at records (get_or group i d))) (values records found (drop (i + 1) group))
+values-more records found group i d lt =
     let here : drop i group ≡ get_or group i d ∷ drop (i + 1) group = rw (add-one i) (drop-cons group i d lt) in
-    ap (values schema records col) here
+    ap (values records found) here
 
 pub null-absent : (v : Value) → is_null_cell (cell.Value v) ≡ not (is_present v)
 null-absent (value.Int n) = refl
@@ -38,6 +39,38 @@ sum-onto n (value.Int m) vs = refl
 sum-onto n (value.Text text) vs = refl
 sum-onto n (value.Flag flag) vs = refl
 sum-onto n value.Null vs = refl
+
+-- one value more of a sum
+pub sum-more : (records : List Record) (found : Lookup) (group : List Spot) (i : ℕ) (d : Spot) (n m all : ℤ) (seen : Cell) → i < length group
+    → seen ≡ cell.Value (value_at found (pair_at records (get_or group i d))) → m ≡ plus_cell n seen → all ≡ sum_from n (values records found (drop i group))
+    → all ≡ sum_from m (values records found (drop (i + 1) group))
+sum-more records found group i d n m all seen lt is more before =
+    let rest : List Value = values records found (drop (i + 1) group) in
+    before ∙ ap (sum_from n) (values-more records found group i d lt) ∙ sum-onto n (value_at found (pair_at records (get_or group i d))) rest
+    ∙ ap (λ k. sum_from k rest) (sym (more ∙ ap (plus_cell n) is))
+
+-- and of a count
+length-onto : (v : Value) (vs : List Value) (null : Bool) → null ≡ is_null_cell (cell.Value v) → length (onto v vs) ≡ (if null then length vs else suc (length vs))
+length-onto (value.Int n) vs null e = rw e refl
+length-onto (value.Text text) vs null e = rw e refl
+length-onto (value.Flag flag) vs null e = rw e refl
+length-onto value.Null vs null e = rw e refl
+
+pub length-more : (records : List Record) (found : Lookup) (group : List Spot) (i : ℕ) (d : Spot) (seen : Cell) (null : Bool) → i < length group
+    → seen ≡ cell.Value (value_at found (pair_at records (get_or group i d))) → null ≡ is_null_cell seen
+    → length (values records found (drop i group))
+    ≡ (if null then length (values records found (drop (i + 1) group)) else suc (length (values records found (drop (i + 1) group))))
+length-more records found group i d seen null lt is e =
+    ap length (values-more records found group i d lt)
+    ∙ length-onto (value_at found (pair_at records (get_or group i d))) (values records found (drop (i + 1) group)) null (e ∙ ap is_null_cell is)
+
+pub count-there : (null : Bool) (all count now behind rest : ℕ) → null ≡ false → now ≡ count + 1 → behind ≡ (if null then rest else suc rest) → all ≡ count + behind → all ≡ now + rest
+count-there true all count now behind rest n is e before = absurd (true≢false n)
+count-there false all count now behind rest n is e before = omega (arith, is, e, before)
+
+pub count-none : (null : Bool) (all count now behind rest : ℕ) → null ≡ true → now ≡ count → behind ≡ (if null then rest else suc rest) → all ≡ count + behind → all ≡ now + rest
+count-none true all count now behind rest n is e before = omega (arith, is, e, before)
+count-none false all count now behind rest n is e before = absurd (true≢false (sym n))
 
 -- the best so far, before these values
 abbrev pub onward : (Value → List Value → Value) → Cell → List Value → Cell

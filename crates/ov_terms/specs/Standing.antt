@@ -1,14 +1,12 @@
 -- Pairs of a version and one of its rows, which stand among records.
 --     pair_at records spot      the pair; pairs_at records group      those of a group
 --     pairs_shown scan      those of all versions of a scan
---     here schema related records group      where a condition is read
 --     NoLineage condition      it names no lineage
 use Rattle.std.specs.Prelude.{◌≡◌, ℕ, List, [], ◌∷◌, ◌++◌, map, Option}
 use Rattle.ov_segment.specs.declared.numbered.Record.{Record}
 use Rattle.ov_fetch.specs.Scans.{row_at, rows_at}
 use Rattle.ov_fetch.specs.declared.scan.Scan.{Scan}
-use Rattle.ov_value.specs.Shapes.{Shape}
-use Rattle.ov_model.specs.Answers.{Here, Pair, Related, here_for}
+use Rattle.ov_model.specs.Answers.{Pair}
 use Rattle.ov_model.specs.Asking.{cond_lineages, guard_lineages}
 use Rattle.ov_model.specs.declared.query.Cond.{Cond}
 use Rattle.ov_terms.specs.declared.spot.Spot.{Spot}
@@ -30,9 +28,6 @@ pairs_in records _ _ = []
 
 abbrev pub pairs_shown : Scan → List Pair
 pairs_shown scan = pairs_in scan.records scan.vids scan.picks
-
-abbrev pub here : Shape → Related → List Record → List Spot → Here
-here schema related records group = here_for schema related (pairs_at records group)
 
 abbrev pub NoLineage : Cond → Type 0
 NoLineage condition = cond_lineages condition ≡ []

@@ -1,73 +1,72 @@
 //! The aggregates: over the values of a column in a group that aren't NULL.
 
 ghost use Rattle.std.specs.Prelude.{◌≡◌, ◌≤◌, ◌+◌, ◌-◌, ◌*◌, ◌^◌, ◌+ℤ◌, ◌≤ℤ◌, pos, length};
-ghost use Rattle.ov_model.specs.Answers.{cell_order, present, sum_from, sum_cell, first_by, least_from, greatest_from};
+ghost use Rattle.ov_model.specs.Answers.{cell_order, sum_cell, first_by, least_from, greatest_from};
 ghost use Rattle.ov_terms.specs.Best.{better};
+ghost use Rattle.ov_terms.specs.Finding.{present_at};
 ghost use Rattle.ov_terms.specs.Seeing.{cell_of};
 ghost use Rattle.ov_terms.specs.Summing.{plus_cell};
 ghost use Rattle.ov_terms.specs.Standing.{pairs_at};
 
+use crate::lookup::Lookup;
 use crate::order::is_below;
 use crate::seen::Seen;
 use crate::spot::Spot;
 use crate::table::Table;
-use ov_model::Col;
-use ov_value::Value;
+use ov_value::CellRef;
 
 impl<'a> Table<'a> {
     /// How many values there are.
-    pub(crate) fn count(&self, group: &[Spot], col: &Col) -> usize
-        ensures { result ≡ length (present self.now.schema.now (pairs_at self.now.records.now group.now) col.now) }
+    pub(crate) fn count(&self, group: &[Spot], found: Lookup) -> usize
+        ensures { result ≡ length (present_at (pairs_at self.now.records.now group.now) found) }
     {
         let mut count = 0;
         for spot in group {
-            if !self.value_in(*spot, col).is_null() {
+            if !self.value_at(*spot, found).is_null() {
                 count += 1;
             }
         }
         count
     }
 
-    // The sum of the ints among them.
-    fn sum_of(&self, group: &[Spot], col: &Col) -> i128
-        ensures { result ≡ sum_from (pos 0) (present self.now.schema.now (pairs_at self.now.records.now group.now) col.now) }
+    /// The sum of the values; nothing where there are none.
+    pub(crate) fn sum(&self, group: &[Spot], found: Lookup) -> Seen<'a>
+        ensures { cell_of result ≡ sum_cell (present_at (pairs_at self.now.records.now group.now) found) }
     {
         let mut sum = 0;
+        let mut count: usize = 0;
         for spot in group {
-            sum = plus(sum, self.value_in(*spot, col));
+            let value = self.value_at(*spot, found);
+            sum = plus(sum, value);
+            if !value.is_null() {
+                count += 1;
+            }
         }
-        sum
-    }
-
-    /// The sum of the values; nothing where there are none.
-    pub(crate) fn sum(&self, group: &[Spot], col: &Col) -> Seen<'a>
-        ensures { cell_of result ≡ sum_cell (present self.now.schema.now (pairs_at self.now.records.now group.now) col.now) }
-    {
-        if self.count(group, col) == 0 {
+        if count == 0 {
             Seen::Nothing
         } else {
-            Seen::Sum(self.sum_of(group, col))
+            Seen::Sum(sum)
         }
     }
 
     /// The least of the values, the first one at a tie; nothing where there are none.
-    pub(crate) fn least(&self, group: &[Spot], col: &Col) -> Seen<'a>
-        ensures { cell_of result ≡ first_by least_from (present self.now.schema.now (pairs_at self.now.records.now group.now) col.now) }
+    pub(crate) fn least(&self, group: &[Spot], found: Lookup) -> Seen<'a>
+        ensures { cell_of result ≡ first_by least_from (present_at (pairs_at self.now.records.now group.now) found) }
     {
         let mut least = Seen::Nothing;
         for spot in group {
-            least = lesser(least, self.value_in(*spot, col));
+            least = lesser(least, self.value_at(*spot, found));
         }
         least
     }
 
     /// The greatest of the values, the first one at a tie; nothing where there are none.
-    pub(crate) fn greatest(&self, group: &[Spot], col: &Col) -> Seen<'a>
-        ensures { cell_of result ≡ first_by greatest_from (present self.now.schema.now (pairs_at self.now.records.now group.now) col.now) }
+    pub(crate) fn greatest(&self, group: &[Spot], found: Lookup) -> Seen<'a>
+        ensures { cell_of result ≡ first_by greatest_from (present_at (pairs_at self.now.records.now group.now) found) }
     {
         let mut greatest = Seen::Nothing;
         for spot in group {
-            greatest = greater(greatest, self.value_in(*spot, col));
+            greatest = greater(greatest, self.value_at(*spot, found));
         }
         greatest
     }
@@ -82,8 +81,7 @@ fn plus(n: i128, value: Seen<'_>) -> i128
     ensures high { result ≤ℤ (n +ℤ pos (2 ^ 63)) }
 {
     match value {
-        Seen::Value(Value::Int(m)) => n + i128::from(*m),
-        Seen::Vid(vid) => n + i128::from(vid),
+        Seen::Cell(CellRef::Int(m)) => n + i128::from(m),
         _ => n,
     }
 }

@@ -6,7 +6,12 @@
 #![tactic(auto)]
 
 mod aggregates;
+mod found_cond;
+mod found_items;
+mod found_operand;
+mod found_term;
 mod lineages;
+mod lookup;
 mod order;
 mod rows;
 mod seen;
@@ -15,9 +20,13 @@ mod table;
 mod truth;
 mod truths;
 
+pub use found_cond::{FoundCond, find_cond, find_guard, found_by_cases};
+pub use found_items::FoundItems;
+pub use found_operand::FoundOperand;
+pub use found_term::FoundTerm;
 pub use lineages::{free_by_cases, is_free, is_guard_free};
+pub use lookup::Lookup;
 pub use order::cmp_seen;
-pub use rows::spots_of;
 pub use seen::Seen;
 pub use spot::Spot;
 pub use table::Table;

@@ -1,41 +1,21 @@
-//! From a scan to its spots, and from a group to a row of an answer.
+//! From a scan to the spots that WHERE takes, and from a group to a row of an answer.
 
 ghost use Rattle.std.specs.Prelude.{◌≡◌, ◌++◌, ◌∷◌, [], if◌then◌else◌, IfOk, OnOk, filter, length, map};
-ghost use Rattle.ov_model.specs.Answers.{Related, here_for, holds, row_cells, row_of, shown, term_of_group};
-ghost use Rattle.ov_terms.specs.Seeing.{cell_of};
-ghost use Rattle.ov_terms.specs.Standing.{NoLineages, pairs_at, pairs_shown, spots_in};
+ghost use Rattle.ov_model.specs.Answers.{row_cells, row_of};
+ghost use Rattle.ov_terms.specs.Finding.{found_term, is_taken, shown_by};
+ghost use Rattle.ov_terms.specs.Standing.{pairs_at, pairs_in, spots_in};
 
-use crate::seen::Seen;
+use crate::found_cond::FoundCond;
+use crate::found_items::FoundItems;
+use crate::found_term::FoundTerm;
+use crate::seen::value_of;
 use crate::spot::Spot;
 use crate::table::Table;
-use ov_fetch::Scan;
-use ov_model::{Cell, Cond, Items, Seq, Term};
-use ov_value::Value;
+use ov_fetch::Pick;
+use ov_model::{Cell, Seq};
+use ov_value::Cells;
 use std::alloc::{AllocError, Global};
 use std::slice;
-
-/// The spots of a scan's versions in their order, the rows of each in key order.
-pub fn spots_of(alloc: Global, scan: &Scan) -> Result<Vec<Spot>, AllocError>
-    requires { length scan.now.vids ≡ length scan.now.picks }
-    ensures { IfOk result (λ spots. pairs_at scan.now.records spots.items ≡ pairs_shown scan.now) }
-{
-    let vids = scan.vids.as_slice();
-    let mut spots = Vec::new(alloc);
-    for (i, pick) in scan.picks.as_slice().iter().enumerate() {
-        push_spots(vids[i], pick.as_slice(), &mut spots)?;
-    }
-    Ok(spots)
-}
-
-// Adds a version's spots.
-fn push_spots(vid: u32, places: &[usize], spots: &mut Vec<Spot>) -> Result<(), AllocError>
-    ensures { OnOk result (spots.new.items ≡ spots.old.items ++ spots_in vid places.now) }
-{
-    for place in places {
-        spots.push(Spot { vid, place: *place })?;
-    }
-    Ok(())
-}
 
 fn push_if(taken: bool, spot: Spot, kept: &mut Vec<Spot>) -> Result<(), AllocError>
     ensures { OnOk result (kept.new.items ≡ kept.old.items ++ (if taken then spot ∷ [] else [])) }
@@ -47,23 +27,43 @@ fn push_if(taken: bool, spot: Spot, kept: &mut Vec<Spot>) -> Result<(), AllocErr
 }
 
 impl<'a> Table<'a> {
-    /// The spots that WHERE takes.
+    /// The spots that WHERE takes, of versions whose rows stand at these positions: version by version, in this order. What
+    /// WHERE drops takes no memory.
     pub fn kept(
         &self,
         alloc: Global,
-        spots: &[Spot],
-        guard: &'a Option<Cond>,
+        vids: &[u32],
+        picks: &[Pick],
+        guard: &'a Option<FoundCond>,
     ) -> Result<Vec<Spot>, AllocError>
-        requires { NoLineages guard.now }
-        ensures { (related : Related) → IfOk result (λ kept. pairs_at self.now.records.now kept.items
-            ≡ filter (λ pair. holds (here_for self.now.schema.now related (pair ∷ [])) guard.now) (pairs_at self.now.records.now spots.now)) }
+        requires { length vids.now ≡ length picks.now }
+        ensures { IfOk result (λ kept. pairs_at self.now.records.now kept.items
+            ≡ filter (is_taken guard.now) (pairs_in self.now.records.now vids.now picks.now)) }
     {
         let mut kept = Vec::new(alloc);
-        for spot in spots {
-            let taken = self.holds(slice::from_ref(spot), guard);
-            push_if(taken, *spot, &mut kept)?;
+        for (i, pick) in picks.iter().enumerate() {
+            self.keep(vids[i], pick.as_slice(), guard, &mut kept)?;
         }
         Ok(kept)
+    }
+
+    // Adds a version's spots that WHERE takes.
+    fn keep(
+        &self,
+        vid: u32,
+        places: &[usize],
+        guard: &'a Option<FoundCond>,
+        kept: &mut Vec<Spot>,
+    ) -> Result<(), AllocError>
+        ensures { OnOk result (pairs_at self.now.records.now kept.new.items
+            ≡ pairs_at self.now.records.now kept.old.items ++ filter (is_taken guard.now) (pairs_at self.now.records.now (spots_in vid places.now))) }
+    {
+        for place in places {
+            let spot = Spot { vid, place: *place };
+            let taken = self.holds(slice::from_ref(&spot), guard);
+            push_if(taken, spot, kept)?;
+        }
+        Ok(())
     }
 
     /// The row of an answer that a group gives.
@@ -71,13 +71,13 @@ impl<'a> Table<'a> {
         &self,
         alloc: Global,
         group: &[Spot],
-        items: &Items,
+        items: &FoundItems,
     ) -> Result<Seq<Cell>, AllocError>
-        ensures { IfOk result (λ cells. cells ≡ shown self.now.schema.now items.now (pairs_at self.now.records.now group.now)) }
+        ensures { IfOk result (λ cells. cells ≡ shown_by items.now (pairs_at self.now.records.now group.now)) }
     {
         match items {
-            Items::Everything => self.row(alloc, group),
-            Items::Terms(terms) => self.terms(alloc, group, terms.as_slice()),
+            FoundItems::Everything => self.row(alloc, group),
+            FoundItems::Terms(terms) => self.terms(alloc, group, terms.as_slice()),
         }
     }
 
@@ -87,45 +87,39 @@ impl<'a> Table<'a> {
     {
         match group {
             [] => Ok(Seq::new(alloc)),
-            [spot, ..] => match self.records.get(spot.place) {
-                Some(record) => cells_of(alloc, record.row.values()),
-                None => Ok(Seq::new(alloc)),
-            },
+            [spot, ..] => {
+                if spot.place < self.records.len() {
+                    cells_of(alloc, self.records.row(spot.place).cells())
+                } else {
+                    Ok(Seq::new(alloc))
+                }
+            }
         }
     }
 
-    fn terms(&self, alloc: Global, group: &[Spot], terms: &[Term]) -> Result<Seq<Cell>, AllocError>
-        ensures { IfOk result (λ cells. cells ≡ map (term_of_group self.now.schema.now (pairs_at self.now.records.now group.now)) terms.now) }
+    fn terms(
+        &self,
+        alloc: Global,
+        group: &[Spot],
+        terms: &[FoundTerm],
+    ) -> Result<Seq<Cell>, AllocError>
+        ensures { IfOk result (λ cells. cells ≡ map (found_term (pairs_at self.now.records.now group.now)) terms.now) }
     {
         let mut cells = Vec::with_capacity(alloc, terms.len())?;
         for term in terms {
-            cells.push(self.term(group, term).copy(alloc)?)?;
+            cells.push(self.term(group, *term).copy(alloc)?)?;
         }
         Ok(Seq::from_vec(cells))
     }
 }
 
-fn cells_of(alloc: Global, values: &[Value]) -> Result<Seq<Cell>, AllocError>
-    ensures { IfOk result (λ cells. cells ≡ row_cells values.now) }
+fn cells_of(alloc: Global, row: Cells<'_>) -> Result<Seq<Cell>, AllocError>
+    ensures { IfOk result (λ cells. cells ≡ row_cells row.entry) }
 {
-    let mut cells = Vec::with_capacity(alloc, values.len())?;
-    for value in values {
-        cells.push(Cell::Value(value.copy(alloc)?))?;
+    let mut left = row;
+    let mut cells = Vec::new(alloc);
+    while let Some(cell) = left.next() {
+        cells.push(Cell::Value(value_of(alloc, cell)?))?;
     }
     Ok(Seq::from_vec(cells))
-}
-
-impl Seen<'_> {
-    /// The cell that it is, of its own.
-    pub fn copy(self, alloc: Global) -> Result<Cell, AllocError>
-        ensures { IfOk result (λ cell. cell ≡ cell_of self.entry) }
-    {
-        Ok(match self {
-            Seen::Value(value) => Cell::Value(value.copy(alloc)?),
-            Seen::Vid(vid) => Cell::Value(Value::Int(i64::from(vid))),
-            Seen::Null => Cell::Value(Value::Null),
-            Seen::Sum(sum) => Cell::Sum(sum),
-            Seen::Nothing => Cell::Nothing,
-        })
-    }
 }

@@ -1,85 +1,71 @@
-//! Records with their schema, and what a term is over a group of spots among them.
+//! Records, and what a term is over a group of spots among them.
 
 ghost use Rattle.std.specs.Prelude.{◌≡◌, slice_index_or};
-ghost use Rattle.std.specs.List.{position_or_len};
-ghost use Rattle.std.specs.Str.{bytes_eq};
-ghost use Rattle.ov_model.specs.Answers.{value_in, group_value, term_of_group};
 ghost use Rattle.ov_fetch.specs.Scans.{row_at};
+ghost use Rattle.ov_value.specs.Cells.{value_of};
 ghost use Rattle.ov_value.specs.declared.value.Value.TheVariants.{Null};
 ghost use Rattle.ov_model.specs.declared.answer.Cell.TheVariants as cell;
+ghost use Rattle.ov_terms.specs.Finding.{first_value, found_term, value_at};
 ghost use Rattle.ov_terms.specs.Seeing.{cell_of};
 ghost use Rattle.ov_terms.specs.Standing.{pair_at, pairs_at};
 
+use crate::found_term::FoundTerm;
+use crate::lookup::Lookup;
 use crate::seen::Seen;
 use crate::spot::Spot;
-use ov_model::{Col, Term};
-use ov_segment::Record;
-use ov_value::{Column, Schema, Txt};
+use ov_segment::RecordTable;
+use ov_value::CellRef;
 
-/// Records and the schema of their rows.
+/// The records of a scan, whose values are read where they lie.
 #[derive(Drop)]
 pub struct Table<'a> {
-    pub schema: &'a Schema,
-    pub records: &'a [Record],
+    pub records: &'a RecordTable,
 }
 
 impl<'a> Table<'a> {
     /// The value of a column at a spot; NULL where there is none.
-    pub fn value_in(&self, spot: Spot, col: &Col) -> Seen<'a>
-        ensures { cell_of result ≡ cell.Value (value_in self.now.schema.now (pair_at self.now.records.now spot) col.now) }
+    pub fn value_at(&self, spot: Spot, found: Lookup) -> Seen<'a>
+        ensures { cell_of result ≡ cell.Value (value_at found (pair_at self.now.records.now spot)) }
     {
-        match col {
-            Col::Vid => Seen::Vid(spot.vid),
-            Col::Name(name) => self.value_at(spot, column_at(self.schema.columns(), name)),
-            Col::Left(_) | Col::Right(_) => Seen::Null,
+        match found {
+            Lookup::Vid => Seen::Cell(CellRef::Int(i64::from(spot.vid))),
+            Lookup::Column(place) => Seen::Cell(self.cell(spot.place, place)),
+            Lookup::Nowhere => Seen::Cell(CellRef::Null),
         }
     }
 
-    fn value_at(&self, spot: Spot, column: usize) -> Seen<'a>
-        ensures { cell_of result ≡ cell.Value (slice_index_or (row_at self.now.records.now spot.place) column Null) }
+    // The value at a position of a record; NULL where there is none.
+    fn cell(&self, at: usize, place: usize) -> CellRef<'a>
+        ensures { value_of result ≡ slice_index_or (row_at self.now.records.now at) place Null }
     {
-        match self.records.get(spot.place) {
-            None => Seen::Null,
-            Some(record) => match record.row.values().get(column) {
-                None => Seen::Null,
-                Some(value) => Seen::Value(value),
-            },
+        if at < self.records.len() {
+            self.records.row(at).at(place)
+        } else {
+            CellRef::Null
         }
     }
 
     // The value of a group's column, which is the same at each of its spots.
-    fn group_value(&self, group: &[Spot], col: &Col) -> Seen<'a>
-        ensures { cell_of result ≡ group_value self.now.schema.now (pairs_at self.now.records.now group.now) col.now }
+    fn first_value(&self, group: &[Spot], found: Lookup) -> Seen<'a>
+        ensures { cell_of result ≡ first_value (pairs_at self.now.records.now group.now) found }
     {
         match group {
             [] => Seen::Nothing,
-            [spot, ..] => self.value_in(*spot, col),
+            [spot, ..] => self.value_at(*spot, found),
         }
     }
 
     /// What a term is over a group.
-    pub fn term(&self, group: &[Spot], term: &Term) -> Seen<'a>
-        ensures { cell_of result ≡ term_of_group self.now.schema.now (pairs_at self.now.records.now group.now) term.now }
+    pub fn term(&self, group: &[Spot], term: FoundTerm) -> Seen<'a>
+        ensures { cell_of result ≡ found_term (pairs_at self.now.records.now group.now) term }
     {
         match term {
-            Term::Plain(col) => self.group_value(group, col),
-            Term::CountAll => Seen::Sum(group.len() as i128),
-            Term::Count(col) => Seen::Sum(self.count(group, col) as i128),
-            Term::Sum(col) => self.sum(group, col),
-            Term::Min(col) => self.least(group, col),
-            Term::Max(col) => self.greatest(group, col),
+            FoundTerm::Plain(found) => self.first_value(group, found),
+            FoundTerm::CountAll => Seen::Sum(group.len() as i128),
+            FoundTerm::Count(found) => Seen::Sum(self.count(group, found) as i128),
+            FoundTerm::Sum(found) => self.sum(group, found),
+            FoundTerm::Min(found) => self.least(group, found),
+            FoundTerm::Max(found) => self.greatest(group, found),
         }
     }
-}
-
-// The position of the first column with a name; the number of columns where there is none.
-fn column_at(columns: &[Column], name: &Txt) -> usize
-    ensures { result ≡ position_or_len (λ c. bytes_eq c.name name.now) columns.now }
-{
-    for (place, column) in columns.iter().enumerate() {
-        if column.name == *name {
-            return place;
-        }
-    }
-    columns.len()
 }

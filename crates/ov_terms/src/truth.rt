@@ -1,37 +1,40 @@
 //! What a condition says of a group.
 
 ghost use Rattle.std.specs.Prelude.{◌≡◌, ◌↔◌, IsTrue, Some, map, nat_eq};
-ghost use Rattle.std.specs.List.{All, list_any};
-ghost use Rattle.ov_model.specs.Answers.{Related, operand_in, compared, cell_order, version_among, truth, truth_every, truth_any, holds};
+ghost use Rattle.std.specs.List.{list_any};
+ghost use Rattle.ov_model.specs.Answers.{compared, cell_order, truth_every, truth_any};
+ghost use Rattle.ov_terms.specs.Finding.{found_holds, found_operand, found_truth, is_among};
 ghost use Rattle.ov_terms.specs.Seeing.{cell_of};
-ghost use Rattle.ov_terms.specs.Standing.{here, NoLineage, NoLineages};
+ghost use Rattle.ov_terms.specs.Standing.{pairs_at};
 
-use crate::lineages::free_by_cases;
+use crate::found_cond::{FoundCond, found_by_cases};
+use crate::found_operand::FoundOperand;
 use crate::order::cell_order;
 use crate::seen::Seen;
 use crate::spot::Spot;
 use crate::table::Table;
 use crate::truths::{compared, truth_and, truth_not, truth_or, turned_if};
-use ov_model::{Cond, Operand, Sign, truth_by_cases};
+use ov_model::Sign;
 
 impl<'a> Table<'a> {
-    fn operand(&self, group: &[Spot], operand: &'a Operand) -> Seen<'a>
-        ensures { (related : Related) → cell_of result ≡ operand_in (here self.now.schema.now related self.now.records.now group.now) operand.now }
+    fn operand(&self, group: &[Spot], operand: &'a FoundOperand) -> Seen<'a>
+        ensures { cell_of result ≡ found_operand (pairs_at self.now.records.now group.now) operand.now }
     {
         match operand {
-            Operand::Term(term) => self.term(group, term),
-            Operand::Literal(value) => Seen::Value(value),
+            FoundOperand::Term(term) => self.term(group, *term),
+            FoundOperand::Literal(value) => Seen::of(value),
         }
     }
 
     fn compares(
         &self,
         group: &[Spot],
-        left: &'a Operand,
+        left: &'a FoundOperand,
         sign: Sign,
-        right: &'a Operand,
+        right: &'a FoundOperand,
     ) -> Option<bool>
-        ensures { (related : Related) → result ≡ compared sign (cell_order (operand_in (here self.now.schema.now related self.now.records.now group.now) left.now) (operand_in (here self.now.schema.now related self.now.records.now group.now) right.now)) }
+        ensures { result ≡ compared sign (cell_order (found_operand (pairs_at self.now.records.now group.now) left.now)
+            (found_operand (pairs_at self.now.records.now group.now) right.now)) }
     {
         let left = self.operand(group, left);
         let right = self.operand(group, right);
@@ -40,7 +43,7 @@ impl<'a> Table<'a> {
 
     // Whether the version of a group is one of these.
     fn is_among(&self, group: &[Spot], vids: &[u32]) -> bool
-        ensures { (related : Related) → result ≡ version_among (here self.now.schema.now related self.now.records.now group.now) vids.now }
+        ensures { result ≡ is_among (pairs_at self.now.records.now group.now) vids.now }
     {
         match group {
             [] => false,
@@ -48,34 +51,30 @@ impl<'a> Table<'a> {
         }
     }
 
-    /// What a condition without lineages says of a group: true, false, or none where it is unknown.
+    /// What a condition says of a group: true, false, or none where it is unknown.
     #[cycle(truth)]
-    pub fn truth(&self, group: &[Spot], cond: &'a Cond) -> Option<bool>
-        requires { NoLineage cond.now }
-        ensures { (related : Related) → result ≡ truth (here self.now.schema.now related self.now.records.now group.now) cond.now }
+    pub fn truth(&self, group: &[Spot], cond: &'a FoundCond) -> Option<bool>
+        ensures { result ≡ found_truth (pairs_at self.now.records.now group.now) cond.now }
     {
-        truth_by_cases();
-        free_by_cases();
+        found_by_cases();
         match cond {
-            Cond::Compare(left, sign, right) => self.compares(group, left, *sign, right),
-            Cond::IsNull(tested, negated) => {
+            FoundCond::Compare(left, sign, right) => self.compares(group, left, *sign, right),
+            FoundCond::IsNull(tested, negated) => {
                 let null = self.operand(group, tested).is_null();
                 Some(turned_if(*negated, null))
             }
-            Cond::InLineage(_, _, _) => unreachable!(),
-            Cond::InList(vids, negated) => {
+            FoundCond::InList(vids, negated) => {
                 Some(turned_if(*negated, self.is_among(group, vids.as_slice())))
             }
-            Cond::Not(inner) => truth_not(self.truth(group, inner.get())),
-            Cond::Every(conds) => self.every(group, conds.as_slice()),
-            Cond::Any(conds) => self.any(group, conds.as_slice()),
+            FoundCond::Not(inner) => truth_not(self.truth(group, inner.get())),
+            FoundCond::Every(conds) => self.every(group, conds.as_slice()),
+            FoundCond::Any(conds) => self.any(group, conds.as_slice()),
         }
     }
 
     #[cycle(truth)]
-    fn every(&self, group: &[Spot], conds: &'a [Cond]) -> Option<bool>
-        requires { All NoLineage conds.now }
-        ensures { (related : Related) → result ≡ truth_every (map (truth (here self.now.schema.now related self.now.records.now group.now)) conds.now) }
+    fn every(&self, group: &[Spot], conds: &'a [FoundCond]) -> Option<bool>
+        ensures { result ≡ truth_every (map (found_truth (pairs_at self.now.records.now group.now)) conds.now) }
     {
         let mut truth = Some(true);
         for cond in conds {
@@ -88,9 +87,8 @@ impl<'a> Table<'a> {
     }
 
     #[cycle(truth)]
-    fn any(&self, group: &[Spot], conds: &'a [Cond]) -> Option<bool>
-        requires { All NoLineage conds.now }
-        ensures { (related : Related) → result ≡ truth_any (map (truth (here self.now.schema.now related self.now.records.now group.now)) conds.now) }
+    fn any(&self, group: &[Spot], conds: &'a [FoundCond]) -> Option<bool>
+        ensures { result ≡ truth_any (map (found_truth (pairs_at self.now.records.now group.now)) conds.now) }
     {
         let mut truth = Some(false);
         for cond in conds {
@@ -103,9 +101,8 @@ impl<'a> Table<'a> {
     }
 
     /// Whether WHERE or HAVING takes a group: it isn't there, or it is true.
-    pub fn holds(&self, group: &[Spot], guard: &'a Option<Cond>) -> bool
-        requires { NoLineages guard.now }
-        ensures { (related : Related) → result ≡ holds (here self.now.schema.now related self.now.records.now group.now) guard.now }
+    pub fn holds(&self, group: &[Spot], guard: &'a Option<FoundCond>) -> bool
+        ensures { result ≡ found_holds guard.now (pairs_at self.now.records.now group.now) }
     {
         match guard {
             None => true,

@@ -1,6 +1,10 @@
-use Rattle.std.proofs.Common.{◌≡◌, take}
+use Rattle.std.proofs.Common.{◌≡◌, ◌++◌, length}
 use Rattle.ov_model.specs.Answers.{row_cells}
 use Rattle.ov_terms.proofs.rows.cells_of.Given as goal
 
-abbrev pub invariant-loop-value : goal.invariant-loop-value
-invariant-loop-value l = l.cells.items ≡ row_cells (take l.value-index l.values)
+-- the cells so far, and behind them those of the values that are left
+abbrev pub invariant-loop-cell : goal.invariant-loop-cell
+invariant-loop-cell l = row_cells l.fn.row ≡ l.cells.items ++ row_cells l.left
+
+abbrev pub decreases-loop-cell : goal.decreases-loop-cell
+decreases-loop-cell l = length l.left

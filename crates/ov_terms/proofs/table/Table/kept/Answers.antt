@@ -1,17 +1,16 @@
--- Each spot is taken where the guard holds of it alone.
-use Rattle.std.proofs.Common.{◌∷◌, [], Bool}
-use Rattle.ov_model.specs.Answers.{Pair, here_for, holds}
-use Rattle.ov_terms.proofs.Spots.{kept-all, kept-more}
+-- One version more.
+use Rattle.std.proofs.Common.{get_or, refl, arith}
+use Rattle.ov_terms.specs.Finding.{is_taken}
+use Rattle.ov_terms.proofs.Spots.{version-more, versions-all}
 use Rattle.ov_terms.proofs.table.Table.kept.Goals as goal
 
-pub loop-spot-preserved : goal.loop-spot-preserved
-loop-spot-preserved c = λ related.
-    let takes : Pair → Bool = λ pair. holds (here_for c.args.self.now.schema.now related (pair ∷ [])) c.args.guard.now in
-    rw c.in_ok-push_if.ensures
-    (kept-more takes c.args.self.now.records.now c.args.spots.now c.loop-spot.kept.items c.loop-spot.spot-index _ c.holds-taken.result _ c.loop-spot-test.true
-    (rw c.from_ref.ensures.value at c.holds-taken.ensures related) (c.loop-spot.invariant related))
+pub loop-i-preserved : goal.loop-i-preserved
+loop-i-preserved c =
+    version-more (is_taken c.args.guard.now) c.args.self.now.records.now c.args.vids.now c.args.picks.now c.loop-i.i (get_or c.args.vids.now c.loop-i.i 0) 0
+    c.index-picks-i.result c.loop-i.kept.items _ _ (omega (arith, c.loop-i-test.true, c.requires)) c.loop-i-test.true refl c.index-picks-i.is
+    (rw c.as_slice.ensures at c.in_ok-keep.ensures) c.loop-i.invariant
 
 pub returns : goal.returns
-returns c = λ related.
-    let takes : Pair → Bool = λ pair. holds (here_for c.args.self.now.schema.now related (pair ∷ [])) c.args.guard.now in
-    kept-all takes c.args.self.now.records.now c.args.spots.now c.loop-spot.kept.items c.loop-spot.spot-index _ c.loop-spot-test.false (c.loop-spot.invariant related)
+returns c =
+    versions-all (is_taken c.args.guard.now) c.args.self.now.records.now c.args.vids.now c.args.picks.now c.loop-i.i c.loop-i.kept.items _
+    c.loop-i-test.false c.loop-i.invariant

@@ -1,7 +1,7 @@
 use Rattle.std.proofs.Common.{◌≡◌, ◌+◌, drop}
 use Rattle.std.specs.List.{position_or_len}
 use Rattle.std.specs.Str.{bytes_eq}
-use Rattle.ov_terms.proofs.table.column_at.Given as goal
+use Rattle.ov_terms.proofs.lookup.column_at.Given as goal
 
 -- no column before has the name
 abbrev pub invariant-loop-place : goal.invariant-loop-place

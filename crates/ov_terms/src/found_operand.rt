@@ -1,0 +1,28 @@
+//! A side of a comparison whose column was found.
+
+ghost use Rattle.std.specs.Prelude.{IfOk};
+ghost use Rattle.ov_terms.specs.Finding.{IsFoundOperand};
+
+use crate::found_term::FoundTerm;
+use ov_model::Operand;
+use ov_value::{Schema, Value};
+use std::alloc::{AllocError, Global};
+
+/// A side of a comparison, with where its column is found.
+#[derive(Drop)]
+pub enum FoundOperand {
+    Term(FoundTerm),
+    Literal(Value),
+}
+
+impl FoundOperand {
+    /// A side of a comparison over rows of a schema. A literal is copied.
+    pub fn of(alloc: Global, schema: &Schema, operand: &Operand) -> Result<FoundOperand, AllocError>
+        ensures { IfOk result (IsFoundOperand schema.now operand.now) }
+    {
+        Ok(match operand {
+            Operand::Term(term) => FoundOperand::Term(FoundTerm::of(schema, term)),
+            Operand::Literal(value) => FoundOperand::Literal(value.copy(alloc)?),
+        })
+    }
+}

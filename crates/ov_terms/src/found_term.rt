@@ -1,0 +1,34 @@
+//! A term whose column was found.
+
+ghost use Rattle.ov_terms.specs.Finding.{IsFoundTerm};
+
+use crate::lookup::Lookup;
+use ov_model::Term;
+use ov_value::Schema;
+
+/// A term of a query, with where its column is found.
+#[derive(Clone, Copy, Debug, PartialEq, Eq)]
+pub enum FoundTerm {
+    Plain(Lookup),
+    CountAll,
+    Count(Lookup),
+    Sum(Lookup),
+    Min(Lookup),
+    Max(Lookup),
+}
+
+impl FoundTerm {
+    /// A term over rows of a schema.
+    pub fn of(schema: &Schema, term: &Term) -> FoundTerm
+        ensures { IsFoundTerm schema.now term.now result }
+    {
+        match term {
+            Term::Plain(col) => FoundTerm::Plain(Lookup::of(schema, col)),
+            Term::CountAll => FoundTerm::CountAll,
+            Term::Count(col) => FoundTerm::Count(Lookup::of(schema, col)),
+            Term::Sum(col) => FoundTerm::Sum(Lookup::of(schema, col)),
+            Term::Min(col) => FoundTerm::Min(Lookup::of(schema, col)),
+            Term::Max(col) => FoundTerm::Max(Lookup::of(schema, col)),
+        }
+    }
+}

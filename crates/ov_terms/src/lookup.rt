@@ -1,0 +1,45 @@
+//! Where the value of a column is found.
+
+ghost use Rattle.std.specs.Prelude.{◌≡◌};
+ghost use Rattle.std.specs.List.{position_or_len};
+ghost use Rattle.std.specs.Str.{bytes_eq};
+ghost use Rattle.ov_terms.specs.Finding.{IsLookup};
+
+use ov_model::Col;
+use ov_value::{Column, Schema, Txt};
+
+/// Where the value of a column is found in a pair of a version and one of its rows.
+#[derive(Clone, Copy, Debug, PartialEq, Eq)]
+pub enum Lookup {
+    /// It is the version's number.
+    Vid,
+    /// It is the row's value at this position; NULL where the row is shorter.
+    Column(usize),
+    /// It is NULL.
+    Nowhere,
+}
+
+impl Lookup {
+    /// Where a column of a schema is found. It is looked up by its name here, and at no row.
+    pub fn of(schema: &Schema, col: &Col) -> Lookup
+        ensures { IsLookup schema.now col.now result }
+    {
+        match col {
+            Col::Vid => Lookup::Vid,
+            Col::Name(name) => Lookup::Column(column_at(schema.columns(), name)),
+            Col::Left(_) | Col::Right(_) => Lookup::Nowhere,
+        }
+    }
+}
+
+// The position of the first column with a name; the number of columns where there is none.
+fn column_at(columns: &[Column], name: &Txt) -> usize
+    ensures { result ≡ position_or_len (λ c. bytes_eq c.name name.now) columns.now }
+{
+    for (place, column) in columns.iter().enumerate() {
+        if column.name == *name {
+            return place;
+        }
+    }
+    columns.len()
+}
