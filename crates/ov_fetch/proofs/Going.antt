@@ -190,12 +190,12 @@ cut_off schema s0 s1 old c is end some told = inr (λ records are e. by records 
         (tail_front schema is.mid.last is.mid.held r rs (subst (λ n. AreRecords schema n (r ∷ rs)) (sym is.last_same) are) e) is.answered.1
 
 -- what is answered at the extent's end
-pub ended : (schema : Shape) (s0 s1 : State) (old c new : Cursor) (answer : Next) (result : Result (Option Record) FetchErr) → IsGoing schema s0 s1 old answer c → answer ≡ next.More → c.at ≡ c.extent.bytes
+pub ended : (schema : Shape) (s0 s1 : State) (old c new : Cursor) (answer : Next) (result : Result (Option ℕ) FetchErr) → IsGoing schema s0 s1 old answer c → answer ≡ next.More → c.at ≡ c.extent.bytes
     → MatchResult result (λ found. (found ≡ None) × (c.reader.held ≡ [])) (λ e. (e ≡ Damaged c.extent.page) × (0 < length c.reader.held)) → s0.tells ≡ true
-    → MatchResult result (λ found. Finds schema (page_bytes s0) old found new) (λ e. RefusesNext e schema (page_bytes s0) old)
+    → MatchResult result (λ found. Finds schema (page_bytes s0) old None new) (λ e. RefusesNext e schema (page_bytes s0) old)
 ended schema s0 s1 old c new answer (Ok found) is more end h told =
     let going = subst (λ a. IsGoing schema s0 s1 old a c) more is in
-    subst (λ f. Finds schema (page_bytes s0) old f new) (sym h.0) (ends schema s0 s1 old c going end h.1 told)
+    ends schema s0 s1 old c going end h.1 told
 ended schema s0 s1 old c new answer (Err e) is more end h told =
     let going = subst (λ a. IsGoing schema s0 s1 old a c) more is in
     subst (λ w. RefusesNext w schema (page_bytes s0) old) (sym h.0) (ap (λ (e : Extent). e.page) is.place, cut_off schema s0 s1 old c going end h.1 told)

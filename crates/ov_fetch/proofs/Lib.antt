@@ -1,6 +1,7 @@
 pub mod Looks
 pub mod Pieces
 pub mod Going
+pub mod Passing
 pub mod Running
 pub mod Gathered
 pub mod Lacking

@@ -7,7 +7,7 @@ use Rattle.ov_host.specs.Host.{State}
 use Rattle.ov_member.specs.Rids.{has, RiseFrom}
 use Rattle.ov_value.specs.Shapes.{Shape}
 use Rattle.ov_segment.specs.declared.numbered.Record.{Record}
-use Rattle.ov_segment.specs.Keeping.{put}
+use Rattle.ov_segment.specs.Keeping.{Walk, put, wants}
 use Rattle.ov_segment.specs.Reading.{fresh, Begins}
 use Rattle.ov_segment.specs.Segments.{IsNext, AreRecords, Ascend, segment_spelling}
 use Rattle.ov_segment.specs.Tables.{Content}
@@ -15,8 +15,8 @@ use Rattle.ov_segment.proofs.SegmentLemmas.{HasRead, last_of, records-push, read
 use Rattle.ov_fetch.specs.declared.cursor.Cursor.{Cursor}
 use Rattle.ov_fetch.specs.declared.errors.FetchErr.{FetchErr}
 use Rattle.ov_fetch.specs.declared.errors.FetchErr.TheVariants.{Host, Memory, Damaged}
-use Rattle.ov_fetch.specs.Extents.{Looked, page_bytes, extent_bytes, rids_of, IsWhole, IsShort, IsSegment, HasRids, RefusesSegment}
-use Rattle.ov_fetch.specs.Cursors.{left_of, IsOpen, Reaches, Follows, Finds, RefusesNext}
+use Rattle.ov_fetch.specs.Extents.{Looked, page_bytes, extent_bytes, rids_of, IsWhole, IsShort, IsSegment, RefusesSegment}
+use Rattle.ov_fetch.specs.Cursors.{left_of, IsOpen, IsAtFront, Reaches, Follows, Finds, PassesRecord, PassesNone, RefusesNext}
 use Rattle.ov_fetch.specs.Gathering.{wanted_of, HasKept}
 use Rattle.ov_fetch.proofs.Looks.{looked_at_all, looked_again, same_pages}
 
@@ -114,37 +114,28 @@ stops schema s0 s1 segment c read (Damaged page) gone refuses told =
 rids_more : (rids more : List ℕ) (read : List Record) (r : Record) → rids ≡ rids_of read → more ≡ rids ++ r.rid ∷ [] → more ≡ rids_of (read ++ r ∷ [])
 rids_more rids more read r are is = is ∙ ap (λ (l : List ℕ). l ++ r.rid ∷ []) are ∙ sym (map-append (λ (x : Record). x.rid) read (r ∷ []))
 
-pub record ReadsRids (schema : Shape) (before now : State) (segment : Extent) (c : Cursor) (rids : List ℕ) : Type 0 where
-  pub read : List Record
-  pub gone : HasGone schema before now segment c read
-  pub rids_are : rids ≡ rids_of read
-
-pub rids_begin : (schema : Shape) (s : State) (segment : Extent) (c : Cursor) (rids : List ℕ) → c ≡ front_of segment → segment.bytes < 2 ^ 32 → rids ≡ [] → ReadsRids schema s s segment c rids
-rids_begin schema s segment c rids is sized none = record { read = []; gone = begins schema s segment c is sized; rids_are = none }
-
-pub rids_go_on : (schema : Shape) (s0 s1 s2 : State) (segment : Extent) (c d : Cursor) (rids more : List ℕ) (r : Record) → ReadsRids schema s0 s1 segment c rids → Looked s1 s2 → s2.fetched + c.at ≤ s1.fetched + d.at
-    → d.extent ≡ c.extent → Follows schema c r d → (s1.tells ≡ true → Finds schema (page_bytes s1) c (Some r) d) → more ≡ rids ++ r.rid ∷ [] → ReadsRids schema s0 s2 segment d more
-rids_go_on schema s0 s1 s2 segment c d rids more r h looked fetched place follows finds is = record {
-  read = h.read ++ r ∷ [];
-  gone = goes_on schema s0 s1 s2 segment c d h.read r h.gone looked fetched place follows finds;
-  rids_are = rids_more rids more h.read r h.rids_are is;
-}
-
-pub rids_end : (schema : Shape) (s0 s1 : State) (segment : Extent) (c d : Cursor) (rids : List ℕ) → ReadsRids schema s0 s1 segment c rids → (s1.tells ≡ true → Finds schema (page_bytes s1) c None d) → s0.tells ≡ true
-    → HasRids schema (page_bytes s0) segment rids
-rids_end schema s0 s1 segment c d rids h finds told = record { records = h.read; stands = ends schema s0 s1 segment c d h.read h.gone finds told; rids_are = h.rids_are }
-
--- the wanted ones
-pub record KeepsWanted (schema : Shape) (before now : State) (segment : Extent) (c : Cursor) (wanted : List ℕ) (old kept : Content) (rids : List ℕ) : Type 0 where
+-- the wanted ones; of the rids behind them the walk says whether they are wanted
+pub record KeepsWanted (schema : Shape) (before now : State) (segment : Extent) (c : Cursor) (wanted : List ℕ) (ahead : Walk) (old kept : Content) (rids : List ℕ) : Type 0 where
   pub read : List Record
   pub gone : HasGone schema before now segment c read
   pub columns_are : kept.columns ≡ old.columns
   pub kept_are : kept.records ≡ old.records ++ wanted_of wanted read
   pub rids_are : rids ≡ rids_of read
+  pub ahead_is : (n : ℕ) → c.reader.last ≤ n → wants ahead n ≡ has wanted n
 
-pub keeping_begins : (schema : Shape) (s : State) (segment : Extent) (c : Cursor) (wanted : List ℕ) (old : Content) (rids : List ℕ) → c ≡ front_of segment → segment.bytes < 2 ^ 32 → rids ≡ []
-    → KeepsWanted schema s s segment c wanted old old rids
-keeping_begins schema s segment c wanted old rids is sized none = record { read = []; gone = begins schema s segment c is sized; columns_are = refl; kept_are = sym (append-nil old.records); rids_are = none }
+at_front : (segment : Extent) (c : Cursor) → c.extent ≡ segment → IsAtFront c → c ≡ front_of segment
+at_front segment c same front = λ i. record { extent = same i; at = front.at_front i; reader = front.reader_is i }
+
+pub keeping_begins : (schema : Shape) (s : State) (c : Cursor) (wanted : List ℕ) (ahead : Walk) (old : Content) (rids : List ℕ) → IsAtFront c → ((n : ℕ) → wants ahead n ≡ has wanted n) → rids ≡ []
+    → KeepsWanted schema s s c.extent c wanted ahead old old rids
+keeping_begins schema s c wanted ahead old rids front all none = record {
+  read = [];
+  gone = begins schema s c.extent c (at_front c.extent c refl front) front.sized;
+  columns_are = refl;
+  kept_are = sym (append-nil old.records);
+  rids_are = none;
+  ahead_is = λ n le. all n;
+}
 
 put_records : (b : Bool) (table : Content) (r : Record) → (put b table r).records ≡ table.records ++ cond b (r ∷ []) []
 put_records true table r = refl
@@ -154,21 +145,34 @@ put_columns : (b : Bool) (table : Content) (r : Record) → (put b table r).colu
 put_columns true table r = refl
 put_columns false table r = refl
 
-pub keeps_next : (schema : Shape) (s0 s1 s2 : State) (segment : Extent) (c d : Cursor) (wanted : List ℕ) (old kept more : Content) (rids now : List ℕ) (r : Record) → KeepsWanted schema s0 s1 segment c wanted old kept rids → Looked s1 s2
-    → s2.fetched + c.at ≤ s1.fetched + d.at → d.extent ≡ c.extent → Follows schema c r d → (s1.tells ≡ true → Finds schema (page_bytes s1) c (Some r) d) → more ≡ put (has wanted r.rid) kept r → now ≡ rids ++ r.rid ∷ []
-    → KeepsWanted schema s0 s2 segment d wanted old more now
-keeps_next schema s0 s1 s2 segment c d wanted old kept more rids now r h looked fetched place follows finds is pushed = record {
-  read = h.read ++ r ∷ [];
-  gone = goes_on schema s0 s1 s2 segment c d h.read r h.gone looked fetched place follows finds;
-  rids_are = rids_more rids now h.read r h.rids_are pushed;
-  columns_are = ap (λ (t : Content). t.columns) is ∙ put_columns (has wanted r.rid) kept r ∙ h.columns_are;
-  kept_are =
-      ap (λ (t : Content). t.records) is ∙ put_records (has wanted r.rid) kept r ∙ ap (λ (l : List Record). l ++ wanted_of wanted (r ∷ [])) h.kept_are
-      ∙ append_assoc old.records (wanted_of wanted h.read) (wanted_of wanted (r ∷ []))
-      ∙ ap (λ (l : List Record). old.records ++ l) (sym (filter-append (λ (x : Record). has wanted x.rid) h.read (r ∷ [])));
-}
+pub keeps_next : (schema : Shape) (s0 s1 s2 : State) (segment : Extent) (c d : Cursor) (wanted : List ℕ) (ahead : Walk) (old kept : Content) (rids : List ℕ) (rid : ℕ) (after_ahead : Walk) (more : Content) (now : List ℕ)
+    → KeepsWanted schema s0 s1 segment c wanted ahead old kept rids → Looked s1 s2 → s2.fetched + c.at ≤ s1.fetched + d.at → d.extent ≡ c.extent → PassesRecord schema s1 c ahead kept rid d after_ahead more → now ≡ rids ++ rid ∷ []
+    → KeepsWanted schema s0 s2 segment d wanted after_ahead old more now
+keeps_next schema s0 s1 s2 segment c d wanted ahead old kept rids rid after_ahead more now h looked fetched place p pushed =
+    let r : Record = p.record_is in
+    let above : c.reader.last < r.rid = p.follows.next.above in
+    let here : wants ahead r.rid ≡ has wanted r.rid = h.ahead_is r.rid (omega (arith, above)) in
+    let is : more ≡ put (has wanted r.rid) kept r = p.table_is ∙ ap (λ (b : Bool). put b kept r) here in
+    record {
+      read = h.read ++ r ∷ [];
+      gone = goes_on schema s0 s1 s2 segment c d h.read r h.gone looked fetched place p.follows p.told;
+      rids_are = rids_more rids now h.read r h.rids_are (pushed ∙ ap (λ n. rids ++ n ∷ []) p.rid_is);
+      columns_are = ap (λ (t : Content). t.columns) is ∙ put_columns (has wanted r.rid) kept r ∙ h.columns_are;
+      kept_are =
+          ap (λ (t : Content). t.records) is ∙ put_records (has wanted r.rid) kept r ∙ ap (λ (l : List Record). l ++ wanted_of wanted (r ∷ [])) h.kept_are
+          ∙ append_assoc old.records (wanted_of wanted h.read) (wanted_of wanted (r ∷ []))
+          ∙ ap (λ (l : List Record). old.records ++ l) (sym (filter-append (λ (x : Record). has wanted x.rid) h.read (r ∷ [])));
+      ahead_is = λ n le.
+          let from : r.rid ≤ n = omega (arith, le, p.follows.last_is) in
+          p.ahead_is n from ∙ h.ahead_is n (omega (arith, above, from));
+    }
 
-pub keeping_ends : (schema : Shape) (s0 s1 : State) (segment : Extent) (c d : Cursor) (wanted : List ℕ) (old kept : Content) (rids members : List ℕ) → KeepsWanted schema s0 s1 segment c wanted old kept rids
-    → (s1.tells ≡ true → Finds schema (page_bytes s1) c None d) → members ≡ rids → HasKept schema s0 segment wanted old.records kept.records members
-keeping_ends schema s0 s1 segment c d wanted old kept rids members h finds same =
-    record { read = h.read; are = h.gone.are; kept_are = h.kept_are; rids_are = same ∙ h.rids_are; told = λ told. ends schema s0 s1 segment c d h.read h.gone finds told }
+pub keeping_ends : (schema : Shape) (s0 s1 : State) (segment : Extent) (c d : Cursor) (wanted : List ℕ) (ahead : Walk) (old kept : Content) (rids : List ℕ) (more : Content) (members : List ℕ)
+    → KeepsWanted schema s0 s1 segment c wanted ahead old kept rids → PassesNone schema s1 c kept d more → members ≡ rids → HasKept schema s0 segment wanted old.records more.records members
+keeping_ends schema s0 s1 segment c d wanted ahead old kept rids more members h p same = record {
+  read = h.read;
+  are = h.gone.are;
+  kept_are = ap (λ (t : Content). t.records) p.table_is ∙ h.kept_are;
+  rids_are = same ∙ h.rids_are;
+  told = λ told. ends schema s0 s1 segment c d h.read h.gone p.told told;
+}

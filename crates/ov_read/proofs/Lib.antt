@@ -11,3 +11,4 @@ pub mod Keeping
 pub mod Ending
 pub mod Shows
 pub mod PickFacts
+pub mod Walking

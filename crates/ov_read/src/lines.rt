@@ -3,10 +3,9 @@
 ghost use Rattle.std.specs.Prelude.{◌≡◌, OnOk, IfOk};
 ghost use Rattle.std.specs.List.{All};
 ghost use Rattle.std.specs.List.Sorted.{IsPermutation, IsSorted};
-ghost use Rattle.ov_read.specs.Lines.{IsLine, places, line_cmp};
-ghost use Rattle.ov_read.specs.Picking.{places_of};
+ghost use Rattle.ov_fetch.specs.Scans.{AllStand};
+ghost use Rattle.ov_read.specs.Lines.{IsLine, places as places_of_lines, line_cmp};
 
-use ov_member::Members;
 use ov_segment::{RowRef, Table};
 use ov_value::Schema;
 use std::alloc::{AllocError, Global};
@@ -18,21 +17,20 @@ pub(crate) struct Line<'a> {
     pub place: usize,
 }
 
-/// The records that have one of these rids.
-pub(crate) fn lines_of<'a>(
+/// The rows at these positions.
+pub(crate) fn lines_at<'a>(
     alloc: Global,
     records: &'a Table,
-    rids: &Members,
+    places: &[usize],
 ) -> Result<Vec<Line<'a>>, AllocError>
+    requires { AllStand records.now.records places.now }
     ensures rows { IfOk result (λ lines. All (IsLine records.now.records) lines.items) }
-    ensures places { IfOk result (λ lines. places lines.items ≡ places_of records.now.records rids.now) }
+    ensures places { IfOk result (λ lines. places_of_lines lines.items ≡ places.now) }
 {
-    let mut lines = Vec::new(alloc);
-    for place in 0..records.len() {
-        if rids.contains(records.rid(place)) {
-            let row = records.row(place);
-            lines.push(Line { row, place })?;
-        }
+    let mut lines = Vec::with_capacity(alloc, places.len())?;
+    for place in places {
+        let row = records.row(*place);
+        lines.push(Line { row, place: *place })?;
     }
     Ok(lines)
 }
@@ -48,7 +46,7 @@ pub(crate) fn sort_lines(schema: &Schema, lines: &mut Vec<Line<'_>>) -> Result<(
 
 /// Their positions.
 pub(crate) fn places_in(alloc: Global, lines: &[Line<'_>]) -> Result<Vec<usize>, AllocError>
-    ensures { IfOk result (λ found. found.items ≡ places lines.now) }
+    ensures { IfOk result (λ found. found.items ≡ places_of_lines lines.now) }
 {
     let mut found = Vec::with_capacity(alloc, lines.len())?;
     for line in lines {

@@ -16,7 +16,7 @@ use std::alloc::{AllocError, Global};
 /// read, by ascending rids. Of
 /// each version it has the rows whose rids are among its own, in the order of their keys.
 ///
-/// Time: for each version one look at each record, by the logarithm of the ranges of its rids, and the sorting of its rows.
+/// Time: for each version one look at each record, and the sorting of its rows where they don't stand in key order.
 pub fn scan_of(
     alloc: Global,
     schema: &Schema,
@@ -46,6 +46,7 @@ pub(crate) fn picks_of(
     records: &Table,
     members: &[Members],
 ) -> Result<Vec<Pick>, AllocError>
+    requires { AreRecords schema.now 0 records.now.records }
     ensures picks { IfOk result (λ picks. ArePicks schema.now records.now.records members.now picks.items) }
     ensures stand { IfOk result (λ picks. All (AllStand records.now.records) picks.items) }
 {

@@ -1,6 +1,7 @@
 use Rattle.std.proofs.Common.{◌++◌, [], ◌∷◌, sym, ◌∙◌, ap, subst, rules, take}
 use Rattle.std.proofs.lemmas.List.{take_more}
 use Rattle.std.proofs.lemmas.List.Elements.{All-push}
+use Rattle.ov_segment.proofs.WrittenLemmas.{records_ascend}
 use Rattle.ov_fetch.specs.Scans.{AllStand}
 use Rattle.ov_read.specs.Picking.{ArePicks}
 use Rattle.ov_read.proofs.PickFacts.{picks_more}
@@ -19,3 +20,6 @@ loop-rids-preserved c =
           (picks_more schema records (take k members) picks c.rids-item.result c.in_ok-pick_of.field-0 c.loop-rids.invariant.0 c.in_ok-pick_of.ensures.pick),
       All-push (AllStand records) picks _ c.loop-rids.invariant.1 c.in_ok-pick_of.ensures.stand,
     )
+
+pub pick_of-requires : goal.pick_of-requires
+pick_of-requires c = records_ascend c.args.schema.now 0 c.args.records.now.records c.requires

@@ -1,6 +1,7 @@
 use Rattle.std.proofs.Common.{◌≡◌, List, sym, ◌∙◌, subst, length}
 use Rattle.std.specs.List.{All}
 use Rattle.ov_segment.specs.declared.numbered.Record.{Record}
+use Rattle.ov_segment.specs.Segments.{AreRecords}
 use Rattle.ov_fetch.specs.Scans.{AllStand}
 use Rattle.ov_read.specs.Picking.{ArePicks}
 use Rattle.ov_read.proofs.PickFacts.{all_fit, picks_paired, picks_ordered}
@@ -22,3 +23,6 @@ returns-clause-sound c =
       stand = subst (λ (rs : List Record). All (AllStand rs) c.in_ok-picks.picks.items) c.table.ensures c.in_ok-picks.ensures.stand;
       ordered = picks_ordered schema records members _ are;
     })
+
+pub picks_of-requires : goal.picks_of-requires
+picks_of-requires c = subst (AreRecords c.args.schema.now 0) (sym c.table.ensures) c.requires.read
