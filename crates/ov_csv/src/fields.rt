@@ -44,10 +44,11 @@ fn read_digits(digits: &[u8]) -> Option<i64>
     }
     let mut number = 0u64;
     for digit in digits {
-        if *digit < b'0' || *digit > b'9' {
+        let value = digit.wrapping_sub(b'0');
+        if value > 9 {
             return None;
         }
-        number = 10 * number + u64::from(*digit - b'0');
+        number = 10 * number + u64::from(value);
     }
     Some(number as i64)
 }

@@ -13,7 +13,7 @@ overflow_mul-number c =
 pub overflow_add-number : goal.overflow_add-number
 overflow_add-number c =
     let small : c.loop-digit.number < 10 ^ 18 = digits_small c.loop-digit.digit-index c.loop-digit.number c.loop-digit.invariant.small (omega (arith, c.loop-digit-test.true, c.if-digits-gt18.false)) in
-    omega (arith, small, c.from.ensures, c.if-digit-gt57.false)
+    omega (arith, small, c.from.ensures, c.if-value-gt9.false)
 
 pub overflow_cast-result : goal.overflow_cast-result
 overflow_cast-result c =
