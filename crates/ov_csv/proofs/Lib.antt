@@ -10,3 +10,4 @@ pub mod Rows
 pub mod CellFields
 pub mod NullKeys
 pub mod LineLemmas
+pub mod Digits

@@ -1,9 +1,10 @@
 //! The value that a field spells in a column.
 
-ghost use Rattle.std.specs.Prelude.{◌≡◌, ◌==◌, ◌∷◌, Some, None};
+ghost use Rattle.std.specs.Prelude.{◌≡◌, ◌==◌, ◌∷◌, Some, None, IfSome};
 ghost use Rattle.std.specs.List.{list_all};
 ghost use Rattle.std.specs.Option.{MatchOption};
 ghost use Rattle.ov_value.specs.Cells.{value_of};
+ghost use Rattle.ov_value.specs.declared.value.Value.TheVariants as CellValue;
 ghost use Rattle.ov_model.specs.Csv.{field_value, int_value, flag_value, text_value, is_null_mark as is_null_mark_of};
 
 use ov_value::{CellRef, Kind};
@@ -25,10 +26,31 @@ fn read_int(text: &str) -> Option<CellRef<'_>>
     if text.is_empty() {
         return Some(CellRef::Null);
     }
+    if let Some(number) = read_digits(text.as_bytes()) {
+        return Some(CellRef::Int(number));
+    }
     match text.parse::<i64>() {
         Ok(number) => Some(CellRef::Int(number)),
         Err(_) => None,
     }
+}
+
+// The number of up to 18 digits, as most are written, in a third of the steps of `parse`; `None` of any other text.
+fn read_digits(digits: &[u8]) -> Option<i64>
+    ensures { IfSome result (λ number. int_value digits.now ≡ Some (CellValue.Int number)) }
+{
+    if digits.is_empty() || digits.len() > 18 {
+        return None;
+    }
+    let mut number = 0u64;
+    for digit in digits {
+        let value = digit.wrapping_sub(b'0');
+        if value > 9 {
+            return None;
+        }
+        number = 10 * number + u64::from(value);
+    }
+    Some(number as i64)
 }
 
 fn read_flag(text: &str) -> Option<CellRef<'_>>

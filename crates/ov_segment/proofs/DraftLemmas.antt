@@ -68,6 +68,15 @@ held_value d values v front rest bytes count size h parts next counted made =
           ∙ sym push;
     }
 
+-- the same of a value whose bytes come at once
+pub held_bytes : (d : Draft) (values : List Value) (v : Value) (added bytes : List ℕ) (count size : ℕ) → Holds d values → is_null v ≡ false → value_bytes v ≡ added → count ≡ d.count + 1
+    → size ≡ min (d.size + length added) 0xffff_ffff_ffff_ffff
+    → (size ≤ 65536 → bytes ≡ d.bytes ++ added)
+    → Holds (record { count = count; nulls = d.nulls; width = count; marks = d.nulls; size = size; bytes = bytes }) (values ++ v ∷ [])
+held_bytes d values v added bytes count size h some is next counted made =
+    held_value d values v added [] bytes count size h (record { some = some; size = omega (arith, ap (λ (l : List ℕ). length l) is); bytes = λ few. is ∙ sym (append-nil added) }) next
+    (omega (arith, counted)) (λ few. made few ∙ sym (append-nil (d.bytes ++ added)))
+
 -- ---- what the marks say
 
 pub value_there : (d : Draft) (values : List Value) (place : ℕ) → Holds d values → place < d.width

@@ -5,7 +5,7 @@ ghost use Rattle.std.specs.List.{list_any};
 ghost use Rattle.ov_value.specs.declared.value.Value.{Value as RowValue};
 ghost use Rattle.ov_value.specs.Cells.{value_of};
 ghost use Rattle.ov_value.specs.Rows.{is_null, value_at};
-ghost use Rattle.ov_value.specs.Spelling.{row_spelling};
+ghost use Rattle.ov_value.specs.Spelling.{row_spelling, value_bytes};
 ghost use Rattle.ov_segment.specs.Drafts.{Holds, IsWhole, ArePartsOf};
 
 use ov_value::{CellRef, LONGEST_ROW};
@@ -71,9 +71,9 @@ impl RowDraft {
         ensures { (values : List RowValue) → Holds self.old values → OnOk result (Holds self.new (values ++ value_of cell.entry ∷ [])) }
     {
         match cell {
-            CellRef::Int(number) => self.push_parts(&number.cast_unsigned().to_be_bytes(), b""),
+            CellRef::Int(number) => self.push_bytes(&number.cast_unsigned().to_be_bytes()),
             CellRef::Text(text) => self.push_text(text.as_bytes()),
-            CellRef::Flag(flag) => self.push_parts(&[u8::from(flag)], b""),
+            CellRef::Flag(flag) => self.push_bytes(&[u8::from(flag)]),
             CellRef::Null => {
                 self.push_null();
                 Ok(())
@@ -138,6 +138,24 @@ impl RowDraft {
         // The length of a longer text isn't kept.
         let len = text.len().min(LONGEST_ROW) as u32;
         self.push_parts(&len.to_be_bytes(), text)
+    }
+
+    // Adds the value that has these bytes, which are few.
+    #[inline]
+    fn push_bytes(&mut self, bytes: &[u8]) -> Result<(), AllocError>
+        requires { self.old.count < 64 }
+        ensures { (values : List RowValue) (value : RowValue) → Holds self.old values → is_null value ≡ false → value_bytes value ≡ bytes.now
+            → OnOk result (Holds self.new (values ++ value ∷ [])) }
+    {
+        self.size = self.size.saturating_add(bytes.len());
+        self.count += 1;
+        self.width = self.count;
+        self.marks = self.nulls;
+        if self.size > LONGEST_ROW {
+            return Ok(());
+        }
+        self.bytes.extend_from_slice(bytes)?;
+        Ok(())
     }
 
     // Adds the value that has these bytes in front, and then those.
