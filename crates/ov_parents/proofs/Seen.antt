@@ -113,7 +113,7 @@ records_fit schema (r ∷ records) fit rid row (inl same) = subst (Fits schema) 
 records_fit schema (r ∷ records) fit rid row (inr later) = records_fit schema records (λ k d lt. fit (suc k) d (omega (arith, lt))) rid row later
 
 both_fit : (schema : Shape) (xs ys : List (ℕ × Row)) → PairsFit schema xs → PairsFit schema ys → PairsFit schema (xs ++ ys)
-both_fit schema xs ys fit more rid row is = elim (of_append xs ys (rid, row) is) [ | inl here ↦ fit rid row here | inr later ↦ more rid row later ]
+both_fit schema xs ys fit more rid row is = elim (of_append xs ys (rid, row) is) [ inl here ↦ fit rid row here | inr later ↦ more rid row later ]
 
 pub first_fit : (schema : Shape) (n : ℕ) (records : List Record) → RowsFit schema records → PairsFit schema (pairs_of (take n records))
 first_fit schema zero records fit rid row is = absurd is

@@ -11,11 +11,7 @@ use std::alloc::{AllocError, Global};
 
 /// Whether no rid stands twice among the records, and all are from 1 to the most. Where they ascend it takes one pass,
 /// else n log n for n records.
-pub(crate) fn have_rids(
-    alloc: Global,
-    records: &RecordTable,
-    most: u32,
-) -> Result<bool, AllocError>
+pub(crate) fn have_rids(alloc: Global, records: &RecordTable, most: u32) -> Result<bool, AllocError>
     ensures { IfOk result (λ yes. IsTrue yes ↔ HaveRids most records.now) }
 {
     let mut rids = copied_rids(alloc, records)?;

@@ -74,11 +74,7 @@ fn copies_of(
 }
 
 // The first of these, counted from 0, whose rids repeat or pass the most.
-fn first_off(
-    alloc: Global,
-    parents: &[RecordTable],
-    most: u32,
-) -> Result<Option<usize>, AllocError>
+fn first_off(alloc: Global, parents: &[RecordTable], most: u32) -> Result<Option<usize>, AllocError>
     ensures { IfOk result (λ off. MatchOption off (All (HaveRids most) parents.now)
         (λ place. (place < length parents.now) × (HaveRids most (slice_index_or parents.now place []) → ⊥))) }
 {

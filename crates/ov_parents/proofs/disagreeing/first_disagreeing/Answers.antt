@@ -1,7 +1,6 @@
 use Rattle.std.proofs.Common.{◌++◌, Some, sym, subst, take, arith}
 use Rattle.ov_model.specs.Lists.{joined}
 use Rattle.ov_records.specs.Records.{pairs_of, lists_of, RowsFit}
-use Rattle.law_commits.specs.Differing.{Clash}
 use Rattle.ov_parents.specs.Seeing.{Maps}
 use Rattle.law_commits.proofs.Kept.{joined_more, none_more, is_first, is_none, none_disagrees}
 use Rattle.law_commits.proofs.Same.{versions_agree}

@@ -1,4 +1,4 @@
-use Rattle.std.proofs.Common.{◌≡◌, ◌<◌, ◌+◌, ◌++◌, true, false, Bool, List, ℕ, length, refl, sym, ◌∙◌, ap, subst, take, arith}
+use Rattle.std.proofs.Common.{◌≡◌, ◌<◌, ◌++◌, List, length, sym, ◌∙◌, ap, subst, take, arith}
 use Rattle.std.specs.Prelude.{Some}
 use Rattle.std.specs.BTreeMap.{get, Updates}
 use Rattle.std.specs.Option.{option_map}
@@ -6,15 +6,13 @@ use Rattle.std.specs.Ordering.{nat_cmp}
 use Rattle.std.proofs.lemmas.List.{get_or_default, take_all}
 use Rattle.std.proofs.lemmas.Option.{same_Some, none-some}
 use Rattle.ov_value.specs.Rows.{HasKinds}
-use Rattle.ov_value.specs.Shapes.{Shape}
 use Rattle.ov_segment.specs.declared.numbered.Record.{Record}
 use Rattle.ov_model.specs.Book.{Row}
 use Rattle.ov_model.specs.Lists.{IsIn}
 use Rattle.ov_model.specs.Records.{is_same_row}
-use Rattle.ov_model.proofs.Widening.{same_rows}
-use Rattle.ov_records.specs.Records.{pairs_of, RowsFit}
+use Rattle.ov_records.specs.Records.{pairs_of}
 use Rattle.ov_records.proofs.Passes.{none, at, fit_at, same_test}
-use Rattle.ov_parents.specs.Seeing.{Maps, PairsFit}
+use Rattle.ov_parents.specs.Seeing.{Maps}
 use Rattle.ov_parents.proofs.Seen.{clash, maps_more, pairs_more, seen_fit}
 use Rattle.ov_parents.proofs.disagreeing.see.Goals.{in-Some+else-not-same, in_default}
 use Rattle.ov_parents.proofs.disagreeing.see.Goals as goal

@@ -1,4 +1,4 @@
-use Rattle.std.proofs.Common.{ℕ, get_or, take, refl, sym, subst, arith}
+use Rattle.std.proofs.Common.{ℕ, get_or, take, sym, subst, arith}
 use Rattle.std.proofs.lemmas.List.{take_more}
 use Rattle.ov_parents.proofs.Repeats.{HasRisen, all_passed, none_passed, one_passed, passes_most, stops}
 use Rattle.ov_parents.proofs.repeating.ascend.Goals.{then-rid-last-via-then-rid-last, then-rid-last-via-else-rid-last+then-rid-most}

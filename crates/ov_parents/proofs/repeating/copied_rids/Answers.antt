@@ -1,4 +1,4 @@
-use Rattle.std.proofs.Common.{◌≡◌, ◌<◌, ◌+◌, ◌++◌, [], ◌∷◌, length, take, sym, ◌∙◌, ap, arith}
+use Rattle.std.proofs.Common.{◌<◌, ◌++◌, [], ◌∷◌, length, take, sym, ◌∙◌, ap, arith}
 use Rattle.std.proofs.lemmas.List.{map-append, take_more}
 use Rattle.law_commits.specs.Differing.{rids_of}
 use Rattle.ov_records.proofs.Passes.{none, at}
