@@ -1,5 +1,5 @@
 -- The records of a segment, one after another.
-use Rattle.std.proofs.Common.{inl, inr, ◌≡◌, ◌<◌, ◌≤◌, ◌+◌, ◌^◌, ℕ, true, false, List, [], ◌∷◌, ◌++◌, Some, None, refl, sym, ◌∙◌, ap, subst, arith, add-one, append_assoc}
+use Rattle.std.proofs.Common.{inl, inr, ◌≡◌, ◌<◌, ◌≤◌, ◌+◌, ◌^◌, ℕ, Bool, true, false, cond, List, [], ◌∷◌, ◌++◌, Some, None, refl, sym, ◌∙◌, ap, subst, arith, add-one, append_assoc}
 use Rattle.std.proofs.lemmas.List.{append-nil, map-append}
 use Rattle.std.proofs.lemmas.List.Elements.{filter-append}
 use Rattle.ov_host.specs.declared.area.Extent.{Extent}
@@ -7,8 +7,10 @@ use Rattle.ov_host.specs.Host.{State}
 use Rattle.ov_member.specs.Rids.{has, RiseFrom}
 use Rattle.ov_value.specs.Shapes.{Shape}
 use Rattle.ov_segment.specs.declared.numbered.Record.{Record}
+use Rattle.ov_segment.specs.Keeping.{put}
 use Rattle.ov_segment.specs.Reading.{fresh, Begins}
 use Rattle.ov_segment.specs.Segments.{IsNext, AreRecords, Ascend, segment_spelling}
+use Rattle.ov_segment.specs.Tables.{Content}
 use Rattle.ov_segment.proofs.SegmentLemmas.{HasRead, last_of, records-push, read_next}
 use Rattle.ov_fetch.specs.declared.cursor.Cursor.{Cursor}
 use Rattle.ov_fetch.specs.declared.errors.FetchErr.{FetchErr}
@@ -133,48 +135,40 @@ pub rids_end : (schema : Shape) (s0 s1 : State) (segment : Extent) (c d : Cursor
 rids_end schema s0 s1 segment c d rids h finds told = record { records = h.read; stands = ends schema s0 s1 segment c d h.read h.gone finds told; rids_are = h.rids_are }
 
 -- the wanted ones
-pub record KeepsWanted (schema : Shape) (before now : State) (segment : Extent) (c : Cursor) (wanted : List ℕ) (old kept : List Record) (rids : List ℕ) : Type 0 where
+pub record KeepsWanted (schema : Shape) (before now : State) (segment : Extent) (c : Cursor) (wanted : List ℕ) (old kept : Content) (rids : List ℕ) : Type 0 where
   pub read : List Record
   pub gone : HasGone schema before now segment c read
-  pub kept_are : kept ≡ old ++ wanted_of wanted read
+  pub columns_are : kept.columns ≡ old.columns
+  pub kept_are : kept.records ≡ old.records ++ wanted_of wanted read
   pub rids_are : rids ≡ rids_of read
 
-pub keeping_begins : (schema : Shape) (s : State) (segment : Extent) (c : Cursor) (wanted : List ℕ) (old : List Record) (rids : List ℕ) → c ≡ front_of segment → segment.bytes < 2 ^ 32 → rids ≡ []
+pub keeping_begins : (schema : Shape) (s : State) (segment : Extent) (c : Cursor) (wanted : List ℕ) (old : Content) (rids : List ℕ) → c ≡ front_of segment → segment.bytes < 2 ^ 32 → rids ≡ []
     → KeepsWanted schema s s segment c wanted old old rids
-keeping_begins schema s segment c wanted old rids is sized none = record { read = []; gone = begins schema s segment c is sized; kept_are = sym (append-nil old); rids_are = none }
+keeping_begins schema s segment c wanted old rids is sized none = record { read = []; gone = begins schema s segment c is sized; columns_are = refl; kept_are = sym (append-nil old.records); rids_are = none }
 
-kept_one : (wanted : List ℕ) (r : Record) → has wanted r.rid ≡ true → wanted_of wanted (r ∷ []) ≡ r ∷ []
-kept_one wanted r h = rw h refl
+put_records : (b : Bool) (table : Content) (r : Record) → (put b table r).records ≡ table.records ++ cond b (r ∷ []) []
+put_records true table r = refl
+put_records false table r = sym (append-nil table.records)
 
-kept_none : (wanted : List ℕ) (r : Record) → has wanted r.rid ≡ false → wanted_of wanted (r ∷ []) ≡ []
-kept_none wanted r h = rw h refl
+put_columns : (b : Bool) (table : Content) (r : Record) → (put b table r).columns ≡ table.columns
+put_columns true table r = refl
+put_columns false table r = refl
 
-pub keeps_one : (schema : Shape) (s0 s1 s2 : State) (segment : Extent) (c d : Cursor) (wanted : List ℕ) (old kept more : List Record) (rids now : List ℕ) (r : Record) → KeepsWanted schema s0 s1 segment c wanted old kept rids → Looked s1 s2
-    → s2.fetched + c.at ≤ s1.fetched + d.at → d.extent ≡ c.extent → Follows schema c r d → (s1.tells ≡ true → Finds schema (page_bytes s1) c (Some r) d) → has wanted r.rid ≡ true → more ≡ kept ++ r ∷ [] → now ≡ rids ++ r.rid ∷ []
+pub keeps_next : (schema : Shape) (s0 s1 s2 : State) (segment : Extent) (c d : Cursor) (wanted : List ℕ) (old kept more : Content) (rids now : List ℕ) (r : Record) → KeepsWanted schema s0 s1 segment c wanted old kept rids → Looked s1 s2
+    → s2.fetched + c.at ≤ s1.fetched + d.at → d.extent ≡ c.extent → Follows schema c r d → (s1.tells ≡ true → Finds schema (page_bytes s1) c (Some r) d) → more ≡ put (has wanted r.rid) kept r → now ≡ rids ++ r.rid ∷ []
     → KeepsWanted schema s0 s2 segment d wanted old more now
-keeps_one schema s0 s1 s2 segment c d wanted old kept more rids now r h looked fetched place follows finds in_ is pushed = record {
+keeps_next schema s0 s1 s2 segment c d wanted old kept more rids now r h looked fetched place follows finds is pushed = record {
   read = h.read ++ r ∷ [];
   gone = goes_on schema s0 s1 s2 segment c d h.read r h.gone looked fetched place follows finds;
   rids_are = rids_more rids now h.read r h.rids_are pushed;
+  columns_are = ap (λ (t : Content). t.columns) is ∙ put_columns (has wanted r.rid) kept r ∙ h.columns_are;
   kept_are =
-      is ∙ ap (λ (l : List Record). l ++ r ∷ []) h.kept_are ∙ append_assoc old (wanted_of wanted h.read) (r ∷ [])
-      ∙ ap (λ (l : List Record). old ++ (wanted_of wanted h.read ++ l)) (sym (kept_one wanted r in_))
-      ∙ ap (λ (l : List Record). old ++ l) (sym (filter-append (λ (x : Record). has wanted x.rid) h.read (r ∷ [])));
+      ap (λ (t : Content). t.records) is ∙ put_records (has wanted r.rid) kept r ∙ ap (λ (l : List Record). l ++ wanted_of wanted (r ∷ [])) h.kept_are
+      ∙ append_assoc old.records (wanted_of wanted h.read) (wanted_of wanted (r ∷ []))
+      ∙ ap (λ (l : List Record). old.records ++ l) (sym (filter-append (λ (x : Record). has wanted x.rid) h.read (r ∷ [])));
 }
 
-pub keeps_none : (schema : Shape) (s0 s1 s2 : State) (segment : Extent) (c d : Cursor) (wanted : List ℕ) (old kept : List Record) (rids now : List ℕ) (r : Record) → KeepsWanted schema s0 s1 segment c wanted old kept rids → Looked s1 s2
-    → s2.fetched + c.at ≤ s1.fetched + d.at → d.extent ≡ c.extent → Follows schema c r d → (s1.tells ≡ true → Finds schema (page_bytes s1) c (Some r) d) → has wanted r.rid ≡ false → now ≡ rids ++ r.rid ∷ []
-    → KeepsWanted schema s0 s2 segment d wanted old kept now
-keeps_none schema s0 s1 s2 segment c d wanted old kept rids now r h looked fetched place follows finds out pushed = record {
-  read = h.read ++ r ∷ [];
-  gone = goes_on schema s0 s1 s2 segment c d h.read r h.gone looked fetched place follows finds;
-  rids_are = rids_more rids now h.read r h.rids_are pushed;
-  kept_are =
-      h.kept_are ∙ ap (λ (l : List Record). old ++ l)
-      (sym (filter-append (λ (x : Record). has wanted x.rid) h.read (r ∷ []) ∙ ap (λ (l : List Record). wanted_of wanted h.read ++ l) (kept_none wanted r out) ∙ append-nil (wanted_of wanted h.read)));
-}
-
-pub keeping_ends : (schema : Shape) (s0 s1 : State) (segment : Extent) (c d : Cursor) (wanted : List ℕ) (old kept : List Record) (rids members : List ℕ) → KeepsWanted schema s0 s1 segment c wanted old kept rids
-    → (s1.tells ≡ true → Finds schema (page_bytes s1) c None d) → members ≡ rids → HasKept schema s0 segment wanted old kept members
+pub keeping_ends : (schema : Shape) (s0 s1 : State) (segment : Extent) (c d : Cursor) (wanted : List ℕ) (old kept : Content) (rids members : List ℕ) → KeepsWanted schema s0 s1 segment c wanted old kept rids
+    → (s1.tells ≡ true → Finds schema (page_bytes s1) c None d) → members ≡ rids → HasKept schema s0 segment wanted old.records kept.records members
 keeping_ends schema s0 s1 segment c d wanted old kept rids members h finds same =
     record { read = h.read; are = h.gone.are; kept_are = h.kept_are; rids_are = same ∙ h.rids_are; told = λ told. ends schema s0 s1 segment c d h.read h.gone finds told }

@@ -11,7 +11,6 @@
 mod cursor;
 mod errors;
 mod lists;
-mod order;
 mod picks;
 mod rows;
 mod scan;

@@ -8,12 +8,11 @@ ghost use Rattle.ov_fetch.specs.Extents.{Looked, page_bytes, rids_of};
 ghost use Rattle.ov_fetch.specs.Rows.{AreRows, HaveRids, RefusesRows};
 
 use crate::errors::FetchErr;
-use crate::order::{drop_repeats, sort_by_rid};
 use crate::segments::{Gathered, gather, members_of};
 use crate::union::{place_lacking, union_of};
 use ov_host::{Extent, Host};
 use ov_member::Members;
-use ov_segment::{Record, Records};
+use ov_segment::{RecordTable, Table};
 use ov_value::Schema;
 use std::alloc::{AllocError, Global};
 
@@ -31,7 +30,7 @@ pub fn rows_of<H: Host>(
     segments: &[Extent],
     lists: &[Extent],
     members: &[Members],
-) -> Result<Records, FetchErr>
+) -> Result<RecordTable, FetchErr>
     requires { length lists.now ≡ length members.now }
     ensures looked { Looked (H.state host.old) (H.state host.new) }
     ensures cause { IsErrOf result FetchErr.Host → Rose (H.state host.old).faults (H.state host.new).faults }
@@ -43,14 +42,15 @@ pub fn rows_of<H: Host>(
         (AreRows schema.now (page_bytes (H.state host.old)) segments.now members.now)
         (λ e. RefusesRows e schema.now (page_bytes (H.state host.old)) segments.now lists.now members.now) }
 {
-    Ok(rows_and_rids_of(alloc, host, schema, segments, lists, members)?.records)
+    let read = rows_and_rids_of(alloc, host, schema, segments, lists, members)?;
+    Ok(RecordTable::new(read.records))
 }
 
 /// What was read of segments.
 #[derive(Drop)]
 pub struct SegmentsRead {
     /// The records that were asked for, each once, in the order of their rids.
-    pub records: Records,
+    pub records: Table,
     /// The rids of all records of each segment, asked for or not.
     pub rids: Vec<Members>,
 }
@@ -68,39 +68,37 @@ pub fn rows_and_rids_of<H: Host>(
     ensures looked { Looked (H.state host.old) (H.state host.new) }
     ensures cause { IsErrOf result FetchErr.Host → Rose (H.state host.old).faults (H.state host.new).faults }
     ensures fetched { (H.state host.new).fetched ≤ (H.state host.old).fetched + sum_by (λ e. e.bytes) segments.now }
-    ensures records { IfOk result (λ read. AreRecords schema.now 0 read.records) }
+    ensures columns { IfOk result (λ read. read.records.columns ≡ schema.now.columns) }
+    ensures records { IfOk result (λ read. AreRecords schema.now 0 read.records.records) }
     ensures rids { (H.state host.old).tells ≡ true
         → IfOk result (λ read. HaveRids schema.now (page_bytes (H.state host.old)) segments.now read.rids.items) }
     ensures answer { (H.state host.old).tells ≡ true → MatchResult result
-        (λ read. AreRows schema.now (page_bytes (H.state host.old)) segments.now members.now read.records)
+        (λ read. AreRows schema.now (page_bytes (H.state host.old)) segments.now members.now read.records.records)
         (λ e. RefusesRows e schema.now (page_bytes (H.state host.old)) segments.now lists.now members.now) }
 {
     let wanted = union_of(alloc, members)?;
     let Gathered { kept, rids } = gather(alloc, host, schema, segments, &wanted)?;
     let mut records = kept;
-    sort_by_rid(&mut records)?;
-    drop_repeats(&mut records);
+    records.sort_by_rid()?;
+    records.drop_repeats();
     let found = rids_in(alloc, &records)?;
     let missing = wanted.without(alloc, &found)?;
     match place_lacking(members, &missing) {
-        None => Ok(SegmentsRead {
-            records: Records::new(records),
-            rids,
-        }),
+        None => Ok(SegmentsRead { records, rids }),
         Some(place) => Err(FetchErr::Damaged {
             page: lists[place].page,
         }),
     }
 }
 
-// The rids of records.
-fn rids_in(alloc: Global, records: &[Record]) -> Result<Members, AllocError>
-    requires { Ascend 0 (rids_of records.now) }
-    ensures { IfOk result (λ found. found ≡ rids_of records.now) }
+// The rids of a table's records.
+fn rids_in(alloc: Global, records: &Table) -> Result<Members, AllocError>
+    requires { Ascend 0 (rids_of records.now.records) }
+    ensures { IfOk result (λ found. found ≡ rids_of records.now.records) }
 {
     let mut rids = Vec::with_capacity(alloc, records.len())?;
-    for record in records {
-        rids.push(record.rid)?;
+    for i in 0..records.len() {
+        rids.push(records.rid(i))?;
     }
     members_of(alloc, &rids)
 }

@@ -1,7 +1,7 @@
 //! A scan: the rows of some versions of one dataset.
 
 use crate::picks::{Picks, Vids};
-use ov_segment::Records;
+use ov_segment::RecordTable;
 
 /// The rows of some versions of one dataset. A record that several of them have stands here once.
 #[derive(Debug, Drop)]
@@ -9,7 +9,7 @@ pub struct Scan {
     /// The versions' numbers, in the order that was asked for.
     pub vids: Vids,
     /// The records of all of them.
-    pub records: Records,
+    pub records: RecordTable,
     /// For each version of `vids` the positions of its rows in `records`, in key order.
     pub picks: Picks,
 }

@@ -1,10 +1,12 @@
 //! The records of segments, from their extents.
 
-ghost use Rattle.std.specs.Prelude.{◌≡◌, ◌+◌, ◌≤◌, true, [], length, vec_len, IfOk, IfErr, IsErrOf, MatchResult};
+ghost use Rattle.std.specs.Prelude.{◌≡◌, ◌+◌, ◌≤◌, true, [], length, vec_len, IfOk, IfErr, IsErrOf, MatchResult, OnOk, OnErr};
 ghost use Rattle.std.specs.List.{sum_by, AllByRecursion};
 ghost use Rattle.ov_host.specs.Host.{Rose};
 ghost use Rattle.ov_member.specs.Rids.{AreRids};
+ghost use Rattle.ov_segment.specs.Keeping.{put as put_into};
 ghost use Rattle.ov_segment.specs.Segments.{Ascend};
+ghost use Rattle.ov_value.specs.Spelling.{IsRow};
 ghost use Rattle.ov_fetch.specs.Extents.{Looked, page_bytes, HasRids, RefusesSegment};
 ghost use Rattle.ov_fetch.specs.Gathering.{IsRecord, HasKept, AreWanted, RefusesSegments};
 ghost use Rattle.ov_fetch.specs.Rows.{HaveRids};
@@ -14,7 +16,7 @@ use crate::errors::FetchErr;
 use crate::lists::room;
 use ov_host::{Extent, Host};
 use ov_member::Members;
-use ov_segment::Record;
+use ov_segment::{Record, Table};
 use ov_value::Schema;
 use std::alloc::{AllocError, Global};
 
@@ -77,7 +79,7 @@ pub(crate) fn members_of(alloc: Global, rids: &[u32]) -> Result<Members, AllocEr
 /// What is kept of segments: the records that were wanted, and the rids of each segment.
 #[derive(Drop)]
 pub(crate) struct Gathered {
-    pub kept: Vec<Record>,
+    pub kept: Table,
     pub rids: Vec<Members>,
 }
 
@@ -93,14 +95,15 @@ pub(crate) fn gather<H: Host>(
     ensures looked { Looked (H.state host.old) (H.state host.new) }
     ensures cause { IsErrOf result FetchErr.Host → Rose (H.state host.old).faults (H.state host.new).faults }
     ensures fetched { (H.state host.new).fetched ≤ (H.state host.old).fetched + sum_by (λ e. e.bytes) segments.now }
-    ensures records { IfOk result (λ found. AllByRecursion (IsRecord schema.now) found.kept.items) }
+    ensures columns { IfOk result (λ found. found.kept.columns ≡ schema.now.columns) }
+    ensures records { IfOk result (λ found. AllByRecursion (IsRecord schema.now) found.kept.records) }
     ensures rids { (H.state host.old).tells ≡ true
         → IfOk result (λ found. HaveRids schema.now (page_bytes (H.state host.old)) segments.now found.rids.items) }
     ensures answer { (H.state host.old).tells ≡ true → MatchResult result
-        (λ found. AreWanted schema.now (page_bytes (H.state host.old)) segments.now wanted.now found.kept.items)
+        (λ found. AreWanted schema.now (page_bytes (H.state host.old)) segments.now wanted.now found.kept.records)
         (λ e. RefusesSegments e schema.now (page_bytes (H.state host.old)) segments.now) }
 {
-    let mut kept = Vec::new(alloc);
+    let mut kept = Table::new(alloc, schema)?;
     let mut rids = Vec::with_capacity(alloc, segments.len())?;
     let mut piece = room(alloc, PIECE_BYTES)?;
     for segment in segments {
@@ -117,13 +120,15 @@ fn keep_wanted<H: Host>(
     segment: Extent,
     wanted: &Members,
     piece: &mut [u8],
-    kept: &mut Vec<Record>,
+    kept: &mut Table,
 ) -> Result<Members, FetchErr>
-    requires { length piece.old ≡ 61440 }
+    requires room { length piece.old ≡ 61440 }
+    requires columns { kept.old.columns ≡ schema.now.columns }
     ensures looked { Looked (H.state host.old) (H.state host.new) }
     ensures cause { IsErrOf result FetchErr.Host → Rose (H.state host.old).faults (H.state host.new).faults }
     ensures fetched { (H.state host.new).fetched ≤ (H.state host.old).fetched + segment.bytes }
-    ensures kept { IfOk result (HasKept schema.now (H.state host.old) segment wanted.now kept.old.items kept.new.items) }
+    ensures columns { kept.new.columns ≡ kept.old.columns }
+    ensures kept { IfOk result (HasKept schema.now (H.state host.old) segment wanted.now kept.old.records kept.new.records) }
     ensures err { (H.state host.old).tells ≡ true
         → IfErr result (λ e. RefusesSegment e schema.now (page_bytes (H.state host.old)) segment) }
 {
@@ -131,9 +136,21 @@ fn keep_wanted<H: Host>(
     let mut rids = Vec::new(alloc);
     while let Some(record) = cursor.next(host, schema, piece)? {
         rids.push(record.rid)?;
-        if wanted.contains(record.rid) {
-            kept.push(record)?;
-        }
+        put(kept, schema, wanted.contains(record.rid), &record)?;
     }
     Ok(members_of(alloc, &rids)?)
+}
+
+// Puts the record behind those kept, where it is wanted.
+fn put(kept: &mut Table, schema: &Schema, wanted: bool, record: &Record) -> Result<(), AllocError>
+    requires columns { kept.old.columns ≡ schema.now.columns }
+    requires row { IsRow schema.now record.now.row }
+    ensures ok { OnOk result (kept.new ≡ put_into wanted kept.old record.now) }
+    ensures err { OnErr result (kept.new ≡ kept.old) }
+{
+    if wanted {
+        kept.push_row(schema, record.rid, &record.row)
+    } else {
+        Ok(())
+    }
 }

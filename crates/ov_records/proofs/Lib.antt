@@ -2,4 +2,3 @@ pub mod Commits
 pub mod Finds
 pub mod Rids
 pub mod Passes
-pub mod Scans

@@ -1,22 +1,16 @@
--- A list of records that is passed in key order.
---     AllFrom s row records      none of them has a key below the row's
---     Ascends s records      none has a key below that of one before it
---     from_row s row records      the records from the first one on whose key isn't below the row's
-use Rattle.std.specs.Prelude.{◌≡◌, false, if◌then◌else◌, List, [], ◌∷◌}
-use Rattle.std.specs.Ordering.{is_lt}
+-- How far a parent's list, in key order, is passed for rows in key order.
+--     AreBelow s front row      each of these records has a key below the row's
+--     AreNotAbove s front row      none of them has a key above the row's
+use Rattle.std.specs.Prelude.{◌≡◌, ◌≢◌, List}
+use Rattle.std.specs.List.{All}
+use Rattle.std.specs.declared.cmp.Ordering.TheVariants.{Less, Greater}
 use Rattle.ov_value.specs.Rows.{key_cmp}
 use Rattle.ov_value.specs.Shapes.{Shape}
 use Rattle.ov_segment.specs.declared.numbered.Record.{Record}
 use Rattle.ov_model.specs.Book.{Row}
 
-abbrev pub AllFrom : Shape → Row → List Record → Type 0
-AllFrom schema row [] = Unit {0}
-AllFrom schema row (r ∷ rs) = (is_lt (key_cmp schema r.row row) ≡ false) × AllFrom schema row rs
+abbrev pub AreBelow : Shape → List Record → Row → Type 0
+AreBelow schema front row = All (λ r. key_cmp schema r.row row ≡ Less) front
 
-abbrev pub Ascends : Shape → List Record → Type 0
-Ascends schema [] = Unit {0}
-Ascends schema (r ∷ rs) = AllFrom schema r.row rs × Ascends schema rs
-
-abbrev pub from_row : Shape → Row → List Record → List Record
-from_row schema row [] = []
-from_row schema row (r ∷ rs) = if is_lt (key_cmp schema r.row row) then from_row schema row rs else r ∷ rs
+abbrev pub AreNotAbove : Shape → List Record → Row → Type 0
+AreNotAbove schema front row = All (λ r. key_cmp schema r.row row ≢ Greater) front

@@ -3,10 +3,11 @@
 --     has_record parent r      whether the parent has this rid with this row
 --     shared records parent      how many of these records the parent has
 --     InKeyOrder s records      in key order; equal keys may follow one another
+--     RowsFit s records      each has a row of the schema
 use Rattle.std.specs.Prelude.{ℕ, ◌+◌, ◌-◌, ◌^◌, ◌<◌, Bool, ◌==◌, ◌&&◌, List, map, count_by}
-use Rattle.std.specs.List.{list_any}
+use Rattle.std.specs.List.{All, list_any}
 use Rattle.std.specs.List.Sorted.{IsSorted}
-use Rattle.ov_value.specs.Rows.{key_cmp}
+use Rattle.ov_value.specs.Rows.{Fits, key_cmp}
 use Rattle.ov_value.specs.Shapes.{Shape}
 use Rattle.ov_segment.specs.declared.numbered.Record.{Record}
 use Rattle.ov_model.specs.Book.{Row}
@@ -26,6 +27,9 @@ shared records parent = count_by (has_record parent) records
 
 abbrev pub InKeyOrder : Shape → List Record → Type 0
 InKeyOrder schema records = IsSorted (λ a b. key_cmp schema a.row b.row) records
+
+abbrev pub RowsFit : Shape → List Record → Type 0
+RowsFit schema records = All (Fits schema) (map (λ r. r.row) records)
 
 -- so many new rids from this one on, at least one, and the last of them would pass 2^31
 abbrev pub WouldPass : ℕ → ℕ → Type 0

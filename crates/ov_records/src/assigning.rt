@@ -2,21 +2,20 @@
 
 ghost use Rattle.std.specs.Prelude.{◌≡◌, ◌<◌, ◌^◌, ◌+◌, List, [], length, map, IfOk, OnOk, IfErr};
 ghost use Rattle.std.specs.List.{All, zip};
-ghost use Rattle.ov_value.specs.Rows.{key_cmp};
+ghost use Rattle.ov_value.specs.Rows.{Fits, key_cmp};
 ghost use Rattle.ov_model.specs.Assigned.{assigned, fresh_rows, stored_parents};
 ghost use Rattle.ov_model.specs.Book.{Version};
 ghost use Rattle.ov_model.specs.Lists.{Rises};
 ghost use Rattle.ov_model.specs.Records.{recs, order_of};
 ghost use Rattle.ov_records.specs.Committed.{AreRecords};
-ghost use Rattle.ov_records.specs.Records.{lists_of, shared, InKeyOrder, WouldPass};
+ghost use Rattle.ov_records.specs.Records.{lists_of, shared, InKeyOrder, RowsFit, WouldPass};
 
-use crate::finding::found_by;
 use crate::numbering::{count_new, number, would_pass};
 use crate::numbers::Numbers;
 use crate::outcome::{AssignErr, Assigned};
-use crate::sharing::weights_of;
-use ov_segment::Records;
-use ov_value::{Row, Schema};
+use crate::sharing::shares_of;
+use ov_segment::{RecordTable, RowTable};
+use ov_value::Schema;
 use std::alloc::Global;
 
 /// The rids of a new version's rows, from its parents' records in the order in which the parents were listed:
@@ -29,13 +28,15 @@ use std::alloc::Global;
 pub fn assign(
     alloc: Global,
     schema: &Schema,
-    parents: &[Records],
-    rows: &[Row],
+    parents: &[RecordTable],
+    rows: &RowTable,
     next: u32,
 ) -> Result<Assigned, AssignErr>
     requires few { length rows.now < 2 ^ 32 }
     requires rows { Rises (key_cmp schema.now) rows.now }
     requires parents { All (InKeyOrder schema.now) parents.now }
+    requires rows_fit { All (Fits schema.now) rows.now }
+    requires parents_fit { All (RowsFit schema.now) parents.now }
     ensures rids { IfOk result (λ made. made.rids ≡ assigned rows.now (lists_of parents.now) next) }
     ensures weights { IfOk result (λ made. made.weights ≡ map (shared (zip made.rids rows.now)) (lists_of parents.now)) }
     ensures fresh { IfOk result (λ made. made.fresh ≡ fresh_rows rows.now (lists_of parents.now)) }
@@ -46,16 +47,15 @@ pub fn assign(
     ensures room { OnOk result (¬ WouldPass next (fresh_rows rows.now (lists_of parents.now))) }
     ensures cause { IfErr result (λ why. why ≡ AssignErr.TooManyRecords → WouldPass next (fresh_rows rows.now (lists_of parents.now))) }
 {
-    let found = found_by(alloc, schema, parents, rows)?;
-    let fresh = count_new(found.as_slice());
+    let shares = shares_of(alloc, schema, parents, rows)?;
+    let fresh = count_new(shares.found.as_slice());
     if would_pass(next, fresh) {
         return Err(AssignErr::TooManyRecords);
     }
-    let rids = number(alloc, found.as_slice(), next)?;
-    let weights = weights_of(alloc, schema, parents, rows, rids.as_slice())?;
+    let rids = number(alloc, shares.found.as_slice(), next)?;
     Ok(Assigned {
         rids: Numbers::new(rids),
-        weights: Numbers::new(weights),
+        weights: Numbers::new(shares.weights),
         fresh,
     })
 }

@@ -4,15 +4,15 @@
 //! Any other row is a new record, with the next rid. The weight of a version's edge to a parent is the number of
 //! records that both have.
 //!
-//! All lists stand in key order, so each parent's list is walked once for rids and once for weights.
+//! All lists stand in key order, so each parent's list is walked once beside the rows. Rows of a schema are equal where
+//! their bytes are.
 #![tactic(auto)]
 
 mod assigning;
-mod finding;
+mod meeting;
 mod numbering;
 mod numbers;
 mod outcome;
-mod passing;
 mod sharing;
 
 pub use assigning::assign;

@@ -1,77 +1,71 @@
-//! How many records a version shares with its parents.
+//! What parents give of rows: rids, and how many rows they have under the rids that the rows get.
 
-ghost use Rattle.std.specs.Prelude.{◌≡◌, ◌<◌, ◌^◌, ◌==◌, ◌&&◌, length, map, IfOk};
+ghost use Rattle.std.specs.Prelude.{◌≡◌, ◌<◌, ◌^◌, List, ℕ, length, map, IfOk};
 ghost use Rattle.std.specs.List.{All, zip};
-ghost use Rattle.ov_value.specs.Rows.{key_cmp};
+ghost use Rattle.ov_value.specs.Rows.{Fits, key_cmp};
+ghost use Rattle.ov_model.specs.Assigned.{assigned, rid_by};
 ghost use Rattle.ov_model.specs.Lists.{Rises};
-ghost use Rattle.ov_model.specs.Records.{is_same_row};
-ghost use Rattle.ov_records.specs.Records.{pairs_of, lists_of, has_record as has_record_of, shared, InKeyOrder};
-ghost use Rattle.ov_records.specs.Passing.{Ascends};
+ghost use Rattle.ov_records.specs.Records.{pairs_of, lists_of, shared, InKeyOrder, RowsFit};
+ghost use Rattle.ov_records.specs.Found.{or_found, shared_found};
 
-use crate::passing::pass_below;
-use ov_segment::{Record, Records};
-use ov_value::{Row, Schema};
+use crate::meeting::meet;
+use ov_segment::{RecordTable, RowTable};
+use ov_value::Schema;
 use std::alloc::{AllocError, Global};
-use std::cmp::Ordering;
 
-/// For each parent how many of the records, each a rid with its row, it has.
-pub(crate) fn weights_of(
+/// What parents give of rows.
+#[derive(Drop)]
+pub(crate) struct Shares {
+    /// For each row the rid that the first parent with an equal row gives it, or none.
+    pub found: Vec<Option<u32>>,
+    /// For each parent how many of the rows it has under the rids that they get.
+    pub weights: Vec<u32>,
+}
+
+/// Each parent's list is walked once, beside the rows.
+pub(crate) fn shares_of(
     alloc: Global,
     schema: &Schema,
-    parents: &[Records],
-    rows: &[Row],
-    rids: &[u32],
-) -> Result<Vec<u32>, AllocError>
+    parents: &[RecordTable],
+    rows: &RowTable,
+) -> Result<Shares, AllocError>
     requires few { length rows.now < 2 ^ 32 }
     requires rows { Rises (key_cmp schema.now) rows.now }
     requires parents { All (InKeyOrder schema.now) parents.now }
-    requires rids { length rids.now ≡ length rows.now }
-    ensures { IfOk result (λ weights. weights.items ≡ map (shared (zip rids.now rows.now)) (lists_of parents.now)) }
+    requires rows_fit { All (Fits schema.now) rows.now }
+    requires parents_fit { All (RowsFit schema.now) parents.now }
+    ensures found { IfOk result (λ shares. shares.found.items ≡ map (rid_by (lists_of parents.now)) rows.now) }
+    ensures weights { IfOk result (λ shares. (next : ℕ)
+        → shares.weights.items ≡ map (shared (zip (assigned rows.now (lists_of parents.now) next) rows.now)) (lists_of parents.now)) }
 {
+    let mut found = vec![in alloc; None; rows.len()]?;
     let mut weights = Vec::with_capacity(alloc, parents.len())?;
     for parent in parents {
-        weights.push(weight_of(schema, parent.as_slice(), rows, rids))?;
+        weights.push(share(schema, parent, rows, found.as_mut_slice()))?;
     }
-    Ok(weights)
+    Ok(Shares { found, weights })
 }
 
-fn weight_of(schema: &Schema, parent: &[Record], rows: &[Row], rids: &[u32]) -> u32
+// Where no rid was found yet, the one that this parent gives; and how many rows it has with the rids found then.
+fn share(schema: &Schema, parent: &RecordTable, rows: &RowTable, found: &mut [Option<u32>]) -> u32
     requires few { length rows.now < 2 ^ 32 }
     requires rows { Rises (key_cmp schema.now) rows.now }
     requires parent { InKeyOrder schema.now parent.now }
-    requires rids { length rids.now ≡ length rows.now }
-    ensures { result ≡ shared (zip rids.now rows.now) (pairs_of parent.now) }
+    requires rows_fit { All (Fits schema.now) rows.now }
+    requires parent_fits { RowsFit schema.now parent.now }
+    requires found { length found.old ≡ length rows.now }
+    ensures found { found.new ≡ or_found found.old rows.now (pairs_of parent.now) }
+    ensures weight { result ≡ shared_found (pairs_of parent.now) found.new rows.now }
 {
-    let mut rest = parent;
+    let mut passed = 0;
     let mut weight = 0;
-    for (i, row) in rows.iter().enumerate() {
-        rest = pass_below(schema, rest, row);
-        if has_record(schema, rest, row, rids[i]) {
+    for i in 0..rows.len() {
+        let met = meet(schema, parent, passed, &rows.row(i), found[i]);
+        passed = met.passed;
+        found[i] = met.rid;
+        if met.shared {
             weight += 1;
         }
     }
     weight
-}
-
-// Whether the rid stands with an equal row among records in key order; those with greater keys
-// aren't looked at.
-fn has_record(schema: &Schema, records: &[Record], row: &Row, rid: u32) -> bool
-    requires { Ascends schema.now records.now }
-    ensures { result ≡ has_record_of (pairs_of records.now) (rid, row.now) }
-{
-    for one in records {
-        if is_record(one, row, rid) {
-            return true;
-        }
-        if schema.cmp_key(row, &one.row) == Ordering::Less {
-            return false;
-        }
-    }
-    false
-}
-
-fn is_record(one: &Record, row: &Row, rid: u32) -> bool
-    ensures { result ≡ ((one.now.rid == rid) && is_same_row row.now one.now.row) }
-{
-    one.rid == rid && *row == one.row
 }

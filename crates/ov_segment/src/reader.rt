@@ -52,6 +52,16 @@ impl SegmentReader {
         })
     }
 
+    /// Goes to the front of another segment, with the memory that it has: it is as a new one.
+    pub fn restart(&mut self)
+        ensures { self.new ≡ fresh }
+    {
+        self.buffer.clear();
+        self.start = 0;
+        self.last = 0;
+        self.over = false;
+    }
+
     /// Takes bytes from the front of these, as many as there is room for, and answers how many; none after it
     /// has answered Bad.
     pub fn feed(&mut self, bytes: &[u8]) -> usize

@@ -1,11 +1,13 @@
 //! A list of records in one buffer.
 
-ghost use Rattle.std.specs.Prelude.{◌≡◌, ◌<◌, length, slice_index_or};
+ghost use Rattle.std.specs.Prelude.{◌≡◌, ◌<◌, ◌^◌, ◌++◌, IfOk, OnOk, length, map, slice_index_or};
+ghost use Rattle.std.specs.List.{All};
 ghost use Rattle.ov_segment.specs.declared.numbered.Record.{Record as RecordValue};
 
 use crate::row_ref::RowRef;
 use crate::table::Table;
 use ov_value::Cells;
+use std::alloc::{AllocError, Global};
 use std::marker::Model;
 
 /// Records of one schema in order, whose rows stay bytes in one buffer. Contracts see the list of them.
@@ -31,9 +33,36 @@ impl RecordTable {
         RecordTable { table }
     }
 
+    /// The table of them, as it was when they were complete.
+    pub fn table(&self) -> &Table
+        ensures { result.now.records ≡ self.now }
+    {
+        &self.table
+    }
+
+    /// The records at these positions, in this order. No row's bytes are copied; it takes memory for the places alone.
+    pub fn at(self, order: &[usize]) -> Result<RecordTable, AllocError>
+        requires { All (λ i. i < length self) order.now }
+        ensures { (none : RecordValue) → IfOk result (λ made. made ≡ map (λ i. slice_index_or self i none) order.now) }
+    {
+        let table = self.table.at(order)?;
+        Ok(RecordTable { table })
+    }
+
+    /// Copies of the records at these positions, in this order. Their bytes are copied, and not read.
+    pub fn copies_at(&self, alloc: Global, order: &[usize]) -> Result<RecordTable, AllocError>
+        requires { All (λ i. i < length self.now) order.now }
+        ensures { (none : RecordValue) → IfOk result (λ made. made ≡ map (λ i. slice_index_or self.now i none) order.now) }
+    {
+        let mut table = self.table.like(alloc)?;
+        copy_all(&mut table, &self.table, order)?;
+        Ok(RecordTable { table })
+    }
+
     /// How many records there are.
     pub fn len(&self) -> usize
-        ensures { result ≡ length self.now }
+        ensures count { result ≡ length self.now }
+        ensures small { result < 2 ^ 63 }
     {
         self.table.len()
     }
@@ -61,4 +90,16 @@ impl RecordTable {
     {
         self.table.row(i).cells()
     }
+}
+
+// Appends the records of another table at these positions.
+fn copy_all(table: &mut Table, other: &Table, order: &[usize]) -> Result<(), AllocError>
+    requires columns { table.old.columns ≡ other.now.columns }
+    requires there { All (λ i. i < length other.now.records) order.now }
+    ensures { (none : RecordValue) → OnOk result (table.new.records ≡ table.old.records ++ map (λ i. slice_index_or other.now.records i none) order.now) }
+{
+    for i in order {
+        table.copy_from(other, *i)?;
+    }
+    Ok(())
 }

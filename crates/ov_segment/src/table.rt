@@ -48,9 +48,22 @@ impl Table {
         })
     }
 
+    /// A table without a record, with the columns of this one.
+    pub fn like(&self, alloc: Global) -> Result<Table, AllocError>
+        ensures columns { IfOk result (λ made. made.columns ≡ self.now.columns) }
+        ensures records { IfOk result (λ made. made.records ≡ []) }
+    {
+        Ok(Table {
+            columns: copies_of(alloc, &self.columns)?,
+            bytes: Vec::new(alloc),
+            places: Vec::new(alloc),
+        })
+    }
+
     /// How many records there are.
     pub fn len(&self) -> usize
-        ensures { result ≡ length self.now.records }
+        ensures count { result ≡ length self.now.records }
+        ensures small { result < 2 ^ 63 }
     {
         self.places.len()
     }

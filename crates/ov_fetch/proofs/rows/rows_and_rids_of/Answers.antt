@@ -1,64 +1,61 @@
-use Rattle.std.proofs.Common.{◌≡◌, ℕ, true, false, List, Option, subst, sym, ◌∙◌, ap}
+use Rattle.std.proofs.Common.{◌≡◌, ℕ, true, false, Option, subst, ◌∙◌, ap}
 use Rattle.std.specs.Prelude.{MatchOption}
 use Rattle.ov_member.specs.Rids.{has, left_out}
-use Rattle.ov_segment.specs.declared.numbered.Record.{Record}
-use Rattle.ov_segment.specs.Segments.{AreRecords, Ascend}
 use Rattle.ov_segment.proofs.WrittenLemmas.{records_ascend}
 use Rattle.ov_fetch.specs.Extents.{page_bytes, rids_of}
-use Rattle.ov_fetch.specs.Rows.{is_asked, AreRows}
+use Rattle.ov_fetch.specs.Rows.{is_asked}
 use Rattle.ov_fetch.specs.Gathering.{SharesAt}
 use Rattle.ov_fetch.proofs.Asked.{AreSorted, sorted_are, rows_are, rows_lack}
 use Rattle.ov_fetch.proofs.rows.rows_and_rids_of.Goals as goal
 
 pub rids_in-requires : goal.rids_in-requires
 rids_in-requires g c =
-    let sorted : AreSorted c.in_ok-kept.field-0.kept.items c.drop_repeats.new.records.items = record {
-      sorted = c.sort_by_rid.new.records.items;
+    let sorted : AreSorted c.in_ok-kept.field-0.kept.records c.drop_repeats.new.self.records = record {
+      sorted = c.sort_by_rid.new.self.records;
       permutation = c.in_ok-sort_by_rid.ensures.permutation;
       rising = c.in_ok-sort_by_rid.ensures.sorted;
       stable = c.in_ok-sort_by_rid.ensures.stable;
-      got_is = c.drop_repeats.ensures;
+      got_is = c.drop_repeats.ensures.records;
     } in
-    subst (λ (l : List Record). Ascend 0 (rids_of l)) (sym c.deref.ensures.value) (records_ascend c.args.schema.now 0 c.drop_repeats.new.records.items (sorted_are c.args.schema.now c.in_ok-kept.field-0.kept.items c.drop_repeats.new.records.items sorted c.in_ok-kept.ensures.records))
+    records_ascend c.args.schema.now 0 c.drop_repeats.new.self.records (sorted_are c.args.schema.now c.in_ok-kept.field-0.kept.records c.drop_repeats.new.self.records sorted c.in_ok-kept.ensures.records)
 
 pub returns-in-None-clause-records : goal.returns-in-None-clause-records
 returns-in-None-clause-records g c =
-    let sorted : AreSorted c.in_ok-kept.field-0.kept.items c.drop_repeats.new.records.items = record {
-      sorted = c.sort_by_rid.new.records.items;
+    let sorted : AreSorted c.in_ok-kept.field-0.kept.records c.drop_repeats.new.self.records = record {
+      sorted = c.sort_by_rid.new.self.records;
       permutation = c.in_ok-sort_by_rid.ensures.permutation;
       rising = c.in_ok-sort_by_rid.ensures.sorted;
       stable = c.in_ok-sort_by_rid.ensures.stable;
-      got_is = c.drop_repeats.ensures;
+      got_is = c.drop_repeats.ensures.records;
     } in
-    subst (AreRecords c.args.schema.now 0) (sym c.new.ensures) (sorted_are c.args.schema.now c.in_ok-kept.field-0.kept.items c.drop_repeats.new.records.items sorted c.in_ok-kept.ensures.records)
+    sorted_are c.args.schema.now c.in_ok-kept.field-0.kept.records c.drop_repeats.new.self.records sorted c.in_ok-kept.ensures.records
 
 pub returns-in-None-clause-answer : goal.returns-in-None-clause-answer
 returns-in-None-clause-answer g c told =
-    let sorted : AreSorted c.in_ok-kept.field-0.kept.items c.drop_repeats.new.records.items = record {
-      sorted = c.sort_by_rid.new.records.items;
+    let sorted : AreSorted c.in_ok-kept.field-0.kept.records c.drop_repeats.new.self.records = record {
+      sorted = c.sort_by_rid.new.self.records;
       permutation = c.in_ok-sort_by_rid.ensures.permutation;
       rising = c.in_ok-sort_by_rid.ensures.sorted;
       stable = c.in_ok-sort_by_rid.ensures.stable;
-      got_is = c.drop_repeats.ensures;
+      got_is = c.drop_repeats.ensures.records;
     } in
-    let found : c.in_ok-found.found ≡ rids_of c.drop_repeats.new.records.items = c.in_ok-found.ensures ∙ ap (λ (l : List Record). rids_of l) c.deref.ensures.value in
-    let missing : c.in_ok-missing.missing ≡ left_out c.in_ok-wanted.wanted (rids_of c.drop_repeats.new.records.items) = c.in_ok-missing.ensures.members ∙ ap (left_out c.in_ok-wanted.wanted) found in
+    let found : c.in_ok-found.found ≡ rids_of c.drop_repeats.new.self.records = c.in_ok-found.ensures in
+    let missing : c.in_ok-missing.missing ≡ left_out c.in_ok-wanted.wanted (rids_of c.drop_repeats.new.self.records) = c.in_ok-missing.ensures.members ∙ ap (left_out c.in_ok-wanted.wanted) found in
     let none = subst (λ (o : Option ℕ). MatchOption o ((rid : ℕ) → is_asked c.args.members.now rid ≡ true → has c.in_ok-missing.missing rid ≡ false) (SharesAt c.args.members.now c.in_ok-missing.missing)) c.in-None.is c.place_lacking.ensures.found in
-    subst (AreRows c.args.schema.now (page_bytes (g.H.Host.state c.args.host.now)) c.args.segments.now c.args.members.now) (sym c.new.ensures)
-    (rows_are c.args.schema.now (page_bytes (g.H.Host.state c.args.host.now)) c.args.segments.now c.args.members.now c.in_ok-wanted.wanted c.in_ok-kept.field-0.kept.items c.drop_repeats.new.records.items c.in_ok-missing.missing
-    c.in_ok-wanted.ensures (c.in_ok-kept.ensures.answer told) sorted missing none)
+    rows_are c.args.schema.now (page_bytes (g.H.Host.state c.args.host.now)) c.args.segments.now c.args.members.now c.in_ok-wanted.wanted c.in_ok-kept.field-0.kept.records c.drop_repeats.new.self.records c.in_ok-missing.missing
+    c.in_ok-wanted.ensures (c.in_ok-kept.ensures.answer told) sorted missing none
 
 pub returns-clause-answer : goal.returns-clause-answer
 returns-clause-answer g c told =
-    let sorted : AreSorted c.in_ok-kept.field-0.kept.items c.drop_repeats.new.records.items = record {
-      sorted = c.sort_by_rid.new.records.items;
+    let sorted : AreSorted c.in_ok-kept.field-0.kept.records c.drop_repeats.new.self.records = record {
+      sorted = c.sort_by_rid.new.self.records;
       permutation = c.in_ok-sort_by_rid.ensures.permutation;
       rising = c.in_ok-sort_by_rid.ensures.sorted;
       stable = c.in_ok-sort_by_rid.ensures.stable;
-      got_is = c.drop_repeats.ensures;
+      got_is = c.drop_repeats.ensures.records;
     } in
-    let found : c.in_ok-found.found ≡ rids_of c.drop_repeats.new.records.items = c.in_ok-found.ensures ∙ ap (λ (l : List Record). rids_of l) c.deref.ensures.value in
-    let missing : c.in_ok-missing.missing ≡ left_out c.in_ok-wanted.wanted (rids_of c.drop_repeats.new.records.items) = c.in_ok-missing.ensures.members ∙ ap (left_out c.in_ok-wanted.wanted) found in
+    let found : c.in_ok-found.found ≡ rids_of c.drop_repeats.new.self.records = c.in_ok-found.ensures in
+    let missing : c.in_ok-missing.missing ≡ left_out c.in_ok-wanted.wanted (rids_of c.drop_repeats.new.self.records) = c.in_ok-missing.ensures.members ∙ ap (left_out c.in_ok-wanted.wanted) found in
     let shares = subst (λ (o : Option ℕ). MatchOption o ((rid : ℕ) → is_asked c.args.members.now rid ≡ true → has c.in_ok-missing.missing rid ≡ false) (SharesAt c.args.members.now c.in_ok-missing.missing)) c.in-Some.is c.place_lacking.ensures.found in
-    rows_lack c.args.schema.now (page_bytes (g.H.Host.state c.args.host.now)) c.args.segments.now c.args.lists.now c.args.members.now c.in_ok-wanted.wanted c.in_ok-kept.field-0.kept.items c.drop_repeats.new.records.items
+    rows_lack c.args.schema.now (page_bytes (g.H.Host.state c.args.host.now)) c.args.segments.now c.args.lists.now c.args.members.now c.in_ok-wanted.wanted c.in_ok-kept.field-0.kept.records c.drop_repeats.new.self.records
     c.in_ok-missing.missing c.in-Some.place (record { page = 0; bytes = 0 }) c.in_ok-wanted.ensures (c.in_ok-kept.ensures.answer told) sorted missing shares c.requires

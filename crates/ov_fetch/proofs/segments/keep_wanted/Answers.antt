@@ -1,32 +1,29 @@
-use Rattle.std.proofs.Common.{◌≡◌, ◌<◌, ◌^◌, true, Option, subst, ◌∙◌, sym, rules}
+use Rattle.std.proofs.Common.{◌≡◌, ◌<◌, ◌^◌, true, Option, subst, ◌∙◌, ap, sym, rules}
 use Rattle.ov_segment.specs.declared.numbered.Record.{Record}
+use Rattle.ov_segment.specs.Keeping.{put}
 use Rattle.ov_segment.specs.Segments.{Ascend}
 use Rattle.ov_segment.proofs.WrittenLemmas.{records_ascend}
 use Rattle.ov_fetch.specs.Extents.{page_bytes}
 use Rattle.ov_fetch.specs.Cursors.{Gives, Follows, Finds}
-use Rattle.ov_fetch.proofs.Running.{keeping_begins, keeps_one, keeps_none}
+use Rattle.ov_fetch.proofs.Running.{keeping_begins, keeps_next}
 use Rattle.ov_fetch.proofs.segments.keep_wanted.Goals as goal
 
 pub loop-rids-init : goal.loop-rids-init
 loop-rids-init g c =
     let sized : c.args.segment.bytes < 2 ^ 32 = search rules in
     record {
-      keeps = keeping_begins c.args.schema.now (g.H.Host.state c.args.host.now) c.args.segment c.in_ok-cursor.cursor c.args.wanted.now c.args.kept.now.items _ c.in_ok-cursor.ensures sized (search rules);
-      room = c.requires;
+      keeps = keeping_begins c.args.schema.now (g.H.Host.state c.args.host.now) c.args.segment c.in_ok-cursor.cursor c.args.wanted.now c.args.kept.now _ c.in_ok-cursor.ensures sized (search rules);
+      room = c.requires.room;
     }
 
-pub loop-rids-preserved-in_ok-push-2 : goal.loop-rids-preserved-in_ok-push-2
-loop-rids-preserved-in_ok-push-2 g c =
+pub put-requires-clause-columns : goal.put-requires-clause-columns
+put-requires-clause-columns g c = c.loop-rids.invariant.keeps.columns_are ∙ c.requires.columns
+
+pub put-requires-clause-row : goal.put-requires-clause-row
+put-requires-clause-row g c =
     let follows : Follows c.args.schema.now c.loop-rids.cursor c.in-Some.record c.next.new.self =
     subst (λ (f : Option Record). Gives c.args.schema.now c.loop-rids.cursor f c.next.new.self) c.in-Some.is c.in_ok-record.ensures.record_is in
-    let finds = λ (told : (g.H.Host.state c.loop-rids.host).tells ≡ true).
-    subst (λ (f : Option Record). Finds c.args.schema.now (page_bytes (g.H.Host.state c.loop-rids.host)) c.loop-rids.cursor f c.next.new.self) c.in-Some.is (c.in_ok-record.ensures.answer told) in
-    record {
-      keeps = keeps_one c.args.schema.now (g.H.Host.state c.args.host.now) (g.H.Host.state c.loop-rids.host) (g.H.Host.state c.next.new.host) c.args.segment c.loop-rids.cursor c.next.new.self c.args.wanted.now
-          c.args.kept.now.items c.loop-rids.kept.items c.push-then-contains.new.self.items c.loop-rids.rids.items c.push.new.self.items c.in-Some.record c.loop-rids.invariant.keeps c.in_ok-record.ensures.looked c.in_ok-record.ensures.fetched c.in_ok-record.ensures.place follows finds
-          (sym c.contains.ensures ∙ c.if-contains.true) c.in_ok-push-2.ensures.items c.in_ok-push.ensures.items;
-      room = search rules;
-    }
+    follows.next.row
 
 pub loop-rids-preserved : goal.loop-rids-preserved
 loop-rids-preserved g c =
@@ -35,9 +32,9 @@ loop-rids-preserved g c =
     let finds = λ (told : (g.H.Host.state c.loop-rids.host).tells ≡ true).
     subst (λ (f : Option Record). Finds c.args.schema.now (page_bytes (g.H.Host.state c.loop-rids.host)) c.loop-rids.cursor f c.next.new.self) c.in-Some.is (c.in_ok-record.ensures.answer told) in
     record {
-      keeps = keeps_none c.args.schema.now (g.H.Host.state c.args.host.now) (g.H.Host.state c.loop-rids.host) (g.H.Host.state c.next.new.host) c.args.segment c.loop-rids.cursor c.next.new.self c.args.wanted.now
-          c.args.kept.now.items c.loop-rids.kept.items c.loop-rids.rids.items c.push.new.self.items c.in-Some.record c.loop-rids.invariant.keeps c.in_ok-record.ensures.looked c.in_ok-record.ensures.fetched c.in_ok-record.ensures.place follows finds
-          (sym c.contains.ensures ∙ c.if-contains.false) c.in_ok-push.ensures.items;
+      keeps = keeps_next c.args.schema.now (g.H.Host.state c.args.host.now) (g.H.Host.state c.loop-rids.host) (g.H.Host.state c.next.new.host) c.args.segment c.loop-rids.cursor c.next.new.self c.args.wanted.now
+          c.args.kept.now c.loop-rids.kept c.put.new.kept c.loop-rids.rids.items c.push.new.self.items c.in-Some.record c.loop-rids.invariant.keeps c.in_ok-record.ensures.looked c.in_ok-record.ensures.fetched c.in_ok-record.ensures.place follows finds
+          (c.in_ok-put.ensures.ok ∙ ap (λ b. put b c.loop-rids.kept c.in-Some.record) c.contains.ensures) c.in_ok-push.ensures.items;
       room = search rules;
     }
 

@@ -5,7 +5,7 @@ use Rattle.ov_fetch.proofs.segments.keep_wanted.Given as goal
 
 abbrev pub invariant-loop-rids : goal.invariant-loop-rids
 invariant-loop-rids g l = record {
-  keeps : KeepsWanted l.schema (g.H.Host.state l.fn.host) (g.H.Host.state l.host) l.fn.segment l.cursor l.wanted l.fn.kept.items l.kept.items l.rids.items;
+  keeps : KeepsWanted l.schema (g.H.Host.state l.fn.host) (g.H.Host.state l.host) l.fn.segment l.cursor l.wanted l.fn.kept l.kept l.rids.items;
   room : length l.piece ≡ 61440;
 }
 
