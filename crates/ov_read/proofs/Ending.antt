@@ -72,32 +72,32 @@ pub have_rows : (s : State) (n : Numbers) (vids : List ℕ) (lists : List (List 
 have_rows s n vids lists found h placed agree =
     zip_from (HasRows n) vids found.picks.items 0 [] h.count (λ k low.
     let one = h.each k low (placed k 0 low) in
-    row_count n.schema found.records.items (get_or lists k []) (get_or found.picks.items k []) one.found one.picked
+    row_count n.schema found.records.records (get_or lists k []) (get_or found.picks.items k []) one.found one.picked
     ∙ (zip_at (Agrees n) vids lists k 0 [] agree low).count_is)
 
-pub are_sound : (s : State) (n : Numbers) (vids : List ℕ) (lists : List (List ℕ)) (found : Gathered) (scan : Scan) → scan.vids ≡ vids → scan.records ≡ found.records.items → scan.picks ≡ found.picks.items
+pub are_sound : (s : State) (n : Numbers) (vids : List ℕ) (lists : List (List ℕ)) (found : Gathered) (scan : Scan) → scan.vids ≡ vids → scan.records ≡ found.records.records → scan.picks ≡ found.picks.items
     → AreGathered s n vids lists found → All (λ vid. is_served n vid ≡ true) vids → IsSound n.schema scan
 are_sound s n vids lists found scan vids_are records_are picks_are h placed = record {
   paired = ap length vids_are ∙ (sym h.count ∙ sym (ap length picks_are));
   fit = subst (λ rs. AllFit n.schema rs) (sym records_are) h.fit;
   stand = subst (λ ps. All (AllStand scan.records) ps) (sym picks_are) (subst (λ rs. All (AllStand rs) found.picks.items) (sym records_are)
-      (All-from_get_or (AllStand found.records.items) found.picks.items [] (λ k low. (at k low).stand)));
+      (All-from_get_or (AllStand found.records.records) found.picks.items [] (λ k low. (at k low).stand)));
   ordered = subst (λ ps. All (λ pick. InKeyOrder n.schema (rows_at scan.records pick)) ps) (sym picks_are)
       (subst (λ rs. All (λ pick. InKeyOrder n.schema (rows_at rs pick)) found.picks.items) (sym records_are)
-      (All-from_get_or (λ pick. InKeyOrder n.schema (rows_at found.records.items pick)) found.picks.items [] (λ k low. subst (InKeyOrder n.schema) (sym (at k low).rows) (rows k low).picked.ordered)));
+      (All-from_get_or (λ pick. InKeyOrder n.schema (rows_at found.records.records pick)) found.picks.items [] (λ k low. subst (InKeyOrder n.schema) (sym (at k low).rows) (rows k low).picked.ordered)));
 }
   where
-    rows : (k : ℕ) → k < length found.picks.items → IsRowsOf n.schema s (segments_of n (get_or vids k 0)) found.records.items (get_or lists k []) (get_or found.picks.items k [])
+    rows : (k : ℕ) → k < length found.picks.items → IsRowsOf n.schema s (segments_of n (get_or vids k 0)) found.records.records (get_or lists k []) (get_or found.picks.items k [])
     rows k low = let below : k < length vids = omega (arith, low, h.count) in h.each k below (placed k 0 below)
 
-    at : (k : ℕ) (low : k < length found.picks.items) → Stands found.records.items (get_or found.picks.items k []) (rows k low).found
-    at k low = stands found.records.items (get_or found.picks.items k []) (rows k low).found (rows k low).picked.at
+    at : (k : ℕ) (low : k < length found.picks.items) → Stands found.records.records (get_or found.picks.items k []) (rows k low).found
+    at k low = stands found.records.records (get_or found.picks.items k []) (rows k low).found (rows k low).picked.at
 
 pub are_scanned : (s0 s1 : State) (n : Numbers) (vids : List ℕ) (lists : List (List ℕ)) (found : Gathered) → Looked s0 s1 → s0.tells ≡ true → AreGathered s1 n vids lists found → All (λ vid. is_served n vid ≡ true) vids
-    → AllZip (λ vid. IsList (page_bytes s0) (list_of n vid)) vids lists → AllZip (Agrees n) vids lists → AllZip (IsScanned (page_bytes s0) n found.records.items) vids found.picks.items
+    → AllZip (λ vid. IsList (page_bytes s0) (list_of n vid)) vids lists → AllZip (Agrees n) vids lists → AllZip (IsScanned (page_bytes s0) n found.records.records) vids found.picks.items
 are_scanned s0 s1 n vids lists found looked told h placed lists_are agree =
-    zip_from (IsScanned (page_bytes s0) n found.records.items) vids found.picks.items 0 [] h.count (λ k low.
-    let one = rows_now n.schema s0 s1 (segments_of n (get_or vids k 0)) (segments_of n (get_or vids k 0)) found.records.items (get_or lists k []) (get_or found.picks.items k []) looked refl (h.each k low (placed k 0 low)) in
+    zip_from (IsScanned (page_bytes s0) n found.records.records) vids found.picks.items 0 [] h.count (λ k low.
+    let one = rows_now n.schema s0 s1 (segments_of n (get_or vids k 0)) (segments_of n (get_or vids k 0)) found.records.records (get_or lists k []) (get_or found.picks.items k []) looked refl (h.each k low (placed k 0 low)) in
     record {
       rids = get_or lists k [];
       list = zip_at (λ vid. IsList (page_bytes s0) (list_of n vid)) vids lists k 0 [] lists_are low;

@@ -88,10 +88,10 @@ zip_at R (x ∷ xs) (y ∷ ys) (suc k) d e all low = zip_at R xs ys k d e all.1 
 
 pub group_added : (schema : Shape) (s : State) (part : Part) (vids : List ℕ) (lists : List (List ℕ)) (group : List ℕ) (old new : Gathered) (more : List Record) (picks : List (List ℕ)) → length lists ≡ length vids
     → length old.picks.items ≡ length vids → IsGroup vids part.versions group → AllFit schema more → AllZip (IsRowsOf schema s part.segments more) (sets_at lists group) picks
-    → ArePut (length group) (length old.records.items) group picks old.picks.items new.picks.items → new.records.items ≡ old.records.items ++ more → IsAdded schema s part vids lists old new
+    → ArePut (length group) (length old.records.records) group picks old.picks.items new.picks.items → new.records.records ≡ old.records.records ++ more → IsAdded schema s part vids lists old new
 group_added schema s part vids lists group old new more picks paired counted is fit rows put records = record {
   count = put.count;
-  fit = λ before. subst (AllFit schema) (sym records) (fit_more schema old.records.items more fit before);
+  fit = λ before. subst (AllFit schema) (sym records) (fit_more schema old.records.records more fit before);
   served = λ place low member. subst (λ rs. IsRowsOf schema s part.segments rs (get_or lists place []) (get_or new.picks.items place [])) (sym records) (here place low member (put.each place (omega (arith, low, counted))));
   others = λ place low other rids found picked. subst (λ rs. IsPicked schema rs rids (get_or new.picks.items place []) found) (sym records)
       (there place low other rids found picked (put.each place (omega (arith, low, counted))));
@@ -105,22 +105,22 @@ group_added schema s part vids lists group old new more picks paired counted is 
         (zip_at (IsRowsOf schema s part.segments more) (sets_at lists group) picks k [] [] rows (rw (length-map group (λ (p : ℕ). get_or lists p [])) low))
 
     here : (place : ℕ) → place < length vids → has part.versions (get_or vids place 0) ≡ true
-        → IsNew (length group) (length old.records.items) group picks new.picks.items place ⊎ IsKept (length group) group old.picks.items new.picks.items place
-        → IsRowsOf schema s part.segments (old.records.items ++ more) (get_or lists place []) (get_or new.picks.items place [])
+        → IsNew (length group) (length old.records.records) group picks new.picks.items place ⊎ IsKept (length group) group old.picks.items new.picks.items place
+        → IsRowsOf schema s part.segments (old.records.records ++ more) (get_or lists place []) (get_or new.picks.items place [])
     here place low member (inl h) =
-        subst (IsRowsOf schema s part.segments (old.records.items ++ more) (get_or lists place [])) (sym h.is)
-        (rows_behind schema s part.segments old.records.items more (get_or lists place []) (get_or picks h.k []) (one place h.k h.there h.at))
+        subst (IsRowsOf schema s part.segments (old.records.records ++ more) (get_or lists place [])) (sym h.is)
+        (rows_behind schema s part.segments old.records.records more (get_or lists place []) (get_or picks h.k []) (one place h.k h.there h.at))
     here place low member (inr h) = let f = has-find group place (is.all place low member) in absurd (h.other f.at f.within (f.here 0))
 
     there : (place : ℕ) → place < length vids → has part.versions (get_or vids place 0) ≡ false → (rids : List ℕ) (found : List Record)
-        → IsPicked schema old.records.items rids (get_or old.picks.items place []) found
-        → IsNew (length group) (length old.records.items) group picks new.picks.items place ⊎ IsKept (length group) group old.picks.items new.picks.items place
-        → IsPicked schema (old.records.items ++ more) rids (get_or new.picks.items place []) found
+        → IsPicked schema old.records.records rids (get_or old.picks.items place []) found
+        → IsNew (length group) (length old.records.records) group picks new.picks.items place ⊎ IsKept (length group) group old.picks.items new.picks.items place
+        → IsPicked schema (old.records.records ++ more) rids (get_or new.picks.items place []) found
     there place low other rids found picked (inl h) =
         let one = All-get_or (λ p. (p < length vids) × (has part.versions (get_or vids p 0) ≡ true)) group h.k 0 h.there is.only in
         absurd (not_both (has part.versions (get_or vids place 0)) (ap (λ p. has part.versions (get_or vids p 0)) (sym h.at) ∙ one.1) other)
     there place low other rids found picked (inr h) =
-        subst (λ pick. IsPicked schema (old.records.items ++ more) rids pick found) (sym h.is) (picked_before schema old.records.items more rids (get_or old.picks.items place []) found picked)
+        subst (λ pick. IsPicked schema (old.records.records ++ more) rids pick found) (sym h.is) (picked_before schema old.records.records more rids (get_or old.picks.items place []) found picked)
 
 -- ---- what a group's calls ask
 

@@ -43,11 +43,11 @@ pub record HasParts (before now : State) (d : Cvd) (vids : List ℕ) (lists : Li
   pub looked : Looked before now
   pub fetched : now.fetched ≤ before.fetched + 4096 * sum_by (part_pages vids) parts
   pub count : length found.picks.items ≡ length vids
-  pub fit : AllFit d.schema found.records.items
+  pub fit : AllFit d.schema found.records.records
   pub each : (place : ℕ) → place < length vids → is_placed parts (get_or vids place 0) ≡ true
-      → IsRowsOf d.schema before (segments_of (set_in d) (get_or vids place 0)) found.records.items (get_or lists place []) (get_or found.picks.items place [])
+      → IsRowsOf d.schema before (segments_of (set_in d) (get_or vids place 0)) found.records.records (get_or lists place []) (get_or found.picks.items place [])
 
-pub starts : (at : State) (d : Cvd) (vids : List ℕ) (lists : List (List ℕ)) (found : Gathered) → found.records.items ≡ [] → length found.picks.items ≡ length vids → HasParts at at d vids lists [] found
+pub starts : (at : State) (d : Cvd) (vids : List ℕ) (lists : List (List ℕ)) (found : Gathered) → found.records.records ≡ [] → length found.picks.items ≡ length vids → HasParts at at d vids lists [] found
 starts at d vids lists found none count = record {
   looked = looked_at_all at;
   fetched = omega arith;
@@ -142,12 +142,12 @@ goes_on s0 s1 s2 d vids lists parts k part group old new low is once grouped h l
 
     by : (place : ℕ) → place < length vids → (b : Bool) → has part.versions (get_or vids place 0) ≡ b
         → (is_placed parts (get_or vids place 0) || (has part.versions (get_or vids place 0) || false)) ≡ true
-        → IsRowsOf d.schema s0 (segments_of (set_in d) (get_or vids place 0)) new.records.items (get_or lists place []) (get_or new.picks.items place [])
+        → IsRowsOf d.schema s0 (segments_of (set_in d) (get_or vids place 0)) new.records.records (get_or lists place []) (get_or new.picks.items place [])
     by place below true member served =
-        rows_now d.schema s0 s1 part.segments (segments_of (set_in d) (get_or vids place 0)) new.records.items (get_or lists place []) (get_or new.picks.items place []) h.looked
+        rows_now d.schema s0 s1 part.segments (segments_of (set_in d) (get_or vids place 0)) new.records.records (get_or lists place []) (get_or new.picks.items place []) h.looked
         (own_segments d (get_or vids place 0) k part low is member (once (get_or vids place 0))) (added.served place below member)
     by place below false other served =
-        rows_kept d.schema s0 (segments_of (set_in d) (get_or vids place 0)) old.records.items new.records.items (get_or lists place []) (get_or old.picks.items place []) (get_or new.picks.items place [])
+        rows_kept d.schema s0 (segments_of (set_in d) (get_or vids place 0)) old.records.records new.records.records (get_or lists place []) (get_or old.picks.items place []) (get_or new.picks.items place [])
         (λ found picked. added.others place below other (get_or lists place []) found picked)
         (h.each place below (or_no (is_placed parts (get_or vids place 0)) (sym (ap (λ b. is_placed parts (get_or vids place 0) || (b || false)) other) ∙ served)))
 

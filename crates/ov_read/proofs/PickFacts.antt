@@ -60,7 +60,7 @@ abbrev first_line : (lines : List Line) (n : ℕ) → n < length lines → Line
 first_line [] n low = absurd (omega (arith, low))
 first_line (x ∷ lines) n low = x
 
-row_there : (records : List Record) (lines : List Line) (i : ℕ) (d : Line) (e : List Value) → All (IsLine records) lines → i < length lines → get_or (rows_at records (places lines)) i e ≡ (get_or lines i d).row.now
+row_there : (records : List Record) (lines : List Line) (i : ℕ) (d : Line) (e : List Value) → All (IsLine records) lines → i < length lines → get_or (rows_at records (places lines)) i e ≡ (get_or lines i d).row
 row_there records lines i d e are low =
     get_or-map (row_at records) (places lines) i 0 e (rw (length-map lines (λ (l : Line). l.place)) low)
     ∙ ap (row_at records) (get_or-map (λ (l : Line). l.place) lines i d 0 low)

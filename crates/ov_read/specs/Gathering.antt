@@ -63,12 +63,12 @@ pub record ArePut (n base : ℕ) (group : List ℕ) (more old new : List (List �
 
 pub record IsAdded (schema : Shape) (s : State) (part : Part) (vids : List ℕ) (lists : List (List ℕ)) (old new : Gathered) : Type 0 where
   pub count : length new.picks.items ≡ length old.picks.items
-  pub fit : AllFit schema old.records.items → AllFit schema new.records.items
+  pub fit : AllFit schema old.records.records → AllFit schema new.records.records
   pub served : (place : ℕ) → place < length vids → has part.versions (slice_index_or vids place 0) ≡ true
-      → IsRowsOf schema s part.segments new.records.items (slice_index_or lists place []) (slice_index_or new.picks.items place [])
+      → IsRowsOf schema s part.segments new.records.records (slice_index_or lists place []) (slice_index_or new.picks.items place [])
   pub others : (place : ℕ) → place < length vids → has part.versions (slice_index_or vids place 0) ≡ false → (rids : List ℕ) (found : List Record)
-      → IsPicked schema old.records.items rids (slice_index_or old.picks.items place []) found
-      → IsPicked schema new.records.items rids (slice_index_or new.picks.items place []) found
+      → IsPicked schema old.records.records rids (slice_index_or old.picks.items place []) found
+      → IsPicked schema new.records.records rids (slice_index_or new.picks.items place []) found
 
 -- of a partition that serves none of the versions nothing is read
 abbrev pub bytes_if : List ℕ → List Extent → ℕ

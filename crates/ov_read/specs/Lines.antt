@@ -11,10 +11,10 @@ use Rattle.ov_read.specs.declared.lines.Line.{Line}
 
 pub record IsLine (records : List Record) (line : Line) : Type 0 where
   pub there : line.place < length records
-  pub row_is : line.row.now ≡ row_at records line.place
+  pub row_is : line.row ≡ row_at records line.place
 
 abbrev pub places : List Line → List ℕ
 places lines = map (λ line. line.place) lines
 
 abbrev pub line_cmp : Shape → Line → Line → Ordering
-line_cmp schema a b = key_cmp schema a.row.now b.row.now
+line_cmp schema a b = key_cmp schema a.row b.row

@@ -8,6 +8,7 @@ ghost use Rattle.ov_model.specs.Placed.{times};
 ghost use Rattle.ov_fetch.specs.Extents.{Looked, page_bytes, IsList};
 ghost use Rattle.ov_fetch.specs.Rows.{HaveRids, RefusesRows};
 ghost use Rattle.ov_fetch.specs.Scans.{AllFit};
+ghost use Rattle.ov_segment.specs.Tables.{joined};
 ghost use Rattle.ov_read.specs.Agreement.{IsThere, list_of};
 ghost use Rattle.ov_read.specs.Damages.{RefusesScan};
 ghost use Rattle.ov_read.specs.Gathering.{IsAdded, IsGroup, bytes_if, numbers_at, sets_at};
@@ -23,13 +24,14 @@ use ov_fetch::{FetchErr, Pick};
 use ov_host::Host;
 use ov_layout::Part;
 use ov_member::Members;
-use ov_segment::Record;
+use ov_segment::Table;
+use ov_value::Schema;
 use std::alloc::{AllocError, Global};
 
 /// Records, and for each version that was asked for the positions of its rows among them, where they were found already.
 #[derive(Drop)]
 pub(crate) struct Gathered {
-    pub records: Vec<Record>,
+    pub records: Table,
     pub picks: Vec<Pick>,
 }
 
@@ -63,7 +65,7 @@ pub(crate) fn gather<H: Host>(
     ensures err { (H.state host.old).tells ≡ true → IfErr result (λ e. RefusesScan e (page_bytes (H.state host.old)) (set_in d.now) vids.now) }
 {
     let places = places_of(alloc, vids, d.versions.len())?;
-    let mut found = nothing(alloc, vids.len())?;
+    let mut found = nothing(alloc, &d.schema, vids.len())?;
     let parts = d.layout.parts();
     let mut held = Vec::with_capacity(alloc, parts.len())?;
     for part in parts {
@@ -75,18 +77,17 @@ pub(crate) fn gather<H: Host>(
 }
 
 // No record, and no position for so many versions.
-fn nothing(alloc: Global, count: usize) -> Result<Gathered, AllocError>
-    ensures records { IfOk result (λ found. found.records.items ≡ []) }
+fn nothing(alloc: Global, schema: &Schema, count: usize) -> Result<Gathered, AllocError>
+    ensures columns { IfOk result (λ found. found.records.columns ≡ schema.now.columns) }
+    ensures records { IfOk result (λ found. found.records.records ≡ []) }
     ensures picks { IfOk result (λ found. length found.picks.items ≡ count) }
 {
     let mut picks = Vec::with_capacity(alloc, count)?;
     while picks.len() < count {
         picks.push(Pick::new(Vec::new(alloc)))?;
     }
-    Ok(Gathered {
-        records: Vec::new(alloc),
-        picks,
-    })
+    let records = Table::new(alloc, schema)?;
+    Ok(Gathered { records, picks })
 }
 
 // Adds the rows of the versions at these places, which are those that the partition serves, and gives the rids of each of its
@@ -105,11 +106,13 @@ fn add_group<H: Host>(
     requires paired { length lists.now ≡ length vids.now }
     requires picks { length found.old.picks.items ≡ length vids.now }
     requires group { IsGroup vids.now part.now.versions group.now }
+    requires columns { found.old.records.columns ≡ d.now.schema.columns }
     ensures looked { Looked (H.state host.old) (H.state host.new) }
     ensures cause { IsErrOf result FetchErr.Host → Rose (H.state host.old).faults (H.state host.new).faults }
     ensures fetched { (H.state host.new).fetched ≤ (H.state host.old).fetched + bytes_if group.now part.now.segments }
     ensures still { group.now ≡ [] → H.state host.new ≡ H.state host.old }
     ensures idle { group.now ≡ [] → IfErr result (λ e. e ≡ FetchErr.Memory) }
+    ensures columns { OnOk result (found.new.records.columns ≡ found.old.records.columns) }
     ensures added { OnOk result (IsAdded d.now.schema (H.state host.old) part.now vids.now lists.now found.old found.new) }
     ensures rids { (H.state host.old).tells ≡ true → 0 < length group.now
         → IfOk result (λ rids. HaveRids d.now.schema (page_bytes (H.state host.old)) part.now.segments rids.items) }
@@ -124,12 +127,26 @@ fn add_group<H: Host>(
     let extents = extents_of(alloc, d, &served)?;
     let members = copies_at(alloc, lists, group)?;
     let segments = part.segments.as_slice();
-    let PartRead { scan, rids } = scan_part(
-        alloc, host, &d.schema, segments, served, &extents, &members,
-    )?;
+    let PartRead {
+        records,
+        picks,
+        rids,
+    } = scan_part(alloc, host, &d.schema, segments, &extents, &members)?;
     let base = found.records.len();
-    put(alloc, &mut found.picks, group, scan.picks.as_slice(), base)?;
-    let mut records = scan.records.into_vec();
-    found.records.append(&mut records)?;
+    put(alloc, &mut found.picks, group, &picks, base)?;
+    join(&mut found.records, records)?;
     Ok(rids)
+}
+
+// Puts these records behind those that are there. Where there are none yet, no row is copied.
+fn join(records: &mut Table, more: Table) -> Result<(), AllocError>
+    requires { records.old.columns ≡ more.columns }
+    ensures { OnOk result (records.new ≡ joined records.old more) }
+{
+    if records.len() == 0 {
+        *records = more;
+        Ok(())
+    } else {
+        records.append(&more)
+    }
 }

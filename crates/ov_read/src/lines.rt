@@ -7,33 +7,31 @@ ghost use Rattle.ov_read.specs.Lines.{IsLine, places, line_cmp};
 ghost use Rattle.ov_read.specs.Picking.{places_of};
 
 use ov_member::Members;
-use ov_segment::Record;
-use ov_value::{Row, Schema};
+use ov_segment::{RowRef, Table};
+use ov_value::Schema;
 use std::alloc::{AllocError, Global};
 
 /// A row, and its position among the records.
-#[derive(Clone, Copy)]
+#[derive(Drop)]
 pub(crate) struct Line<'a> {
-    pub row: &'a Row,
+    pub row: RowRef<'a>,
     pub place: usize,
 }
 
 /// The records that have one of these rids.
 pub(crate) fn lines_of<'a>(
     alloc: Global,
-    records: &'a [Record],
+    records: &'a Table,
     rids: &Members,
 ) -> Result<Vec<Line<'a>>, AllocError>
-    ensures rows { IfOk result (λ lines. All (IsLine records.now) lines.items) }
-    ensures places { IfOk result (λ lines. places lines.items ≡ places_of records.now rids.now) }
+    ensures rows { IfOk result (λ lines. All (IsLine records.now.records) lines.items) }
+    ensures places { IfOk result (λ lines. places lines.items ≡ places_of records.now.records rids.now) }
 {
     let mut lines = Vec::new(alloc);
-    for (place, record) in records.iter().enumerate() {
-        if rids.contains(record.rid) {
-            lines.push(Line {
-                row: &record.row,
-                place,
-            })?;
+    for place in 0..records.len() {
+        if rids.contains(records.rid(place)) {
+            let row = records.row(place);
+            lines.push(Line { row, place })?;
         }
     }
     Ok(lines)
@@ -44,7 +42,7 @@ pub(crate) fn sort_lines(schema: &Schema, lines: &mut Vec<Line<'_>>) -> Result<(
     ensures permutation { IsPermutation lines.old.items lines.new.items }
     ensures sorted { OnOk result (IsSorted (line_cmp schema.now) lines.new.items) }
 {
-    lines.sort_by(|a, b| schema.cmp_key(a.row, b.row))?;
+    lines.sort_by(|a, b| a.row.cmp_key(schema, &b.row))?;
     Ok(())
 }
 

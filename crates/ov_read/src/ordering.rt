@@ -7,7 +7,7 @@ ghost use Rattle.ov_read.specs.Picking.{IsPick};
 use crate::lines::{lines_of, places_in, sort_lines};
 use ov_fetch::Pick;
 use ov_member::Members;
-use ov_segment::Record;
+use ov_segment::Table;
 use ov_value::Schema;
 use std::alloc::{AllocError, Global};
 
@@ -15,11 +15,11 @@ use std::alloc::{AllocError, Global};
 pub(crate) fn pick_of(
     alloc: Global,
     schema: &Schema,
-    records: &[Record],
+    records: &Table,
     rids: &Members,
 ) -> Result<Pick, AllocError>
-    ensures pick { IfOk result (IsPick schema.now records.now rids.now) }
-    ensures stand { IfOk result (AllStand records.now) }
+    ensures pick { IfOk result (IsPick schema.now records.now.records rids.now) }
+    ensures stand { IfOk result (AllStand records.now.records) }
 {
     let mut lines = lines_of(alloc, records, rids)?;
     sort_lines(schema, &mut lines)?;

@@ -8,17 +8,20 @@ ghost use Rattle.ov_fetch.specs.Rows.{HaveRids, RefusesRows};
 ghost use Rattle.ov_fetch.specs.Scans.{AllFit, AllStand};
 ghost use Rattle.ov_read.specs.Gathering.{AreFull, ArePut, IsNotFull, IsRowsOf, moved};
 
-use crate::scanning::scan_of;
-use ov_fetch::{FetchErr, Pick, Scan, SegmentsRead, Vids, rows_and_rids_of};
+use crate::scanning::picks_of;
+use ov_fetch::{FetchErr, Pick, SegmentsRead, rows_and_rids_of};
 use ov_host::{Extent, Host};
 use ov_member::Members;
+use ov_segment::Table;
 use ov_value::Schema;
 use std::alloc::{AllocError, Global};
 
-/// The rows of some versions out of the segments of one partition, and the rids of each segment.
+/// The records of some versions out of the segments of one partition, for each version the positions of its rows among
+/// them, and the rids of each segment.
 #[derive(Drop)]
 pub(crate) struct PartRead {
-    pub scan: Scan,
+    pub records: Table,
+    pub picks: Vec<Pick>,
     pub rids: Vec<Members>,
 }
 
@@ -28,18 +31,17 @@ pub(crate) fn scan_part<H: Host>(
     host: &mut H,
     schema: &Schema,
     segments: &[Extent],
-    vids: Vec<u32>,
     lists: &[Extent],
     members: &[Members],
 ) -> Result<PartRead, FetchErr>
-    requires lists { length lists.now ≡ length members.now }
-    requires vids { length vids.items ≡ length members.now }
+    requires { length lists.now ≡ length members.now }
     ensures looked { Looked (H.state host.old) (H.state host.new) }
     ensures cause { IsErrOf result FetchErr.Host → Rose (H.state host.old).faults (H.state host.new).faults }
     ensures fetched { (H.state host.new).fetched ≤ (H.state host.old).fetched + sum_by (λ e. e.bytes) segments.now }
-    ensures fit { IfOk result (λ read. AllFit schema.now read.scan.records) }
-    ensures stand { IfOk result (λ read. All (AllStand read.scan.records) read.scan.picks) }
-    ensures rows { IfOk result (λ read. AllZip (IsRowsOf schema.now (H.state host.old) segments.now read.scan.records) members.now read.scan.picks) }
+    ensures columns { IfOk result (λ read. read.records.columns ≡ schema.now.columns) }
+    ensures fit { IfOk result (λ read. AllFit schema.now read.records.records) }
+    ensures stand { IfOk result (λ read. All (AllStand read.records.records) read.picks.items) }
+    ensures rows { IfOk result (λ read. AllZip (IsRowsOf schema.now (H.state host.old) segments.now read.records.records) members.now read.picks.items) }
     ensures rids { (H.state host.old).tells ≡ true
         → IfOk result (λ read. HaveRids schema.now (page_bytes (H.state host.old)) segments.now read.rids.items) }
     ensures err { (H.state host.old).tells ≡ true
@@ -48,10 +50,14 @@ pub(crate) fn scan_part<H: Host>(
     let SegmentsRead { records, rids } = rows_and_rids_of(
         alloc, host, schema, segments, lists, members,
     )?;
-    let scan = scan_of(alloc, schema, Vids::new(vids), records, members)?;
+    let picks = picks_of(alloc, schema, &records, members)?;
     // Each member has its record, or the reading had refused; so no pick is short.
-    match place_short(scan.picks.as_slice(), members) {
-        None => Ok(PartRead { scan, rids }),
+    match place_short(&picks, members) {
+        None => Ok(PartRead {
+            records,
+            picks,
+            rids,
+        }),
         Some(place) => Err(FetchErr::Damaged {
             page: lists[place].page,
         }),

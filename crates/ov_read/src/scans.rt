@@ -19,7 +19,7 @@ use crate::lists::lists_of;
 use ov_catalog::Cvd;
 use ov_fetch::{FetchErr, Picks, Scan, Vids};
 use ov_host::Host;
-use ov_segment::Records;
+use ov_segment::RecordTable;
 use std::alloc::Global;
 
 /// The rows of these versions, each once among them and in a partition. A version's rows are those that its own partition
@@ -95,7 +95,7 @@ pub fn read_versions<H: Host>(
     let Gathered { records, picks } = found;
     let scan = Scan {
         vids: Vids::new(vids),
-        records: Records::new(records),
+        records: RecordTable::new(records),
         picks: Picks::new(picks),
     };
     Ok(VersionsRead { scan, held })

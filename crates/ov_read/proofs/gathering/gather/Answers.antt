@@ -86,6 +86,7 @@ loop-part-preserved g c =
       rw c.in_ok-push.ensures.items (subst (λ (ps : List Part). HasPassed s0 s2 d vids lists ps c.add_group.new.found held)
           (sym (take_more parts k part c.loop-part-test.true ∙ ap (λ (p : Part). take k parts ++ p ∷ []) (sym c.part-item.is))) at),
       λ none. c.in_ok-rids.ensures.still (none_served vids part.versions c.deref-in-loop-part.result.now group none) ∙ c.loop-part.invariant.1 none,
+      c.in_ok-rids.ensures.columns ∙ c.loop-part.invariant.2,
     )
 
 pub returns-clause-gathered : goal.returns-clause-gathered
@@ -104,6 +105,7 @@ loop-part-init g c =
       none_passed s0 c.args.d.now c.args.vids.now c.args.lists.now c.in_ok-found.found c.in_ok-held.held.items
           (starts s0 c.args.d.now c.args.vids.now c.args.lists.now c.in_ok-found.found c.in_ok-found.ensures.records c.in_ok-found.ensures.picks) c.in_ok-held.ensures.items,
       λ none. refl,
+      c.in_ok-found.ensures.columns,
     )
 
 pub returns-clause-held : goal.returns-clause-held

@@ -5,4 +5,4 @@ use Rattle.ov_read.specs.Picking.{places_of}
 use Rattle.ov_read.proofs.lines.lines_of.Given as goal
 
 abbrev pub invariant-loop-place : goal.invariant-loop-place
-invariant-loop-place l = All (IsLine l.records) l.lines.items × (places l.lines.items ≡ places_of (take l.place l.records) l.rids)
+invariant-loop-place l = All (IsLine l.records.records) l.lines.items × (places l.lines.items ≡ places_of (take l.place l.records.records) l.rids)

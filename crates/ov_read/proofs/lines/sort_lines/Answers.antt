@@ -8,4 +8,4 @@ use Rattle.ov_read.proofs.lines.sort_lines.Goals as goal
 
 pub returns-clause-sorted : goal.returns-clause-sorted
 returns-clause-sorted c =
-    c.in_ok-sort_by.ensures.sorted (λ a b. is_lt (line_cmp c.args.schema.now a b)) (ranks_by (key_cmp_total c.args.schema.now) (λ line. line.row.now)) (always_returns_same _ _ _ (λ a r q k. search rules))
+    c.in_ok-sort_by.ensures.sorted (λ a b. is_lt (line_cmp c.args.schema.now a b)) (ranks_by (key_cmp_total c.args.schema.now) (λ line. line.row)) (always_returns_same _ _ _ (λ a r q k. search rules))

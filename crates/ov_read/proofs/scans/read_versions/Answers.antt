@@ -35,7 +35,7 @@ returns-clause-sound g c =
     let vids : List ℕ = c.args.vids.items in
     let lists : List (List ℕ) = c.deref-3.result.now in
     let h = subst (λ (vs : List ℕ). AreGathered s1 n vs lists found) c.deref-2.ensures.value c.in_ok-found.ensures.gathered in
-    are_sound s1 n vids lists found _ c.new.ensures (c.new-2.ensures ∙ search rules) (c.new-3.ensures ∙ search rules) h c.requires.placed
+    are_sound s1 n vids lists found _ c.new.ensures c.new-2.ensures (c.new-3.ensures ∙ search rules) h c.requires.placed
 
 pub returns-clause-rows : goal.returns-clause-rows
 returns-clause-rows g c =
@@ -62,7 +62,7 @@ returns-clause-answer g c told =
     let h = subst (λ (ls : List (List ℕ)). AreGathered s1 n vids ls found) c.deref-3.ensures.value h0 in
     let all = subst (λ (vs : List ℕ). AllZip (λ vid. IsList (page_bytes s0) (list_of n vid)) vs lists) c.deref.ensures.value (c.in_ok-lists.ensures.answer told) in
     let agree = subst (λ (vs : List ℕ). AllZip (Agrees n) vs lists) c.deref.ensures.value c.in_ok-lists.ensures.agree in
-    let records : c.new-2.result ≡ c.in_ok-found.field-0.found.records.items = c.new-2.ensures ∙ search rules in
+    let records : c.new-2.result ≡ c.in_ok-found.field-0.found.records.records = c.new-2.ensures in
     let picks : c.new-3.result ≡ c.in_ok-found.field-0.found.picks.items = c.new-3.ensures ∙ search rules in
     rw (records, picks) (are_scanned s0 s1 n vids lists found c.in_ok-lists.ensures.looked told h c.requires.placed all agree)
 
