@@ -1,8 +1,8 @@
 -- Records at the positions of a scan.
-use Rattle.std.proofs.Common.{◌≡◌, ◌<◌, ◌+◌, ℕ, zero, suc, Some, List, [], ◌∷◌, ◌++◌, length, map, take, get_or, refl, sym, ◌∙◌, ap, subst, arith}
+use Rattle.std.proofs.Common.{◌≡◌, ◌+◌, ℕ, zero, suc, Some, List, [], ◌∷◌, length, map, get_or, refl, sym, ◌∙◌, ap, subst, arith}
 use Rattle.std.specs.Prelude.{slice_get}
 use Rattle.std.specs.Ordering.{is_lt}
-use Rattle.std.proofs.lemmas.List.{get_or-map, length-map, map-append, take_more}
+use Rattle.std.proofs.lemmas.List.{get_or-map, length-map}
 use Rattle.std.proofs.lemmas.List.Elements.{All-nil, All-cons, All-head, All-tail}
 use Rattle.std.proofs.lemmas.Option.{same_Some}
 use Rattle.ov_value.specs.declared.value.Value.{Value}
@@ -15,14 +15,14 @@ use Rattle.ov_fetch.proofs.Lacking.{get_at}
 use Rattle.ov_records.specs.Records.{InKeyOrder}
 use Rattle.ov_parents.specs.Taking.{StandAt}
 
-pub stands_more : (records : List Record) (pick : List ℕ) (k : ℕ) (found : List Record) (r : Record) (row : List Value) → k < length pick → AllStand records pick → StandAt records (take k pick) found
-    → r ≡ get_or records (get_or pick k 0) r → row ≡ r.row → StandAt records (take (k + 1) pick) (found ++ record { rid = r.rid; row = row } ∷ [])
-stands_more records pick k found r row low stand at is copy =
-    ap (map (slice_get records)) (take_more pick k 0 low)
-    ∙ (map-append (slice_get records) (take k pick) (get_or pick k 0 ∷ [])
-    ∙ (ap (λ l. l ++ slice_get records (get_or pick k 0) ∷ []) at
-    ∙ (ap (λ o. map Some found ++ o ∷ []) (get_at records (get_or pick k 0) r (stand k 0 low) ∙ ap Some (sym is ∙ ap (λ (v : List Value). record { rid = r.rid; row = v }) (sym copy)))
-    ∙ sym (map-append Some found (record { rid = r.rid; row = row } ∷ [])))))
+stand_map : (records : List Record) (pick : List ℕ) (d : Record) → AllStand records pick → map (slice_get records) pick ≡ map Some (map (λ i. get_or records i d) pick)
+stand_map records [] d stand = refl
+stand_map records (p ∷ pick) d stand = λ i. get_at records p d (stand 0 0 (omega arith)) i ∷ stand_map records pick d (λ k e low. stand (suc k) e (omega (arith, low))) i
+
+pub stand_at : (records : List Record) (pick : List ℕ) (found : List Record) → AllStand records pick → ((none : Record) → found ≡ map (λ i. get_or records i none) pick) → StandAt records pick found
+stand_at records pick found stand are =
+    let none : Record = record { rid = 0; row = [] } in
+    stand_map records pick none stand ∙ ap (map Some) (sym (are none))
 
 pub same_found : (found other : List Record) → map Some found ≡ map Some other → found ≡ other
 same_found [] [] e = refl

@@ -1,24 +1,28 @@
 -- One record more that is looked at, beside those that were seen.
-use Rattle.std.proofs.Common.{◌≡◌, ◌<◌, ℕ, ◌+◌, Bool, true, false, ◌==◌, List, [], ◌∷◌, ◌++◌, length, get_or, take, drop, cond, BTreeMap, refl, sym, ◌∙◌, ap, subst, inl, inr, arith, append_assoc}
-use Rattle.std.specs.Prelude.{Some}
+use Rattle.std.proofs.Common.{◌≡◌, ◌<◌, ℕ, zero, suc, ◌+◌, Bool, true, false, ◌==◌, List, [], ◌∷◌, ◌++◌, length, get_or, take, drop, cond, BTreeMap, refl, sym, ◌∙◌, ap, subst, inl, inr, arith, append_assoc}
+use Rattle.std.specs.Prelude.{None, Some}
+use Rattle.std.specs.List.{All}
 use Rattle.std.specs.BTreeMap.{get, Updates}
 use Rattle.std.specs.Cmp.{unsigned_tied}
 use Rattle.std.specs.Option.{option_map}
 use Rattle.std.specs.Ordering.{nat_cmp}
 use Rattle.std.proofs.lemmas.Bool.{eqb-true, eqb-false}
-use Rattle.std.proofs.lemmas.List.{drop_more, map-append, take_more, take-append-drop}
+use Rattle.std.proofs.lemmas.List.{append-nil, drop_more, map-append, take_more, take-append-drop}
+use Rattle.std.proofs.lemmas.List.Elements.{All-head, All-tail}
 use Rattle.std.proofs.lemmas.Option.{same_Some}
+use Rattle.ov_value.specs.Rows.{Fits}
+use Rattle.ov_value.specs.Shapes.{Shape}
 use Rattle.ov_segment.specs.declared.numbered.Record.{Record}
 use Rattle.ov_model.specs.Book.{Row}
-use Rattle.ov_model.specs.Lists.{IsIn}
+use Rattle.ov_model.specs.Lists.{IsIn, joined}
 use Rattle.ov_model.specs.Placed.{times}
 use Rattle.ov_model.specs.Records.{is_same_row}
 use Rattle.ov_model.proofs.Counting.{one_same, times-append}
 use Rattle.ov_model.proofs.Growing.{same_row-refl}
-use Rattle.ov_records.specs.Records.{pairs_of}
+use Rattle.ov_records.specs.Records.{lists_of, pairs_of, RowsFit}
 use Rattle.ov_catalog.proofs.Members.{left_in, right_in, of_append}
-use Rattle.law_commits.specs.Differing.{rids_of, HasNoRidTwice, NoneDiffer, Clash}
-use Rattle.ov_parents.specs.Seeing.{Maps}
+use Rattle.law_commits.specs.Differing.{rids_of, HasNoRidTwice, IsFirstDisagreeing, NoneDiffer, Clash}
+use Rattle.ov_parents.specs.Seeing.{Maps, PairsFit}
 use Rattle.law_commits.proofs.Times.{in_times, pairs_rid}
 
 module _ {V : Type 0} (entry : V → Row) where
@@ -100,3 +104,46 @@ module _ (records : List Record) (k : ℕ) (r : Record) (low : k < length record
         | inl was ↦ record { rid = r.rid; before = old; after = r.row; was = was; is = here_in; differ = differ }
         | inr own ↦ absurd (none_before once old own)
       ]
+
+-- ---- rows that fit
+
+pub records_fit : (schema : Shape) (records : List Record) → RowsFit schema records → PairsFit schema (pairs_of records)
+records_fit schema [] fit rid row is = absurd is
+records_fit schema (r ∷ records) fit rid row (inl same) = subst (Fits schema) (sym (ap (λ (p : ℕ × Row). p.1) same)) (fit 0 r.row (omega arith))
+records_fit schema (r ∷ records) fit rid row (inr later) = records_fit schema records (λ k d lt. fit (suc k) d (omega (arith, lt))) rid row later
+
+both_fit : (schema : Shape) (xs ys : List (ℕ × Row)) → PairsFit schema xs → PairsFit schema ys → PairsFit schema (xs ++ ys)
+both_fit schema xs ys fit more rid row is = elim (of_append xs ys (rid, row) is) [ inl here ↦ fit rid row here | inr later ↦ more rid row later ]
+
+pub first_fit : (schema : Shape) (n : ℕ) (records : List Record) → RowsFit schema records → PairsFit schema (pairs_of (take n records))
+first_fit schema zero records fit rid row is = absurd is
+first_fit schema (suc n) [] fit rid row is = absurd is
+first_fit schema (suc n) (r ∷ records) fit rid row (inl same) = subst (Fits schema) (sym (ap (λ (p : ℕ × Row). p.1) same)) (fit 0 r.row (omega arith))
+first_fit schema (suc n) (r ∷ records) fit rid row (inr later) = first_fit schema n records (λ k d lt. fit (suc k) d (omega (arith, lt))) rid row later
+
+pub seen_fit : (schema : Shape) (before : List (ℕ × Row)) (n : ℕ) (records : List Record) → PairsFit schema before → RowsFit schema records → PairsFit schema (before ++ pairs_of (take n records))
+seen_fit schema before n records fit more = both_fit schema before (pairs_of (take n records)) fit (first_fit schema n records more)
+
+pub joined_fit : (schema : Shape) (n : ℕ) (parents : List (List Record)) → All (RowsFit schema) parents → PairsFit schema (joined (take n (lists_of parents)))
+joined_fit schema zero parents fit rid row is = absurd is
+joined_fit schema (suc n) [] fit rid row is = absurd is
+joined_fit schema (suc n) (p ∷ parents) fit rid row is =
+    both_fit schema (pairs_of p) (joined (take n (lists_of parents))) (records_fit schema p (All-head (RowsFit schema) p parents fit))
+    (joined_fit schema n parents (All-tail (RowsFit schema) p parents fit)) rid row is
+
+-- ---- a parent alone
+
+pub one_alone : (records : List Record) → HasNoRidTwice records → NoneDiffer (pairs_of records)
+one_alone [] once a b in_a in_b same = absurd in_a
+one_alone (r ∷ records) once a b (inl is_a) (inl is_b) same =
+    ap (λ (p : ℕ × Row). is_same_row p.1 b.1) (is_a ∙ sym is_b) ∙ same_row-refl b.1
+one_alone (r ∷ records) once a b (inl is_a) (inr in_b) same =
+    absurd (omega (arith, once r.rid, one_same r.rid r.rid refl, in_times (rids_of records) r.rid (subst (IsIn (rids_of records)) (sym same ∙ ap (λ (p : ℕ × Row). p.0) is_a) (pairs_rid records b in_b))))
+one_alone (r ∷ records) once a b (inr in_a) (inl is_b) same =
+    absurd (omega (arith, once r.rid, one_same r.rid r.rid refl, in_times (rids_of records) r.rid (subst (IsIn (rids_of records)) (same ∙ ap (λ (p : ℕ × Row). p.0) is_b) (pairs_rid records a in_a))))
+one_alone (r ∷ records) once a b (inr in_a) (inr in_b) same = one_alone records (λ rid. omega (arith, once rid)) a b in_a in_b same
+
+pub few_agree : (parents : List (List Record)) → length parents < 2 → All HasNoRidTwice parents → IsFirstDisagreeing (lists_of parents) None
+few_agree [] few once = λ a b in_a in_b same. absurd in_a
+few_agree (p ∷ []) few once = subst NoneDiffer (sym (append-nil (pairs_of p))) (one_alone p (All-head HasNoRidTwice p [] once))
+few_agree (p ∷ q ∷ parents) few once = absurd (omega (arith, few))

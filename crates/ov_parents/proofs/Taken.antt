@@ -1,9 +1,9 @@
 -- The records of versions, taken out of a scan one after another.
-use Rattle.std.proofs.Common.{◌≡◌, ◌<◌, ◌≤◌, ◌+◌, ℕ, Bool, true, Result, Ok, Err, List, [], ◌∷◌, ◌++◌, length, take, get_or, sym, ◌∙◌, ap, subst, inl, inr, arith}
-use Rattle.std.specs.Prelude.{IfOk, MatchResult}
+use Rattle.std.proofs.Common.{◌≡◌, ◌<◌, ◌≤◌, ◌+◌, ℕ, suc, Result, Ok, Err, List, [], ◌∷◌, ◌++◌, length, map, take, get_or, refl, sym, ◌∙◌, ap, subst, inl, inr, arith}
+use Rattle.std.specs.Prelude.{IfOk, MatchOption, MatchResult, Option, Some}
 use Rattle.std.specs.List.{All, AllZip}
-use Rattle.std.proofs.lemmas.List.{length-map, take_all, take_more}
-use Rattle.std.proofs.lemmas.List.Elements.{All-nil, All-cons, All-head, All-tail, All-push}
+use Rattle.std.proofs.lemmas.List.{length-map, take_more}
+use Rattle.std.proofs.lemmas.List.Elements.{All-nil, All-cons, All-head, All-tail}
 use Rattle.ov_value.specs.Shapes.{Shape}
 use Rattle.ov_segment.specs.declared.numbered.Record.{Record}
 use Rattle.ov_member.proofs.RangeLemmas.{RiseFrom-apart}
@@ -12,8 +12,8 @@ use Rattle.ov_member.specs.Rids.{RiseFrom}
 use Rattle.ov_fetch.specs.declared.errors.FetchErr.{FetchErr}
 use Rattle.ov_fetch.specs.declared.errors.FetchErr.TheVariants.{Host, Memory, Damaged}
 use Rattle.ov_fetch.specs.declared.scan.Scan.{Scan}
-use Rattle.ov_fetch.specs.Scans.{AllFit, IsSound, InKeyOrder as RowsInOrder, rows_at}
-use Rattle.ov_fetch.proofs.Gathered.{is_among, same_default}
+use Rattle.ov_fetch.specs.Scans.{AllFit, AllStand, IsSound, InKeyOrder as RowsInOrder, rows_at}
+use Rattle.ov_fetch.proofs.Gathered.{is_among}
 use Rattle.ov_catalog.proofs.Members.{all_at}
 use Rattle.ov_records.specs.Records.{InKeyOrder}
 use Rattle.law_commits.specs.Agreeing.{AreRids, EachAgrees}
@@ -24,18 +24,10 @@ use Rattle.ov_read.specs.Found.{HasRows, IsScanned}
 use Rattle.ov_read.proofs.Gatherings.{zip_at}
 use Rattle.ov_parents.specs.Parents.{IsCounted, IsParent}
 use Rattle.ov_parents.specs.Taking.{AreTaken, HaveRids, RefusesTaken, StandAt}
-use Rattle.ov_parents.proofs.Places.{all_fit, count_is, in_order, same_found}
+use Rattle.ov_parents.proofs.Places.{all_fit, count_is, in_order, same_found, stand_at}
 use Rattle.ov_parents.proofs.Repeats.{rids_moved, set_is}
 
 -- ---- one more
-
-pub record HasTaken (s : Numbers) (records : List Record) (picks : List (List ℕ)) (parents : List (List Record)) : Type 0 where
-  pub stand : AllZip (StandAt records) picks parents
-  pub rids : All (HaveRids s.records) parents
-
-pub none_taken : (s : Numbers) (records : List Record) (parents : List (List Record)) → parents ≡ [] → HasTaken s records [] parents
-none_taken s records parents none =
-    subst (HasTaken s records []) (sym none) (record { stand = tt; rids = All-nil (HaveRids s.records) })
 
 zip_push : {A B : Type 0} (R : A → B → Type 0) (xs : List A) (ys : List B) (x : A) (y : B) → AllZip R xs ys → R x y → AllZip R (xs ++ x ∷ []) (ys ++ y ∷ [])
 zip_push R [] [] x y all is = (is, tt)
@@ -43,25 +35,37 @@ zip_push R [] (b ∷ ys) x y all is = absurd all
 zip_push R (a ∷ xs) [] x y all is = absurd all
 zip_push R (a ∷ xs) (b ∷ ys) x y all is = (all.0, zip_push R xs ys x y all.1 is)
 
-pub one_taken : (s : Numbers) (records : List Record) (picks : List (List ℕ)) (k : ℕ) (parents : List (List Record)) (found : List Record) → k < length picks → HasTaken s records (take k picks) parents
-    → StandAt records (get_or picks k []) found → HaveRids s.records found → HasTaken s records (take (k + 1) picks) (parents ++ found ∷ [])
-one_taken s records picks k parents found low h at rids =
-    subst (λ (ps : List (List ℕ)). HasTaken s records ps (parents ++ found ∷ [])) (sym (take_more picks k [] low)) (record {
-      stand = zip_push (StandAt records) (take k picks) parents (get_or picks k []) found h.stand at;
-      rids = All-push (HaveRids s.records) parents found h.rids rids;
-    })
+pub one_copied : (records : List Record) (picks : List (List ℕ)) (k : ℕ) (tables : List (List Record)) (item pick : List ℕ) (found : List Record) → k < length picks → item ≡ get_or picks k item → pick ≡ item
+    → All (AllStand records) picks → ((none : Record) → found ≡ map (λ i. get_or records i none) pick) → AllZip (StandAt records) (take k picks) tables
+    → AllZip (StandAt records) (take (k + 1) picks) (tables ++ found ∷ [])
+one_copied records picks k tables item pick found low item_is pick_is stand are so_far =
+    let here : AllStand records pick = subst (AllStand records) (sym (pick_is ∙ item_is)) (stand k item low) in
+    subst (λ (ps : List (List ℕ)). AllZip (StandAt records) ps (tables ++ found ∷ [])) (sym (take_more picks k item low ∙ ap (λ (p : List ℕ). take k picks ++ p ∷ []) (sym (pick_is ∙ item_is))))
+    (zip_push (StandAt records) (take k picks) tables pick found so_far (stand_at records pick found here are))
 
-pub all_taken : (s : Numbers) (scan : Scan) (k : ℕ) (parents : List (List Record)) → length scan.picks ≤ k → HasTaken s scan.records (take k scan.picks) parents → AreTaken s scan parents
-all_taken s scan k parents all h = record {
-  stand = subst (λ (ps : List (List ℕ)). AllZip (StandAt scan.records) ps parents) (take_all k scan.picks all) h.stand;
-  rids = h.rids;
-}
+-- a single one
+pub one_stands : (records : List Record) (picks : List (List ℕ)) (item pick : List ℕ) (found : List Record) → length picks ≡ 1 → item ≡ get_or picks 0 item → pick ≡ item → All (AllStand records) picks
+    → ((none : Record) → found ≡ map (λ i. get_or records i none) pick) → AllZip (StandAt records) picks (found ∷ [])
+one_stands records [] item pick found one item_is pick_is stand are = absurd (omega (arith, one))
+one_stands records (p ∷ []) item pick found one item_is pick_is stand are =
+    (subst (λ (q : List ℕ). StandAt records q found) (pick_is ∙ item_is) (stand_at records pick found (subst (AllStand records) (sym (pick_is ∙ item_is)) (stand 0 p (omega arith))) are), tt)
+one_stands records (p ∷ q ∷ picks) item pick found one item_is pick_is stand are = absurd (omega (arith, one))
+
+pub as_long : {A B : Type 0} (R : A → B → Type 0) (xs : List A) (ys : List B) → AllZip R xs ys → length ys ≡ length xs
+as_long R [] [] all = refl
+as_long R [] (y ∷ ys) all = absurd all
+as_long R (x ∷ xs) [] all = absurd all
+as_long R (x ∷ xs) (y ∷ ys) all = ap suc (as_long R xs ys all.1)
 
 -- ---- what all of them are
 
 pub ok_of : {X E : Type 0} (r : Result X E) (P P2 : X → Type 0) (Q : E → Type 0) → ((x : X) → P x → P2 x) → MatchResult r P Q → IfOk r P2
 ok_of (Ok x) P P2 Q f h = f x h
 ok_of (Err e) P P2 Q f h = tt
+
+pub ok_on : {X E : Type 0} (r : Result X E) (P Q : X → Type 0) → ((x : X) → P x → Q x) → IfOk r P → IfOk r Q
+ok_on (Ok x) P Q f h = f x h
+ok_on (Err e) P Q f h = tt
 
 -- each version has as many records as its pick has positions
 each_of : (s : Numbers) (records : List Record) (vids : List ℕ) (picks : List (List ℕ)) (parents : List (List Record)) → AllZip (HasRows s) vids picks → AllZip (StandAt records) picks parents
@@ -141,14 +145,10 @@ refused area s scan vids (Damaged page) counted scanned why =
       page_is = why.page_is;
     })
 
--- ---- the loop
+-- ---- the first one whose rids are off
 
-pub one_more : (s : Numbers) (scan : Scan) (parents : List (List Record)) (k : ℕ) (records : List Record) (picks : List (List ℕ)) (item pick : List ℕ) (found kept put : List Record) (passed : Bool)
-    → records ≡ scan.records → picks ≡ scan.picks → k < length picks → item ≡ get_or picks k item → pick ≡ item → StandAt records pick found → kept ≡ found
-    → (passed ≡ true → HaveRids s.records kept) → passed ≡ true → put ≡ found → HasTaken s scan.records (take k scan.picks) parents → HasTaken s scan.records (take (k + 1) scan.picks) (parents ++ put ∷ [])
-one_more s scan parents k records picks item pick found kept put passed records_are picks_are low item_is pick_is at kept_is rids is put_is h =
-    let place : pick ≡ get_or scan.picks k [] = pick_is ∙ (item_is ∙ (same_default picks k item [] low ∙ ap (λ (ps : List (List ℕ)). get_or ps k []) picks_are)) in
-    subst (λ (x : List Record). HasTaken s scan.records (take (k + 1) scan.picks) (parents ++ x ∷ [])) (sym put_is)
-    (one_taken s scan.records scan.picks k parents found (omega (arith, low, ap length picks_are)) h
-    (subst (λ (p : List ℕ). StandAt scan.records p found) place (subst (λ (rs : List Record). StandAt rs pick found) records_are at))
-    (subst (HaveRids s.records) kept_is (rids is)))
+pub off_at : (off : Option ℕ) (place most : ℕ) (parents tables : List (List Record)) → off ≡ Some place → parents ≡ tables
+    → MatchOption off (All (HaveRids most) parents) (λ p. (p < length parents) × (HaveRids most (get_or parents p []) → ⊥)) → (place < length tables) × (HaveRids most (get_or tables place []) → ⊥)
+off_at off place most parents tables is same h =
+    subst (λ (ps : List (List Record)). (place < length ps) × (HaveRids most (get_or ps place []) → ⊥)) same
+    (subst (λ (o : Option ℕ). MatchOption o (All (HaveRids most) parents) (λ p. (p < length parents) × (HaveRids most (get_or parents p []) → ⊥))) is h)

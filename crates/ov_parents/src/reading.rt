@@ -21,14 +21,14 @@ use ov_catalog::Cvd;
 use ov_fetch::FetchErr;
 use ov_host::Host;
 use ov_read::{PartRids, VersionsRead, read_versions};
-use ov_segment::Records;
+use ov_segment::RecordTable;
 use std::alloc::Global;
 
 /// What was read of a commit's parents.
 #[derive(Drop)]
 pub struct ParentsRead {
     /// The records of each parent, in key order.
-    pub records: Vec<Records>,
+    pub records: Vec<RecordTable>,
     /// For each partition of the dataset, in their order, the rids of each of its segments, where it serves a parent.
     pub held: Vec<PartRids>,
 }
@@ -105,6 +105,6 @@ fn read_parents<H: Host>(
 {
     let wanted = Vec::from_slice(alloc, vids)?;
     let VersionsRead { scan, held } = read_versions(alloc, host, d, wanted)?;
-    let records = take_parents(alloc, d, vids, &scan)?;
+    let records = take_parents(alloc, d, vids, scan)?;
     Ok(ParentsRead { records, held })
 }

@@ -6,32 +6,36 @@ ghost use Rattle.law_commits.specs.Agreeing.{AreRids};
 ghost use Rattle.law_commits.specs.Differing.{rids_of};
 ghost use Rattle.ov_parents.specs.Taking.{HaveRids};
 
-use ov_segment::Record;
+use ov_segment::RecordTable;
 use std::alloc::{AllocError, Global};
 
-/// Whether no rid stands twice among the records, and all are from 1 to the most. It takes n log n for n records.
-pub(crate) fn have_rids(alloc: Global, records: &[Record], most: u32) -> Result<bool, AllocError>
+/// Whether no rid stands twice among the records, and all are from 1 to the most. Where they ascend it takes one pass,
+/// else n log n for n records.
+pub(crate) fn have_rids(alloc: Global, records: &RecordTable, most: u32) -> Result<bool, AllocError>
     ensures { IfOk result (λ yes. IsTrue yes ↔ HaveRids most records.now) }
 {
     let mut rids = copied_rids(alloc, records)?;
+    if ascend(&rids, most) {
+        return Ok(true);
+    }
     rids.sort_unstable();
     Ok(ascend(&rids, most))
 }
 
-fn copied_rids(alloc: Global, records: &[Record]) -> Result<Vec<u32>, AllocError>
+fn copied_rids(alloc: Global, records: &RecordTable) -> Result<Vec<u32>, AllocError>
     ensures { IfOk result (λ rids. rids.items ≡ rids_of records.now) }
 {
     let mut rids = Vec::with_capacity(alloc, records.len())?;
-    for record in records {
-        rids.push(record.rid)?;
+    for i in 0..records.len() {
+        rids.push(records.rid(i))?;
     }
     Ok(rids)
 }
 
-// Of rids in order, whether each is greater than the one before it, from 1 to the most.
+// Whether each rid is greater than the one before it, from 1 to the most.
 fn ascend(rids: &[u32], most: u32) -> bool
-    requires { IsNonDecreasing rids.now }
-    ensures { IsTrue result ↔ AreRids (length rids.now) most rids.now }
+    ensures yes { IsTrue result → AreRids (length rids.now) most rids.now }
+    ensures no { IsNonDecreasing rids.now → AreRids (length rids.now) most rids.now → IsTrue result }
 {
     let mut last = 0;
     for rid in rids {

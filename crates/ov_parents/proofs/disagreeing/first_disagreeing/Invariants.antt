@@ -6,4 +6,4 @@ use Rattle.law_commits.proofs.Kept.{NoneBefore}
 use Rattle.ov_parents.proofs.disagreeing.first_disagreeing.Given as goal
 
 abbrev pub invariant-loop-place : goal.invariant-loop-place
-invariant-loop-place l = Maps (λ r. r.now) l.seen (joined (take l.place (lists_of l.parents))) × NoneBefore (lists_of l.parents) l.place
+invariant-loop-place l = Maps (λ r. r) l.seen (joined (take l.place (lists_of l.parents))) × NoneBefore (lists_of l.parents) l.place
