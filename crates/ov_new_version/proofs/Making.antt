@@ -10,7 +10,6 @@ use Rattle.ov_host.specs.declared.area.Extent.{Extent}
 use Rattle.ov_place.specs.declared.place_facts.Place.{Place}
 use Rattle.ov_place.specs.declared.place_facts.Place.TheVariants.{Own, Join}
 use Rattle.ov_member.specs.Rids.{left_out}
-use Rattle.ov_model.specs.Assigned.{fresh_rows}
 use Rattle.ov_model.specs.Book.{Row}
 use Rattle.ov_model.specs.Lists.{IsIn}
 use Rattle.ov_model.specs.Placed.{times}
@@ -19,14 +18,14 @@ use Rattle.ov_place.specs.Placement.{placed}
 use Rattle.ov_records.specs.Records.{lists_of, shared}
 use Rattle.ov_records.specs.declared.outcome.Assigned.{Assigned}
 use Rattle.ov_catalog.specs.declared.cvd.Cvd.{Cvd}
-use Rattle.ov_catalog.specs.Sets.{plan_in, set_in, version_in}
+use Rattle.ov_catalog.specs.Sets.{set_in, version_in}
 use Rattle.ov_catalog.specs.Applying.{facts_of, first_off, is_segment, set_numbered}
 use Rattle.ov_catalog.specs.Numbers.{Numbers}
 use Rattle.ov_catalog.specs.Reached.{AreParents, AreRows}
 use Rattle.ov_core.specs.Brought.{extent_at}
 use Rattle.law_events.specs.Fitting.{IsSoundEvent}
 use Rattle.law_commits.specs.Agreeing.{AreRids, ParentsAgree}
-use Rattle.law_commits.specs.Committing.{MayCommit, JoinedAgrees, added_for, rids_for}
+use Rattle.law_commits.specs.Committing.{MayCommit, JoinedAgrees, added_for}
 use Rattle.law_commits.proofs.Agreed.{different, event_applies}
 use Rattle.law_commits.proofs.Rids.{length-assigned}
 use Rattle.law_commits.proofs.Times.{few_numbers, in_times}
@@ -56,21 +55,20 @@ pub record IsMade (a : Asked) (made : Assigned) (place : Place) : Type 0 where
   pub fresh : made.fresh ≡ fresh_of a
   pub place_is : place ≡ place_of a
 
-pub made_is : (a : Asked) (made : Assigned) (rows : List Row) (weights : List ℕ) (place : Place) → rows ≡ a.rows → weights ≡ made.weights
-    → made.rids ≡ rids_for a.set rows a.parents → made.weights ≡ map (shared (zip made.rids rows)) (lists_of a.parents) → made.fresh ≡ fresh_rows rows (lists_of a.parents)
+pub made_is : (a : Asked) (made : Assigned) (weights : List ℕ) (place : Place) → weights ≡ made.weights
+    → made.rids ≡ rids_of a → made.weights ≡ map (shared (zip made.rids a.rows)) (lists_of a.parents) → made.fresh ≡ fresh_of a
     → place ≡ placed (facts_of a.set (heaviest (zip a.vids weights))) → IsMade a made place
-made_is a made rows weights place rows_is slice rids ws fresh place_is =
-    let rids_are : made.rids ≡ rids_of a = rids ∙ ap (λ l. rids_for a.set l a.parents) rows_is
-    in let edges : zip a.vids made.weights ≡ edges_of a =
-    ap (zip a.vids) (ws ∙ (λ i. map (shared (zip (rids_are i) (rows_is i))) (lists_of a.parents)))
+made_is a made weights place slice rids ws fresh place_is =
+    let edges : zip a.vids made.weights ≡ edges_of a =
+    ap (zip a.vids) (ws ∙ (λ i. map (shared (zip (rids i) a.rows)) (lists_of a.parents)))
     in record {
-      rids = rids_are;
+      rids = rids;
       edges = edges;
-      fresh = fresh ∙ ap (λ l. fresh_rows l (lists_of a.parents)) rows_is;
+      fresh = fresh;
       place_is = place_is ∙ ap (λ es. placed (facts_of a.set (heaviest es))) (ap (zip a.vids) slice ∙ edges);
     }
 
-pub may_be : (d : Cvd) (w : Wanted) → AreParents (length d.versions.items) w.vids.now → length d.versions.items < 65535 → length w.message.now ≤ 1024 → AreRows d.schema w.rows.items
+pub may_be : (d : Cvd) (w : Wanted) → AreParents (length d.versions.items) w.vids.now → length d.versions.items < 65535 → length w.message.now ≤ 1024 → AreRows d.schema w.rows
     → ParentsAgree (set_in d) w.vids.now w.parents.now → d.records + fresh_of (asked_in d w) ≤ 2 ^ 31 → MayBe (asked_in d w)
 may_be d w named few message rows agree room =
     let count = length-map d.versions.items version_in

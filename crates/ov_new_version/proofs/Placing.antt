@@ -122,7 +122,7 @@ module _ (d : Cvd) (w : Wanted) (set : IsSet d) (named : AreParents (length d.ve
   -- its tree parent is there, so it is in a partition
   parent_placed : is_placed d.layout.parts (heaviest (edges_of (asked_in d w))).0 ≡ true
   parent_placed =
-      let sharing = shared (zip (rids_of (asked_in d w)) w.rows.items)
+      let sharing = shared (zip (rids_of (asked_in d w)) w.rows)
       in let long : length (map sharing (lists_of w.parents.now)) ≡ length w.vids.now =
       length-map (lists_of w.parents.now) sharing ∙ length-map w.parents.now pairs_of ∙ as_many (set_in d) w.vids.now w.parents.now agree
       in let vid : ℕ = (heaviest (edges_of (asked_in d w))).0

@@ -17,7 +17,7 @@ use Rattle.ov_model.specs.Assigned.{fresh_rows}
 use Rattle.ov_model.specs.Lists.{IsIn}
 use Rattle.ov_model.specs.Moves as moves
 use Rattle.ov_model.specs.Records.{Rec, fresh_in, order_of, records_of, recs, rid_in}
-use Rattle.ov_model.specs.World.{Dataset, World, Plan}
+use Rattle.ov_model.specs.World.{Dataset, World}
 use Rattle.ov_model.proofs.Growing.{length_recs, order_of_more}
 use Rattle.ov_model.proofs.Sharing.{fresh_is as fresh_records}
 use Rattle.ov_records.specs.Committed.{AreRecords}
@@ -25,7 +25,7 @@ use Rattle.ov_records.specs.declared.outcome.Assigned.{Assigned}
 use Rattle.ov_catalog.specs.Applying.{copied_in, facts_of, id_in, is_place, is_unmoved, part_numbered, part_serving}
 use Rattle.ov_catalog.specs.Events as events
 use Rattle.ov_catalog.specs.Numbers.{PartNumbers, PlanNumbers, SetNumbers, each_part, each_plan, each_set}
-use Rattle.ov_catalog.specs.Shown.{held_by, shown_plan, shown_set}
+use Rattle.ov_catalog.specs.Shown.{held_by, shown_set}
 use Rattle.ov_core.specs.Brought.{extent_at, segments_in}
 use Rattle.law_image.specs.Lists.{list_in}
 use Rattle.law_image.specs.Pages.{readings_of}

@@ -23,7 +23,7 @@ pub record Asked : Type 0 where
   pub rows : List Row
 
 abbrev pub asked_in : Cvd → Wanted → Asked
-asked_in d w = record { set = set_in d; vids = w.vids.now; parents = w.parents.now; message = w.message.now; rows = w.rows.items }
+asked_in d w = record { set = set_in d; vids = w.vids.now; parents = w.parents.now; message = w.message.now; rows = w.rows }
 
 abbrev pub rids_of : Asked → List ℕ
 rids_of a = rids_for a.set a.rows a.parents

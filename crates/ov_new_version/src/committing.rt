@@ -5,7 +5,7 @@ ghost use Rattle.std.specs.List.{All};
 ghost use Rattle.ov_event.specs.Spelling.{IsEvent};
 ghost use Rattle.ov_host.specs.declared.area.Extent.{Extent};
 ghost use Rattle.ov_model.specs.World.{Dataset, World};
-ghost use Rattle.ov_records.specs.Records.{InKeyOrder};
+ghost use Rattle.ov_records.specs.Records.{InKeyOrder, RowsFit};
 ghost use Rattle.ov_catalog.specs.Applying.{first_off, set_numbered};
 ghost use Rattle.ov_catalog.specs.Numbers.{Numbers};
 ghost use Rattle.ov_catalog.specs.Reached.{AreParents, AreRows};
@@ -40,8 +40,9 @@ pub fn commit_of(alloc: Global, d: &Cvd, wanted: Wanted) -> Result<Commit, Commi
     requires few { length d.now.versions.items < 65535 }
     requires named { AreParents (length d.now.versions.items) wanted.vids.now }
     requires message { length wanted.message.now ≤ 1024 }
-    requires rows { AreRows d.now.schema wanted.rows.items }
+    requires rows { AreRows d.now.schema wanted.rows }
     requires order { All (InKeyOrder d.now.schema) wanted.parents.now }
+    requires fit { All (RowsFit d.now.schema) wanted.parents.now }
     requires agree { ParentsAgree (set_in d.now) wanted.vids.now wanted.parents.now }
     requires held { length wanted.held.now ≡ length d.now.layout.parts }
     ensures unplaced { IfOk result (λ c. IsUnplaced c.brought) }
@@ -80,11 +81,11 @@ pub fn commit_of(alloc: Global, d: &Cvd, wanted: Wanted) -> Result<Commit, Commi
         vid: d.versions.len() as u32 + 1,
         message,
         parents: vids,
-        rows,
+        rows: &rows,
         made,
         place,
         held: &held,
     };
-    let brought = next_version(alloc, &d.schema, next)?;
+    let brought = next_version(alloc, next)?;
     Ok(Commit { brought, fresh })
 }

@@ -8,7 +8,7 @@ ghost use Rattle.ov_model.specs.Assigned.{fresh_rows, stored_parents};
 ghost use Rattle.ov_model.specs.Book.{Version};
 ghost use Rattle.ov_model.specs.Records.{recs, order_of};
 ghost use Rattle.ov_records.specs.Committed.{AreRecords};
-ghost use Rattle.ov_records.specs.Records.{InKeyOrder, lists_of, shared};
+ghost use Rattle.ov_records.specs.Records.{InKeyOrder, RowsFit, lists_of, shared};
 ghost use Rattle.ov_catalog.specs.Applying.{facts_of};
 ghost use Rattle.ov_catalog.specs.Reached.{AreRows};
 ghost use Rattle.ov_catalog.specs.Ready.{IsSet};
@@ -20,8 +20,7 @@ use crate::errors::CommitErr;
 use ov_catalog::{Cvd, next_place};
 use ov_place::Place;
 use ov_records::{Assigned, assign};
-use ov_segment::Records;
-use ov_value::Row;
+use ov_segment::{RecordTable, RowTable};
 use std::alloc::{AllocError, Global};
 
 /// The rids of these rows, from these parents' records; the new ones come after those of the dataset's records.
@@ -29,12 +28,13 @@ use std::alloc::{AllocError, Global};
 pub(crate) fn made_for(
     alloc: Global,
     d: &Cvd,
-    parents: &[Records],
-    rows: &[Row],
+    parents: &[RecordTable],
+    rows: &RowTable,
 ) -> Result<Assigned, CommitErr>
     requires most { d.now.records ≤ 2 ^ 31 }
     requires rows { AreRows d.now.schema rows.now }
     requires order { All (InKeyOrder d.now.schema) parents.now }
+    requires fit { All (RowsFit d.now.schema) parents.now }
     ensures rids { IfOk result (λ made. made.rids ≡ rids_for (set_in d.now) rows.now parents.now) }
     ensures weights { IfOk result (λ made. made.weights ≡ map (shared (zip made.rids rows.now)) (lists_of parents.now)) }
     ensures fresh { IfOk result (λ made. made.fresh ≡ fresh_rows rows.now (lists_of parents.now)) }

@@ -2,8 +2,8 @@
 
 use ov_core::Brought;
 use ov_read::PartRids;
-use ov_segment::Records;
-use ov_value::{Row, Txt};
+use ov_segment::{RecordTable, RowTable};
+use ov_value::Txt;
 
 /// A version that is to be committed.
 #[derive(Drop)]
@@ -11,12 +11,12 @@ pub struct Wanted<'a> {
     /// The numbers of its parents, in the order in which they were listed.
     pub vids: &'a [u32],
     /// The records of each of them, in key order.
-    pub parents: &'a [Records],
+    pub parents: &'a [RecordTable],
     /// For each partition of the dataset, in their order, the rids of each of its segments, where it serves a parent.
     pub held: &'a [PartRids],
     pub message: &'a Txt,
     /// Its rows, in key order.
-    pub rows: Vec<Row>,
+    pub rows: RowTable,
 }
 
 /// What a version brings.

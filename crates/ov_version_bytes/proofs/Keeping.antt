@@ -1,10 +1,8 @@
 -- The segment of a version: its records are a segment's, and how many bytes it has.
-use Rattle.std.proofs.Common.{◌≡◌, ◌≤◌, ◌<◌, ◌+◌, ◌*◌, ◌^◌, ℕ, suc, Bool, true, false, List, [], ◌∷◌, ◌++◌, length, map, get_or, refl, sym, ◌∙◌, ap, subst, inl, inr, arith, length-append, append_assoc}
-use Rattle.std.specs.Prelude.{filter, not, nat_eq, reverse, if◌then◌else◌}
+use Rattle.std.proofs.Common.{◌≡◌, ◌≤◌, ◌<◌, ◌+◌, ◌*◌, ◌^◌, ℕ, suc, Bool, true, false, List, [], ◌∷◌, ◌++◌, length, map, refl, sym, ap, subst, inl, inr, arith, length-append}
+use Rattle.std.specs.Prelude.{filter, not, nat_eq, if◌then◌else◌}
 use Rattle.std.specs.List.{All, AllByRecursion, IsDistinct}
 use Rattle.std.specs.Int.{w32, to_be_bytes}
-use Rattle.std.proofs.lemmas.List.{append-nil, reverse-append}
-use Rattle.std.proofs.lemmas.List.Elements.{filter-append}
 use Rattle.std.proofs.lemmas.Map.Keys.{IsDistinct-head, IsDistinct-tail, IsDistinct-cons}
 use Rattle.ov_value.specs.Rows.{Fits}
 use Rattle.ov_value.specs.Shapes.{Shape}
@@ -24,7 +22,7 @@ use Rattle.ov_version_bytes.proofs.Sorting.{all_from, below_at, sorted_ascends}
 
 -- ---- what filters leave
 
-filter_in : {X : Type 0} (p : X → Bool) (xs : List X) (x : X) → IsIn (filter p xs) x → IsIn xs x
+pub filter_in : {X : Type 0} (p : X → Bool) (xs : List X) (x : X) → IsIn (filter p xs) x → IsIn xs x
 filter_in p [] x is = is
 filter_in {X} p (y ∷ ys) x is = at (p y) is (filter_in p ys x)
   where
@@ -50,7 +48,7 @@ apart_filter {X} key p n (y ∷ ys) apart = at (p y) (apart_filter key p n ys ap
     at true rest = (apart.0, rest)
     at false rest = rest
 
-once_filter : {X : Type 0} (key : X → ℕ) (p : X → Bool) (xs : List X) → IsDistinct nat_eq (map key xs) → IsDistinct nat_eq (map key (filter p xs))
+pub once_filter : {X : Type 0} (key : X → ℕ) (p : X → Bool) (xs : List X) → IsDistinct nat_eq (map key xs) → IsDistinct nat_eq (map key (filter p xs))
 once_filter key p [] once = once
 once_filter {X} key p (y ∷ ys) once =
     at (p y) (apart_filter key p (key y) ys (IsDistinct-head nat_eq (key y) (map key ys) once)) (once_filter key p ys (IsDistinct-tail nat_eq (key y) (map key ys) once))
@@ -130,7 +128,7 @@ records_small schema rs are = all_from (λ r. length (row_spelling r.row).bytes 
 
 -- ---- how long it is
 
-record_long : (r : Record) → length (record_bytes r) ≡ 8 + length (row_spelling r.row).bytes
+pub record_long : (r : Record) → length (record_bytes r) ≡ 8 + length (row_spelling r.row).bytes
 unfolding record_bytes
 record_long r =
     let row : List ℕ = (row_spelling r.row).bytes
@@ -156,53 +154,3 @@ segment_sized schema held rids rows are given =
     in let few : length kept ≤ length rows = kept_few held rids rows given.as_many
     in let size = segment_long schema 0 sorted (kept_records schema held rids rows are given)
     in (omega (arith, size.0, long), omega (arith, size.1, long, few, are.few))
-
--- ---- from the last row to the first
-
-numbered_none : (rids : List ℕ) → numbered rids [] ≡ []
-numbered_none [] = refl
-numbered_none (rid ∷ rids) = refl
-
-numbered_last : (rids : List ℕ) (rows : List Row) (row : Row) (d : ℕ) → length rows < length rids
-    → numbered rids (rows ++ row ∷ []) ≡ numbered rids rows ++ record { rid = get_or rids (length rows) d; row = row } ∷ []
-numbered_last [] rows row d more = absurd (omega (arith, more))
-numbered_last (rid ∷ rids) [] row d more = ap (λ rs. record { rid = rid; row = row } ∷ rs) (numbered_none rids)
-numbered_last (rid ∷ rids) (first ∷ rows) row d more = ap (λ rs. record { rid = rid; row = first } ∷ rs) (numbered_last rids rows row d (omega (arith, more)))
-
--- of all records those up to here, and those that were taken from the end
-abbrev pub AreLeft : List ℕ → List ℕ → List Row → List Row → List Record → Type 0
-AreLeft held rids rows rest taken = not_held held (numbered rids rows) ≡ not_held held (numbered rids rest) ++ reverse taken
-
-pub none_taken : (held rids : List ℕ) (rows : List Row) → AreLeft held rids rows rows []
-none_taken held rids rows = sym (append-nil (not_held held (numbered rids rows)))
-
-pub all_taken : (held rids : List ℕ) (rows : List Row) (taken : List Record) → AreLeft held rids rows [] taken → reverse taken ≡ not_held held (numbered rids rows)
-all_taken held rids rows taken left = sym (left ∙ ap (λ rs. not_held held rs ++ reverse taken) (numbered_none rids))
-
-one_last : (held rids : List ℕ) (rest : List Row) (row : Row) (d : ℕ) → length rest < length rids
-    → not_held held (numbered rids (rest ++ row ∷ [])) ≡ not_held held (numbered rids rest) ++ not_held held (record { rid = get_or rids (length rest) d; row = row } ∷ [])
-one_last held rids rest row d more =
-    ap (not_held held) (numbered_last rids rest row d more)
-    ∙ filter-append (λ r. not (has held r.rid)) (numbered rids rest) (record { rid = get_or rids (length rest) d; row = row } ∷ [])
-
-pub one_held : (held rids : List ℕ) (rows rest : List Row) (row : Row) (taken : List Record) (d : ℕ) → length rest < length rids
-    → has held (get_or rids (length rest) d) ≡ true → AreLeft held rids rows (rest ++ row ∷ []) taken → AreLeft held rids rows rest taken
-one_held held rids rows rest row taken d more there left =
-    let r : Record = record { rid = get_or rids (length rest) d; row = row }
-    in let none : not_held held (r ∷ []) ≡ [] = ap (λ b. if not b then r ∷ [] else []) there
-    in left
-    ∙ ap (λ rs. rs ++ reverse taken) (one_last held rids rest row d more)
-    ∙ ap (λ rs. (not_held held (numbered rids rest) ++ rs) ++ reverse taken) none
-    ∙ ap (λ rs. rs ++ reverse taken) (append-nil (not_held held (numbered rids rest)))
-
-pub one_taken : (held rids : List ℕ) (rows rest : List Row) (row : Row) (taken : List Record) (d : ℕ) → length rest < length rids
-    → has held (get_or rids (length rest) d) ≡ false → AreLeft held rids rows (rest ++ row ∷ []) taken
-    → AreLeft held rids rows rest (taken ++ record { rid = get_or rids (length rest) d; row = row } ∷ [])
-one_taken held rids rows rest row taken d more off left =
-    let r : Record = record { rid = get_or rids (length rest) d; row = row }
-    in let one : not_held held (r ∷ []) ≡ r ∷ [] = ap (λ b. if not b then r ∷ [] else []) off
-    in left
-    ∙ ap (λ rs. rs ++ reverse taken) (one_last held rids rest row d more)
-    ∙ ap (λ rs. (not_held held (numbered rids rest) ++ rs) ++ reverse taken) one
-    ∙ append_assoc (not_held held (numbered rids rest)) (r ∷ []) (reverse taken)
-    ∙ ap (λ rs. not_held held (numbered rids rest) ++ rs) (sym (reverse-append taken (r ∷ [])))

@@ -1,5 +1,6 @@
 pub mod Sorting
 pub mod Listing
+pub mod Ordering
 pub mod Keeping
 pub mod Counting
 pub mod Texts

@@ -22,7 +22,8 @@ use crate::write_err::WriteErr;
 use ov_core::Brought;
 use ov_event::{Event, Items, RawSchema};
 use ov_member::Members;
-use ov_value::{Column, Row, Schema, Txt};
+use ov_segment::RowTable;
+use ov_value::{Column, Schema, Txt};
 use std::alloc::{AllocError, Global};
 
 /// The event, list and segment of a dataset's first version. The rows stand in key order; their rids are 1, 2, 3 and so on.
@@ -33,24 +34,24 @@ pub fn first_version(
     alloc: Global,
     name: &Txt,
     schema: &Schema,
-    rows: Vec<Row>,
+    rows: &RowTable,
 ) -> Result<Brought, WriteErr>
-    requires rows { AreRows schema.now rows.items }
+    requires rows { AreRows schema.now rows.now }
     requires name { IsTrue (is_name_of name.now) }
     ensures unplaced { IfOk result IsUnplaced }
     ensures event { IfOk result (λ b. IsEvent b.event) }
-    ensures says { IfOk result (λ b. (w : World) → Some (content (event_in b.event) b.list.items b.segment.items) ≡ asked_event (Init name.now schema.now rows.items) w) }
+    ensures says { IfOk result (λ b. (w : World) → Some (content (event_in b.event) b.list.items b.segment.items) ≡ asked_event (Init name.now schema.now rows.now) w) }
     ensures applies { IfOk result (λ b. (n : Numbers AnExtent AnExtent) → n.next < 4294967295 → list_any (is_named name.now) n.sets ≡ false → length n.sets < 1024
         → first_off b.event n ≡ None) }
-    ensures event_is { IfOk result (λ b. b.event ≡ first_event name.now schema.now rows.items b.list.items b.segment.items) }
-    ensures list { IfOk result (λ b. b.list.items ≡ list_written (counted 1 (length rows.items))) }
-    ensures segment { IfOk result (λ b. b.segment.items ≡ segment_written [] (counted 1 (length rows.items)) rows.items) }
-    ensures cause { IfErr result (λ why. IsWhy why [] (counted 1 (length rows.items)) rows.items) }
+    ensures event_is { IfOk result (λ b. b.event ≡ first_event name.now schema.now rows.now b.list.items b.segment.items) }
+    ensures list { IfOk result (λ b. b.list.items ≡ list_written (counted 1 (length rows.now))) }
+    ensures segment { IfOk result (λ b. b.segment.items ≡ segment_written [] (counted 1 (length rows.now)) rows.now) }
+    ensures cause { IfErr result (λ why. IsWhy why [] (counted 1 (length rows.now)) rows.now) }
 {
     let count = rows.len() as u32;
     let rids = first_rids(alloc, count)?;
     let none = Members::empty(alloc);
-    let runs = runs_of(alloc, schema, rids.as_slice(), rows, &none)?;
+    let runs = runs_of(alloc, rids.as_slice(), rows, &none)?;
     let event = Event::Init {
         name: name.copy(alloc)?,
         schema: schema_of(alloc, schema)?,

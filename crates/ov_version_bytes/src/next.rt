@@ -2,6 +2,7 @@
 
 ghost use Rattle.std.specs.Prelude.{◌≡◌, ◌≤◌, ◌<◌, ◌^◌, IfOk, IfErr, IsUtf8, length, Some, []};
 ghost use Rattle.std.specs.List.{All, zip};
+ghost use Rattle.ov_value.specs.Shapes.{Shape};
 ghost use Rattle.ov_event.specs.declared.event.Event.TheVariants as says;
 ghost use Rattle.ov_event.specs.Spelling.{AreParents, IsEvent, IsPlaced};
 ghost use Rattle.ov_member.specs.Rids.{left_out};
@@ -22,7 +23,8 @@ use ov_event::{Event, Items, Placed};
 use ov_member::Members;
 use ov_place::Place;
 use ov_records::Assigned;
-use ov_value::{Row, Schema, Txt};
+use ov_segment::RowTable;
+use ov_value::Txt;
 use std::alloc::{AllocError, Global};
 
 /// A version that is committed, and what is known of it.
@@ -36,7 +38,7 @@ pub struct Next<'a> {
     /// The numbers of its parents, in the order in which they were listed.
     pub parents: &'a [u32],
     /// Its rows, in key order.
-    pub rows: Vec<Row>,
+    pub rows: &'a RowTable,
     /// The rids of its rows, and what they say of its parents.
     pub made: Assigned,
     /// Where its records go.
@@ -49,22 +51,22 @@ pub struct Next<'a> {
 /// segment the records that aren't held, both in the order of the rids.
 ///
 /// `TooLong` comes exactly where the segment has 2^20 pages or more.
-pub fn next_version(alloc: Global, schema: &Schema, next: Next) -> Result<Brought, WriteErr>
-    requires rows { AreRows schema.now next.rows.items }
-    requires given { AreGiven next.made.rids next.rows.items }
+pub fn next_version(alloc: Global, next: Next) -> Result<Brought, WriteErr>
+    requires rows { (schema : Shape) × AreRows schema next.rows.now }
+    requires given { AreGiven next.made.rids next.rows.now }
     requires message { length next.message.now < 2 ^ 32 }
     requires parents { length next.parents.now < 2 ^ 16 }
     ensures unplaced { IfOk result IsUnplaced }
     ensures event { IfOk result (λ b. IsEvent b.event) }
     ensures sound { IfOk result (λ b. IsSoundEvent b.event) }
     ensures says { IfOk result (λ b. (w : World) (d : Dataset) → Reached w → first_set (is_numbered next.entry.cvd) w.sets ≡ Some d
-        → IsNext d (version_of next.entry.parents.now next.entry.message.now next.entry.rows.items) next.entry.vid next.entry.made next.entry.place next.entry.held.now
-        → Some (content (event_in b.event) b.list.items b.segment.items) ≡ asked_event (Commit next.entry.cvd next.entry.parents.now next.entry.message.now [] next.entry.rows.items) w) }
-    ensures event_is { IfOk result (λ b. b.event ≡ says.Commit next.entry.cvd next.entry.vid next.entry.message.now (zip next.entry.parents.now next.entry.made.weights) (length next.entry.rows.items)
+        → IsNext d (version_of next.entry.parents.now next.entry.message.now next.entry.rows.now) next.entry.vid next.entry.made next.entry.place next.entry.held.now
+        → Some (content (event_in b.event) b.list.items b.segment.items) ≡ asked_event (Commit next.entry.cvd next.entry.parents.now next.entry.message.now [] next.entry.rows.now) w) }
+    ensures event_is { IfOk result (λ b. b.event ≡ says.Commit next.entry.cvd next.entry.vid next.entry.message.now (zip next.entry.parents.now next.entry.made.weights) (length next.entry.rows.now)
         next.entry.made.fresh (spelled_place next.entry.place) (length (left_out next.entry.made.rids next.entry.held.now)) (extent_at 0 b.list.items) (extent_at 0 b.segment.items)) }
     ensures list { IfOk result (λ b. b.list.items ≡ list_written next.entry.made.rids) }
-    ensures segment { IfOk result (λ b. b.segment.items ≡ segment_written next.entry.held.now next.entry.made.rids next.entry.rows.items) }
-    ensures cause { IfErr result (λ why. IsWhy why next.entry.held.now next.entry.made.rids next.entry.rows.items) }
+    ensures segment { IfOk result (λ b. b.segment.items ≡ segment_written next.entry.held.now next.entry.made.rids next.entry.rows.now) }
+    ensures cause { IfErr result (λ why. IsWhy why next.entry.held.now next.entry.made.rids next.entry.rows.now) }
 {
     let Next {
         cvd,
@@ -77,7 +79,7 @@ pub fn next_version(alloc: Global, schema: &Schema, next: Next) -> Result<Brough
         held,
     } = next;
     let count = rows.len() as u32;
-    let runs = runs_of(alloc, schema, made.rids.as_slice(), rows, held)?;
+    let runs = runs_of(alloc, made.rids.as_slice(), rows, held)?;
     let edges = edges_of(alloc, parents, made.weights.as_slice())?;
     let event = commit_of(
         alloc, cvd, vid, message, edges, count, made.fresh, place, &runs,

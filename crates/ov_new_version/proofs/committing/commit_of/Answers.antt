@@ -1,6 +1,4 @@
-use Rattle.std.proofs.Common.{rules, ◌≡◌, ◌≤◌, ◌<◌, ◌+◌, ◌^◌, [], true, length, sym, ◌∙◌, ap, subst}
-use Rattle.ov_model.specs.Assigned.{fresh_rows}
-use Rattle.ov_records.specs.Records.{lists_of}
+use Rattle.std.proofs.Common.{rules, ◌≡◌, ◌≤◌, ◌<◌, ◌+◌, ◌^◌, [], true, length, refl, sym, ◌∙◌, ap, subst}
 use Rattle.ov_place.specs.declared.place_facts.Place.TheVariants.{Own}
 use Rattle.ov_catalog.specs.Sets.{set_in}
 use Rattle.ov_read.proofs.Matching.{err_on}
@@ -28,7 +26,7 @@ returns-in_err-made-clause-world c =
     let a : Asked = asked_in c.args.d.now c.args.wanted
     in let e = c.in_err-made.field-0.0
     in let why : (e ≡ Memory) ⊎ ((e ≡ TooManyRecords) × (2 ^ 31 < a.set.records + fresh_of a)) =
-    subst (λ rows. (e ≡ Memory) ⊎ ((e ≡ TooManyRecords) × (2 ^ 31 < c.args.d.now.records + fresh_rows rows (lists_of a.parents)))) c.deref.ensures.value c.in_err-made.ensures.cause
+    c.in_err-made.ensures.cause
     in err_match (λ m. IsAnswered a w ds m.brought.event m.fresh m.brought.list.items m.brought.segment.items) (λ x. IsSpared x a w ds) c.from_residual.result e c.from_residual.ensures
     (made_spared a w ds area asked e why)
 
@@ -36,7 +34,7 @@ pub held_at-requires-clause-there : goal.held_at-requires-clause-there
 held_at-requires-clause-there c =
     let a : Asked = asked_in c.args.d.now c.args.wanted
     in let is : IsMade a c.in_ok-made.made c.in_ok-place.place =
-    made_is a c.in_ok-made.made c.deref.result.now c.as_slice.result.now c.in_ok-place.place c.deref.ensures.value c.as_slice.ensures c.in_ok-made.ensures.rids c.in_ok-made.ensures.weights c.in_ok-made.ensures.fresh c.in_ok-place.ensures
+    made_is a c.in_ok-made.made c.as_slice.result.now c.in_ok-place.place c.as_slice.ensures c.in_ok-made.ensures.rids c.in_ok-made.ensures.weights c.in_ok-made.ensures.fresh c.in_ok-place.ensures
     in subst (IsPlaceThere (set_in c.args.d.now)) (sym is.place_is) (place_there c.args.d.now c.args.wanted c.requires.set c.requires.named c.requires.agree.each)
 
 pub returns-in_err-held-clause-refuses : goal.returns-in_err-held-clause-refuses
@@ -44,20 +42,20 @@ returns-in_err-held-clause-refuses c =
     λ told area have.
     let a : Asked = asked_in c.args.d.now c.args.wanted
     in let is : IsMade a c.in_ok-made.made c.in_ok-place.place =
-    made_is a c.in_ok-made.made c.deref.result.now c.as_slice.result.now c.in_ok-place.place c.deref.ensures.value c.as_slice.ensures c.in_ok-made.ensures.rids c.in_ok-made.ensures.weights c.in_ok-made.ensures.fresh c.in_ok-place.ensures
+    made_is a c.in_ok-made.made c.as_slice.result.now c.in_ok-place.place c.as_slice.ensures c.in_ok-made.ensures.rids c.in_ok-made.ensures.weights c.in_ok-made.ensures.fresh c.in_ok-place.ensures
     in let part : part_at (set_in c.args.d.now) c.in_ok-place.place ≡ joined_of a =
     ap (part_at (set_in c.args.d.now)) is.place_is ∙ joined_is c.args.d.now c.args.wanted c.requires.set c.requires.named c.requires.agree.each c.held_at.ensures.sound
     in let served : IsServed a.vids (part_at (set_in c.args.d.now) c.in_ok-place.place) =
     joined_served a (part_at (set_in c.args.d.now) c.in_ok-place.place) c.requires.named.some (as_many (set_in c.args.d.now) c.args.wanted.vids.now c.args.wanted.parents.now c.requires.agree.each) part
     in err_on (λ why. Refuses why a told area) c.from_residual-in_err-held.result c.in_err-held.field-0.0 c.from_residual-in_err-held.ensures
-    (not_held a (subst (λ rows. c.args.d.now.records + fresh_rows rows (lists_of c.args.wanted.parents.now) ≤ 2 ^ 31) c.deref.ensures.value c.in_ok-made.ensures.room) told area (part_at (set_in c.args.d.now) c.in_ok-place.place) c.in_err-held.field-0.0 part (λ tells. c.in_err-held.ensures.answer area a.vids (if_told told area a.set a.vids c.args.wanted.held.now have tells) served) c.in_err-held.ensures.cause)
+    (not_held a c.in_ok-made.ensures.room told area (part_at (set_in c.args.d.now) c.in_ok-place.place) c.in_err-held.field-0.0 part (λ tells. c.in_err-held.ensures.answer area a.vids (if_told told area a.set a.vids c.args.wanted.held.now have tells) served) c.in_err-held.ensures.cause)
 
 pub returns-in_err-held-clause-world : goal.returns-in_err-held-clause-world
 returns-in_err-held-clause-world c =
     λ area w ds have asked.
     let a : Asked = asked_in c.args.d.now c.args.wanted
     in let is : IsMade a c.in_ok-made.made c.in_ok-place.place =
-    made_is a c.in_ok-made.made c.deref.result.now c.as_slice.result.now c.in_ok-place.place c.deref.ensures.value c.as_slice.ensures c.in_ok-made.ensures.rids c.in_ok-made.ensures.weights c.in_ok-made.ensures.fresh c.in_ok-place.ensures
+    made_is a c.in_ok-made.made c.as_slice.result.now c.in_ok-place.place c.as_slice.ensures c.in_ok-made.ensures.rids c.in_ok-made.ensures.weights c.in_ok-made.ensures.fresh c.in_ok-place.ensures
     in let part : part_at (set_in c.args.d.now) c.in_ok-place.place ≡ joined_of a =
     ap (part_at (set_in c.args.d.now)) is.place_is ∙ joined_is c.args.d.now c.args.wanted c.requires.set c.requires.named c.requires.agree.each c.held_at.ensures.sound
     in let served : IsServed a.vids (part_at (set_in c.args.d.now) c.in_ok-place.place) =
@@ -72,10 +70,10 @@ pub next_version-requires-clause-given : goal.next_version-requires-clause-given
 next_version-requires-clause-given c =
     let a : Asked = asked_in c.args.d.now c.args.wanted
     in let is : IsMade a c.in_ok-made.made c.in_ok-place.place =
-    made_is a c.in_ok-made.made c.deref.result.now c.as_slice.result.now c.in_ok-place.place c.deref.ensures.value c.as_slice.ensures c.in_ok-made.ensures.rids c.in_ok-made.ensures.weights c.in_ok-made.ensures.fresh c.in_ok-place.ensures
+    made_is a c.in_ok-made.made c.as_slice.result.now c.in_ok-place.place c.as_slice.ensures c.in_ok-made.ensures.rids c.in_ok-made.ensures.weights c.in_ok-made.ensures.fresh c.in_ok-place.ensures
     in let may : MayBe a =
     may_be c.args.d.now c.args.wanted c.requires.named c.requires.few c.requires.message c.requires.rows c.requires.agree
-    (subst (λ rows. c.args.d.now.records + fresh_rows rows (lists_of c.args.wanted.parents.now) ≤ 2 ^ 31) c.deref.ensures.value c.in_ok-made.ensures.room)
+    c.in_ok-made.ensures.room
     in subst (λ rids. AreGiven rids a.rows) (sym is.rids) (rids_given a may)
 
 pub next_version-requires-clause-parents : goal.next_version-requires-clause-parents
@@ -87,7 +85,7 @@ returns-in_err-brought-clause-refuses c =
     λ told area have.
     let a : Asked = asked_in c.args.d.now c.args.wanted
     in let is : IsMade a c.in_ok-made.made c.in_ok-place.place =
-    made_is a c.in_ok-made.made c.deref.result.now c.as_slice.result.now c.in_ok-place.place c.deref.ensures.value c.as_slice.ensures c.in_ok-made.ensures.rids c.in_ok-made.ensures.weights c.in_ok-made.ensures.fresh c.in_ok-place.ensures
+    made_is a c.in_ok-made.made c.as_slice.result.now c.in_ok-place.place c.as_slice.ensures c.in_ok-made.ensures.rids c.in_ok-made.ensures.weights c.in_ok-made.ensures.fresh c.in_ok-place.ensures
     in let part : part_at (set_in c.args.d.now) c.in_ok-place.place ≡ joined_of a =
     ap (part_at (set_in c.args.d.now)) is.place_is ∙ joined_is c.args.d.now c.args.wanted c.requires.set c.requires.named c.requires.agree.each c.held_at.ensures.sound
     in let served : IsServed a.vids (part_at (set_in c.args.d.now) c.in_ok-place.place) =
@@ -96,18 +94,18 @@ returns-in_err-brought-clause-refuses c =
     in let own : c.in_ok-place.place ≡ Own → held ≡ [] = c.in_ok-held.ensures.own
     in let read : told ≡ true → IsReadOf a.set area (joined_of a) held = λ tells. subst (λ o. IsReadOf a.set area o held) part (c.in_ok-held.ensures.answer area a.vids (if_told told area a.set a.vids c.args.wanted.held.now have tells) served)
     in err_on (λ why. Refuses why a told area) c.from_residual-in_err-brought.result (of_write c.in_err-brought.field-0.0) c.from_residual-in_err-brought.ensures
-    (not_written a c.in_ok-made.made c.in_ok-place.place is held own (subst (λ rows. c.args.d.now.records + fresh_rows rows (lists_of c.args.wanted.parents.now) ≤ 2 ^ 31) c.deref.ensures.value c.in_ok-made.ensures.room) told area c.in_err-brought.field-0.0 c.in_ok-held.ensures.agrees read c.in_err-brought.ensures.cause)
+    (not_written a c.in_ok-made.made c.in_ok-place.place is held own c.in_ok-made.ensures.room told area c.in_err-brought.field-0.0 c.in_ok-held.ensures.agrees read c.in_err-brought.ensures.cause)
 
 pub returns-clause-applies : goal.returns-clause-applies
 returns-clause-applies c =
     let a : Asked = asked_in c.args.d.now c.args.wanted
     in let is : IsMade a c.in_ok-made.made c.in_ok-place.place =
-    made_is a c.in_ok-made.made c.deref.result.now c.as_slice.result.now c.in_ok-place.place c.deref.ensures.value c.as_slice.ensures c.in_ok-made.ensures.rids c.in_ok-made.ensures.weights c.in_ok-made.ensures.fresh c.in_ok-place.ensures
+    made_is a c.in_ok-made.made c.as_slice.result.now c.in_ok-place.place c.as_slice.ensures c.in_ok-made.ensures.rids c.in_ok-made.ensures.weights c.in_ok-made.ensures.fresh c.in_ok-place.ensures
     in let held = c.in_ok-held.held
     in let own : c.in_ok-place.place ≡ Own → held ≡ [] = c.in_ok-held.ensures.own
     in let may : MayBe a =
     may_be c.args.d.now c.args.wanted c.requires.named c.requires.few c.requires.message c.requires.rows c.requires.agree
-    (subst (λ rows. c.args.d.now.records + fresh_rows rows (lists_of c.args.wanted.parents.now) ≤ 2 ^ 31) c.deref.ensures.value c.in_ok-made.ensures.room)
+    c.in_ok-made.ensures.room
     in let count : c.len.result ≡ length c.args.d.now.versions.items = search rules
     in let b = c.in_ok-brought.brought
     in let e_is : b.event ≡ event_for a held b.list.items b.segment.items =
@@ -121,7 +119,7 @@ returns-clause-is c =
     λ told area have.
     let a : Asked = asked_in c.args.d.now c.args.wanted
     in let is : IsMade a c.in_ok-made.made c.in_ok-place.place =
-    made_is a c.in_ok-made.made c.deref.result.now c.as_slice.result.now c.in_ok-place.place c.deref.ensures.value c.as_slice.ensures c.in_ok-made.ensures.rids c.in_ok-made.ensures.weights c.in_ok-made.ensures.fresh c.in_ok-place.ensures
+    made_is a c.in_ok-made.made c.as_slice.result.now c.in_ok-place.place c.as_slice.ensures c.in_ok-made.ensures.rids c.in_ok-made.ensures.weights c.in_ok-made.ensures.fresh c.in_ok-place.ensures
     in let part : part_at (set_in c.args.d.now) c.in_ok-place.place ≡ joined_of a =
     ap (part_at (set_in c.args.d.now)) is.place_is ∙ joined_is c.args.d.now c.args.wanted c.requires.set c.requires.named c.requires.agree.each c.held_at.ensures.sound
     in let served : IsServed a.vids (part_at (set_in c.args.d.now) c.in_ok-place.place) =
@@ -135,7 +133,7 @@ returns-clause-is c =
     event_told a c.in_ok-made.made c.in_ok-place.place is held own b.event (c.len.result + 1) b.list.items b.segment.items
     (vid_is c.args.d.now (c.len.result + 1) (ap (λ n. n + 1) count))
     (c.in_ok-brought.ensures.event_is)
-    in commit_is a c.in_ok-made.made c.in_ok-place.place is held own (subst (λ rows. c.args.d.now.records + fresh_rows rows (lists_of c.args.wanted.parents.now) ≤ 2 ^ 31) c.deref.ensures.value c.in_ok-made.ensures.room) told area b.event b.list.items b.segment.items c.in_ok-held.ensures.agrees read e_is
+    in commit_is a c.in_ok-made.made c.in_ok-place.place is held own c.in_ok-made.ensures.room told area b.event b.list.items b.segment.items c.in_ok-held.ensures.agrees read e_is
     c.in_ok-brought.ensures.list c.in_ok-brought.ensures.segment
 
 pub returns-in_err-brought-clause-world : goal.returns-in_err-brought-clause-world
@@ -143,7 +141,7 @@ returns-in_err-brought-clause-world c =
     λ area w ds have asked.
     let a : Asked = asked_in c.args.d.now c.args.wanted
     in let is : IsMade a c.in_ok-made.made c.in_ok-place.place =
-    made_is a c.in_ok-made.made c.deref.result.now c.as_slice.result.now c.in_ok-place.place c.deref.ensures.value c.as_slice.ensures c.in_ok-made.ensures.rids c.in_ok-made.ensures.weights c.in_ok-made.ensures.fresh c.in_ok-place.ensures
+    made_is a c.in_ok-made.made c.as_slice.result.now c.in_ok-place.place c.as_slice.ensures c.in_ok-made.ensures.rids c.in_ok-made.ensures.weights c.in_ok-made.ensures.fresh c.in_ok-place.ensures
     in let part : part_at (set_in c.args.d.now) c.in_ok-place.place ≡ joined_of a =
     ap (part_at (set_in c.args.d.now)) is.place_is ∙ joined_is c.args.d.now c.args.wanted c.requires.set c.requires.named c.requires.agree.each c.held_at.ensures.sound
     in let served : IsServed a.vids (part_at (set_in c.args.d.now) c.in_ok-place.place) =
@@ -152,14 +150,14 @@ returns-in_err-brought-clause-world c =
     subst (IsPlaceThere a.set) (sym is.place_is) (place_there c.args.d.now c.args.wanted c.requires.set c.requires.named c.requires.agree.each)
     in let may : MayBe a =
     may_be c.args.d.now c.args.wanted c.requires.named c.requires.few c.requires.message c.requires.rows c.requires.agree
-    (subst (λ rows. c.args.d.now.records + fresh_rows rows (lists_of c.args.wanted.parents.now) ≤ 2 ^ 31) c.deref.ensures.value c.in_ok-made.ensures.room)
+    c.in_ok-made.ensures.room
     in let held = c.in_ok-held.held
     in let count : c.len.result ≡ length c.args.d.now.versions.items = search rules
     in let read : IsReadOf a.set area (part_at a.set c.in_ok-place.place) held = c.in_ok-held.ensures.answer area a.vids have served
     in let made = c.in_ok-made.made
     in let counts = numbers w area a.set ds asked.of_world
     in let are : AreRecords ds.cvd.versions (version_in a) made.rids made.weights made.fresh =
-    c.in_ok-made.ensures.records ds.cvd.versions (version_in a) (sym c.deref.ensures.value) asked.parents counts.records
+    c.in_ok-made.ensures.records ds.cvd.versions (version_in a) refl asked.parents counts.records
     in let next = is_next a w ds area asked made c.in_ok-place.place is are (c.len.result + 1) held (vid_is c.args.d.now (c.len.result + 1) (ap (λ n. n + 1) count)) there read
     in let given : AreGiven made.rids a.rows = subst (λ rids. AreGiven rids a.rows) (sym is.rids) (rids_given a may)
     in let e = c.in_err-brought.field-0.0
@@ -171,7 +169,7 @@ returns-clause-world c =
     λ area w ds have asked.
     let a : Asked = asked_in c.args.d.now c.args.wanted
     in let is : IsMade a c.in_ok-made.made c.in_ok-place.place =
-    made_is a c.in_ok-made.made c.deref.result.now c.as_slice.result.now c.in_ok-place.place c.deref.ensures.value c.as_slice.ensures c.in_ok-made.ensures.rids c.in_ok-made.ensures.weights c.in_ok-made.ensures.fresh c.in_ok-place.ensures
+    made_is a c.in_ok-made.made c.as_slice.result.now c.in_ok-place.place c.as_slice.ensures c.in_ok-made.ensures.rids c.in_ok-made.ensures.weights c.in_ok-made.ensures.fresh c.in_ok-place.ensures
     in let part : part_at (set_in c.args.d.now) c.in_ok-place.place ≡ joined_of a =
     ap (part_at (set_in c.args.d.now)) is.place_is ∙ joined_is c.args.d.now c.args.wanted c.requires.set c.requires.named c.requires.agree.each c.held_at.ensures.sound
     in let served : IsServed a.vids (part_at (set_in c.args.d.now) c.in_ok-place.place) =
@@ -180,14 +178,14 @@ returns-clause-world c =
     subst (IsPlaceThere a.set) (sym is.place_is) (place_there c.args.d.now c.args.wanted c.requires.set c.requires.named c.requires.agree.each)
     in let may : MayBe a =
     may_be c.args.d.now c.args.wanted c.requires.named c.requires.few c.requires.message c.requires.rows c.requires.agree
-    (subst (λ rows. c.args.d.now.records + fresh_rows rows (lists_of c.args.wanted.parents.now) ≤ 2 ^ 31) c.deref.ensures.value c.in_ok-made.ensures.room)
+    c.in_ok-made.ensures.room
     in let held = c.in_ok-held.held
     in let count : c.len.result ≡ length c.args.d.now.versions.items = search rules
     in let read : IsReadOf a.set area (part_at a.set c.in_ok-place.place) held = c.in_ok-held.ensures.answer area a.vids have served
     in let made = c.in_ok-made.made
     in let counts = numbers w area a.set ds asked.of_world
     in let are : AreRecords ds.cvd.versions (version_in a) made.rids made.weights made.fresh =
-    c.in_ok-made.ensures.records ds.cvd.versions (version_in a) (sym c.deref.ensures.value) asked.parents counts.records
+    c.in_ok-made.ensures.records ds.cvd.versions (version_in a) refl asked.parents counts.records
     in let next = is_next a w ds area asked made c.in_ok-place.place is are (c.len.result + 1) held (vid_is c.args.d.now (c.len.result + 1) (ap (λ n. n + 1) count)) there read
     in record {
       says = c.in_ok-brought.ensures.says w ds asked.of_world.reached asked.of_world.among next;

@@ -25,50 +25,50 @@ commit_of-requires-clause-parents c =
 
 pub commit_of-requires-clause-added : goal.commit_of-requires-clause-added
 commit_of-requires-clause-added c =
-    let count : c.len-count.result ≡ length c.args.next.rows.items = search rules
-    in let added = c.in_ok-runs.ensures.added ∙ ap (λ rids. length (not_held c.args.next.held.now (numbered rids c.args.next.rows.items))) c.as_slice.ensures
-    in omega (arith, count, added, kept_few c.args.next.held.now c.args.next.made.rids c.args.next.rows.items c.requires.given.as_many)
+    let count : c.len-count.result ≡ length c.args.next.rows.now = search rules
+    in let added = c.in_ok-runs.ensures.added ∙ ap (λ rids. length (not_held c.args.next.held.now (numbered rids c.args.next.rows.now))) c.as_slice.ensures
+    in omega (arith, count, added, kept_few c.args.next.held.now c.args.next.made.rids c.args.next.rows.now c.requires.given.as_many)
 
 pub commit_of-requires-clause-list : goal.commit_of-requires-clause-list
 commit_of-requires-clause-list c =
     let next = c.args.next
-    in list_low next.held.now next.made.rids next.rows.items c.in_ok-runs.runs.list.items c.in_ok-runs.runs.segment.items c.requires.rows.few c.requires.given
+    in list_low next.held.now next.made.rids next.rows.now c.in_ok-runs.runs.list.items c.in_ok-runs.runs.segment.items c.requires.rows.1.few c.requires.given
     (record {
       list_is = c.in_ok-runs.ensures.list ∙ ap list_written c.as_slice.ensures;
-      segment_is = c.in_ok-runs.ensures.segment ∙ ap (λ rids. segment_written next.held.now rids next.rows.items) c.as_slice.ensures;
+      segment_is = c.in_ok-runs.ensures.segment ∙ ap (λ rids. segment_written next.held.now rids next.rows.now) c.as_slice.ensures;
       short = c.in_ok-runs.ensures.short;
     })
 
-runs_are : (c : goal.After-drop-made-3) → AreRuns c.args.next.held.now c.args.next.made.rids c.args.next.rows.items c.in_ok-runs.runs.list.items c.in_ok-runs.runs.segment.items
+runs_are : (c : goal.After-drop-made-3) → AreRuns c.args.next.held.now c.args.next.made.rids c.args.next.rows.now c.in_ok-runs.runs.list.items c.in_ok-runs.runs.segment.items
 runs_are c = record {
   list_is = c.in_ok-runs.ensures.list ∙ ap list_written c.as_slice.ensures;
-  segment_is = c.in_ok-runs.ensures.segment ∙ ap (λ rids. segment_written c.args.next.held.now rids c.args.next.rows.items) c.as_slice.ensures;
+  segment_is = c.in_ok-runs.ensures.segment ∙ ap (λ rids. segment_written c.args.next.held.now rids c.args.next.rows.now) c.as_slice.ensures;
   short = c.in_ok-runs.ensures.short;
 }
 
 -- the event, by the rows that come to the partition
 event_is : (c : goal.After-drop-made-3) → c.in_ok-event.event
-    ≡ says.Commit c.args.next.cvd c.args.next.vid c.args.next.message.now (zip c.args.next.parents.now c.args.next.made.weights) (length c.args.next.rows.items) c.args.next.made.fresh
-    (spelled_place c.args.next.place) (length (not_held c.args.next.held.now (numbered c.args.next.made.rids c.args.next.rows.items)))
+    ≡ says.Commit c.args.next.cvd c.args.next.vid c.args.next.message.now (zip c.args.next.parents.now c.args.next.made.weights) (length c.args.next.rows.now) c.args.next.made.fresh
+    (spelled_place c.args.next.place) (length (not_held c.args.next.held.now (numbered c.args.next.made.rids c.args.next.rows.now)))
     (extent_at 0 c.in_ok-runs.runs.list.items) (extent_at 0 c.in_ok-runs.runs.segment.items)
 event_is c =
-    let count : c.len-count.result ≡ length c.args.next.rows.items = search rules
+    let count : c.len-count.result ≡ length c.args.next.rows.now = search rules
     in let edges = c.in_ok-edges.ensures.edges ∙ ap (zip c.args.next.parents.now) c.as_slice-2.ensures
-    in let added = c.in_ok-runs.ensures.added ∙ ap (λ rids. length (not_held c.args.next.held.now (numbered rids c.args.next.rows.items))) c.as_slice.ensures
+    in let added = c.in_ok-runs.ensures.added ∙ ap (λ rids. length (not_held c.args.next.held.now (numbered rids c.args.next.rows.now))) c.as_slice.ensures
     in c.in_ok-event.ensures.made
     ∙ (λ i. says.Commit c.args.next.cvd c.args.next.vid c.args.next.message.now (edges i) (count i) c.args.next.made.fresh (spelled_place c.args.next.place) (added i)
     (extent_at 0 c.in_ok-runs.runs.list.items) (extent_at 0 c.in_ok-runs.runs.segment.items))
 
 -- and by their rids
 event_told : (c : goal.After-drop-made-3) → c.in_ok-event.event
-    ≡ says.Commit c.args.next.cvd c.args.next.vid c.args.next.message.now (zip c.args.next.parents.now c.args.next.made.weights) (length c.args.next.rows.items) c.args.next.made.fresh
+    ≡ says.Commit c.args.next.cvd c.args.next.vid c.args.next.message.now (zip c.args.next.parents.now c.args.next.made.weights) (length c.args.next.rows.now) c.args.next.made.fresh
     (spelled_place c.args.next.place) (length (left_out c.args.next.made.rids c.args.next.held.now))
     (extent_at 0 c.in_ok-runs.runs.list.items) (extent_at 0 c.in_ok-runs.runs.segment.items)
 event_told c =
     event_is c
-    ∙ ap (λ added. says.Commit c.args.next.cvd c.args.next.vid c.args.next.message.now (zip c.args.next.parents.now c.args.next.made.weights) (length c.args.next.rows.items)
+    ∙ ap (λ added. says.Commit c.args.next.cvd c.args.next.vid c.args.next.message.now (zip c.args.next.parents.now c.args.next.made.weights) (length c.args.next.rows.now)
     c.args.next.made.fresh (spelled_place c.args.next.place) added (extent_at 0 c.in_ok-runs.runs.list.items) (extent_at 0 c.in_ok-runs.runs.segment.items))
-    (left_long c.args.next.held.now c.args.next.made.rids c.args.next.rows.items c.requires.given.as_many)
+    (left_long c.args.next.held.now c.args.next.made.rids c.args.next.rows.now c.requires.given.as_many)
 
 pub returns-clause-event_is : goal.returns-clause-event_is
 returns-clause-event_is c = event_told c
@@ -79,8 +79,8 @@ returns-clause-sound c =
     in let list = c.in_ok-runs.runs.list.items
     in let segment = c.in_ok-runs.runs.segment.items
     in subst IsSoundEvent (sym (event_is c)) (
-      list_sound next.held.now next.made.rids next.rows.items list segment c.requires.rows.few c.requires.given (runs_are c),
-      segment_sound c.args.schema.now next.held.now next.made.rids next.rows.items list segment c.requires.rows c.requires.given (runs_are c),
+      list_sound next.held.now next.made.rids next.rows.now list segment c.requires.rows.1.few c.requires.given (runs_are c),
+      segment_sound c.requires.rows.0 next.held.now next.made.rids next.rows.now list segment c.requires.rows.1 c.requires.given (runs_are c),
     )
 
 pub returns-clause-says : goal.returns-clause-says
@@ -89,7 +89,7 @@ returns-clause-says c = λ w d reached found is.
     in let runs = runs_are c
     in ap Some (
     ap (λ e. content (event_in e) c.in_ok-runs.runs.list.items c.in_ok-runs.runs.segment.items) (event_told c)
-    ∙ (λ i. events.Commit next.cvd next.vid next.message.now (zip next.parents.now next.made.weights) (length next.rows.items) next.made.fresh (place_back next.place i)
+    ∙ (λ i. events.Commit next.cvd next.vid next.message.now (zip next.parents.now next.made.weights) (length next.rows.now) next.made.fresh (place_back next.place i)
     (length (left_out next.made.rids next.held.now)) (list_in (runs.list_is i)) (segments_in (runs.segment_is i)))
-    ∙ event_asked d (version_of next.parents.now next.message.now next.rows.items) next.vid next.made next.place next.held.now c.args.schema.now (known_of next.cvd w d reached found) is c.requires.rows c.requires.given next.cvd)
-    ∙ sym (asked_of next.cvd next.parents.now next.message.now next.rows.items w d found)
+    ∙ event_asked d (version_of next.parents.now next.message.now next.rows.now) next.vid next.made next.place next.held.now c.requires.rows.0 (known_of next.cvd w d reached found) is c.requires.rows.1 c.requires.given next.cvd)
+    ∙ sym (asked_of next.cvd next.parents.now next.message.now next.rows.now w d found)

@@ -1,4 +1,4 @@
-use Rattle.std.proofs.Common.{sym, ◌∙◌, ap, subst, length, List, ℕ}
+use Rattle.std.proofs.Common.{sym, ◌≡◌, ◌==◌, true, ◌∙◌, ap, subst, length, List, ℕ}
 use Rattle.std.specs.Prelude.{nat_eq}
 use Rattle.std.specs.List.{IsDistinct}
 use Rattle.std.specs.List.Sorted.{IsPermutation}
@@ -17,8 +17,8 @@ returns-in-Some c =
     subst (λ xs. IsPermutation xs sorted) c.in_ok-ordered.ensures.items
     (subst (λ ys. IsPermutation c.in_ok-ordered.ordered.items ys) (sym c.as_slice.ensures.value) c.in_ok-sort_rids.ensures.permutation)
     in (
-      (λ same. given_of_set rids sorted c.args.rows.now (eqb-true (length rids) (length c.args.rows.now) same) moved set.0),
-      (λ given. eq-eqb (length rids) (length c.args.rows.now) given.as_many),
+      (λ same. given_of_set rids sorted c.args.rows.now (eqb-true (length rids) (length c.args.rows.now) (subst (λ n. (length rids == n) ≡ true) c.len.ensures.count same)) moved set.0),
+      (λ given. subst (λ n. (length rids == n) ≡ true) (sym c.len.ensures.count) (eq-eqb (length rids) (length c.args.rows.now) given.as_many)),
     )
 
 pub returns : goal.returns
