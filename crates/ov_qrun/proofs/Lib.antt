@@ -5,3 +5,4 @@ pub mod Meaning
 pub mod Filtering
 pub mod Cutting
 pub mod Ordering
+pub mod Climbing

@@ -1,5 +1,5 @@
 -- Groups of spots, and the definitions over whole rows.
-use Rattle.std.proofs.Common.{◌≡◌, ◌<◌, ◌∷◌, ◌∙◌, [], ℕ, zero, suc, List, Bool, true, false, not, cond, ap, ap₂, refl, sym, length, map, drop, take, get_or, filter, is_eq, arith, Equal, Option, Some, None, if◌then◌else◌, true≢false, eqb-true, ◌==◌}
+use Rattle.std.proofs.Common.{◌≡◌, ◌<◌, ◌∷◌, ◌∙◌, [], ℕ, zero, suc, List, Bool, true, false, not, cond, ap, ap₂, refl, sym, length, map, drop, take, get_or, filter, is_eq, arith, Ordering, Equal, Option, Some, None, if◌then◌else◌, true≢false, eqb-true, ◌==◌}
 use Rattle.std.specs.List.{All, AllByRecursion}
 use Rattle.std.specs.Ordering.{on}
 use Rattle.ov_value.specs.Rows.{Fits}
@@ -14,7 +14,10 @@ use Rattle.ov_model.specs.declared.query.Key.{Key}
 use Rattle.ov_terms.specs.declared.spot.Spot.{Spot}
 use Rattle.ov_terms.specs.Standing.{pair_at, pairs_at}
 use Rattle.ov_qrun.specs.declared.places.Place.{Place}
-use Rattle.ov_qrun.specs.Keys.{cells_in, has_same_key, key_at, keys_for, pairs_of, place_order, spot_order}
+use Rattle.ov_terms.specs.declared.found_term.FoundTerm.{FoundTerm}
+use Rattle.ov_terms.specs.declared.lookup.Lookup.{Lookup}
+use Rattle.ov_qrun.specs.Keys.{cells_in, has_same_key, keys_for, named_keys, pairs_of, place_order, spot_order}
+use Rattle.ov_qrun.specs.Plans.{AreKeys, AreLookups}
 use Rattle.ov_qrun.specs.Ranking.{ranked_by, ranked_lists}
 use Rattle.ov_qrun.specs.Runs.{cut, run_items}
 use Rattle.ov_qrun.proofs.Grouping.{differs, distinct_by, groups, same_by, with_key}
@@ -41,11 +44,23 @@ pub map-through : {A B C : Type 0} (g : B → C) (f : A → B) (xs : List A) →
 map-through g f [] = refl
 map-through g f (x ∷ xs) = ap (λ l. g (f x) ∷ l) (map-through g f xs)
 
+-- the values of the group columns of a query, at a spot
+abbrev named_key : Shape → List Record → List Col → Spot → List Cell
+named_key schema records cs spot = group_key schema cs (pair_at records spot)
+
+abbrev named_order : Shape → List Record → List Col → Spot → Spot → Ordering
+named_order schema records cs = on (named_key schema records cs) ranked_lists
+
+-- those that were found are the same
+order-found : (schema : Shape) (records : List Record) (cs : List Col) (found : List Lookup) → AreLookups schema cs found
+    → spot_order records found ≡ named_order schema records cs
+order-found schema records cs found are = λ i a b. ranked_lists (are (pair_at records a) i) (are (pair_at records b) i)
+
 abbrev pub SpotsFit : Shape → List Record → Type 0
 SpotsFit schema records = (spot : Spot) → PairFits schema (pair_at records spot)
 
 keys-are : (schema : Shape) (records : List Record) (cs : List Col) → SpotsFit schema records → (ks : List Spot)
-    → AllByRecursion (KeyIs schema cs) (map (key_at schema records cs) ks)
+    → AllByRecursion (KeyIs schema cs) (map (named_key schema records cs) ks)
 keys-are schema records cs fit [] = tt
 keys-are schema records cs fit (s ∷ ks) = (key-is schema cs (pair_at records s) (fit s), keys-are schema records cs fit ks)
 
@@ -63,22 +78,22 @@ distinct-agree schema cs (k ∷ ks) all =
 
 -- the pairs of those with a key
 members-are : (schema : Shape) (records : List Record) (cs : List Col) → SpotsFit schema records → (ks : List Spot) (k : List Cell) → KeyIs schema cs k
-    → pairs_at records (with_key (key_at schema records cs) ranked_lists ks k) ≡ filter (λ pair. is_same_key k (group_key schema cs pair)) (pairs_at records ks)
+    → pairs_at records (with_key (named_key schema records cs) ranked_lists ks k) ≡ filter (λ pair. is_same_key k (group_key schema cs pair)) (pairs_at records ks)
 members-are schema records cs fit ks k is =
     ap (map (pair_at records)) (agreed ks) ∙ sym (filter-map (λ pair. is_same_key k (group_key schema cs pair)) (pair_at records) ks) where
-      agreed : (ks : List Spot) → filter (λ s. is_eq (ranked_lists k (key_at schema records cs s))) ks ≡ filter (λ s. is_same_key k (key_at schema records cs s)) ks
+      agreed : (ks : List Spot) → filter (λ s. is_eq (ranked_lists k (named_key schema records cs s))) ks ≡ filter (λ s. is_same_key k (named_key schema records cs s)) ks
       agreed [] = refl
       agreed (s ∷ ks) =
-          ap (λ o. cond (is_eq o) (s ∷ filter (λ s. is_eq (ranked_lists k (key_at schema records cs s))) ks) (filter (λ s. is_eq (ranked_lists k (key_at schema records cs s))) ks))
-          (lists-agree schema cs k (key_at schema records cs s) is (key-is schema cs (pair_at records s) (fit s)))
-          ∙ ap (λ l. cond (is_same_key k (key_at schema records cs s)) (s ∷ l) l) (agreed ks)
+          ap (λ o. cond (is_eq o) (s ∷ filter (λ s. is_eq (ranked_lists k (named_key schema records cs s))) ks) (filter (λ s. is_eq (ranked_lists k (named_key schema records cs s))) ks))
+          (lists-agree schema cs k (named_key schema records cs s) is (key-is schema cs (pair_at records s) (fit s)))
+          ∙ ap (λ l. cond (is_same_key k (named_key schema records cs s)) (s ∷ l) l) (agreed ks)
 
 -- the groups of the definitions are the runs of the spots that were sorted by their keys
 pub groups-are : (schema : Shape) (records : List Record) (cs : List Col) → SpotsFit schema records → (ks : List Spot)
-    → map (λ run. pairs_at records (run_items run)) (cut (same_by (on (key_at schema records cs) ranked_lists)) (sorted_by (on (key_at schema records cs) ranked_lists) ks))
+    → map (λ run. pairs_at records (run_items run)) (cut (same_by (on (named_key schema records cs) ranked_lists)) (sorted_by (on (named_key schema records cs) ranked_lists) ks))
     ≡ groups_of schema cs (pairs_at records ks)
 groups-are schema records cs fit ks =
-    let key : Spot → List Cell = key_at schema records cs in
+    let key : Spot → List Cell = named_key schema records cs in
     let found : List (List Cell) = map key ks in
     let are : AllByRecursion (KeyIs schema cs) found = keys-are schema records cs fit ks in
     let distinct : AllByRecursion (KeyIs schema cs) (distinct_by ranked_lists found) = distinct-all (KeyIs schema cs) found are in
@@ -117,17 +132,19 @@ each-of : {X Y : Type 0} (f g : X → Y) (xs : List X) → map f xs ≡ map g xs
 each-of f g [] e = tt
 each-of f g (x ∷ xs) e = (ap (λ l. get_or l 0 (f x)) e, each-of f g xs (ap (drop 1) e))
 
-pub ordered-are : (schema : Shape) (records : List Record) (related : Related) (order : List Key) (found : List Place) → AllFit schema records
-    → map cells_in found ≡ map (λ place. keys_for schema order (pairs_of records place)) found
+pub ordered-are : (schema : Shape) (records : List Record) (related : Related) (order : List Key) (terms : List FoundTerm) (found : List Place) → AllFit schema records
+    → AreKeys schema order terms → map cells_in found ≡ map (λ place. keys_for terms (pairs_of records place)) found
     → map (pairs_of records) (sorted_by (place_order order) found)
     ≡ sorted_by (λ a b. order_by order (here_for schema related a) (here_for schema related b)) (map (pairs_of records) found)
-ordered-are schema records related order found all keys =
+ordered-are schema records related order terms found all are given =
+    let keys : map cells_in found ≡ map (λ place. named_keys schema order (pairs_of records place)) found =
+    given ∙ (λ i. map (λ place. are (pairs_of records place) i) found) in
     let fit : SpotsFit schema records = spots-fit schema records all in
     sorted-map (pairs_of records) (place_order order) (λ a b. order_by order (here_for schema related a) (here_for schema related b))
-    (λ place. cells_in place ≡ keys_for schema order (pairs_of records place))
+    (λ place. cells_in place ≡ named_keys schema order (pairs_of records place))
     (λ a b ea eb. ap₂ (ranked_by order) ea eb ∙ order-agree schema related order (pairs_of records a) (pairs_of records b)
     (pairs-fit schema records fit a.group.now) (pairs-fit schema records fit b.group.now))
-    found (each-of cells_in (λ place. keys_for schema order (pairs_of records place)) found keys)
+    found (each-of cells_in (λ place. named_keys schema order (pairs_of records place)) found keys)
 
 -- ---- groups
 
@@ -140,20 +157,33 @@ sorted-tied [] = refl
 sorted-tied (x ∷ xs) = ap (placed_by (λ a b. Equal) x) (sorted-tied xs) ∙ placed-tied x xs
 
 -- without columns all are in one group
-pub one-group : (schema : Shape) (records : List Record) (cs : List Col) (spots all : List Spot) → length cs ≡ 0 → spots ≡ sorted_by (spot_order schema records cs) all
+one-named : (schema : Shape) (records : List Record) (cs : List Col) (spots all : List Spot) → length cs ≡ 0 → spots ≡ sorted_by (named_order schema records cs) all
     → pairs_at records spots ∷ [] ≡ grouped_pairs schema cs (pairs_at records all)
-one-group schema records [] spots all none is = ap (λ l. pairs_at records l ∷ []) (is ∙ sorted-tied all)
-one-group schema records (c ∷ cs) spots all none is = absurd (omega (arith, none))
+one-named schema records [] spots all none is = ap (λ l. pairs_at records l ∷ []) (is ∙ sorted-tied all)
+one-named schema records (c ∷ cs) spots all none is = absurd (omega (arith, none))
+
+pub one-group : (schema : Shape) (records : List Record) (cs : List Col) (found : List Lookup) (spots all : List Spot) → AreLookups schema cs found → length cs ≡ 0
+    → spots ≡ sorted_by (spot_order records found) all → pairs_at records spots ∷ [] ≡ grouped_pairs schema cs (pairs_at records all)
+one-group schema records cs found spots all are none is =
+    one-named schema records cs spots all none (is ∙ ap (λ order. sorted_by order all) (order-found schema records cs found are))
 
 -- with columns they are the runs
-pub run-groups : (schema : Shape) (records : List Record) (cs : List Col) (spots all : List Spot) (found : List (List Spot)) → AllFit schema records → 0 < length cs
-    → spots ≡ sorted_by (spot_order schema records cs) all → found ≡ map run_items (cut (has_same_key schema records cs) spots)
-    → map (pairs_at records) found ≡ grouped_pairs schema cs (pairs_at records all)
-run-groups schema records [] spots all found fit some is are = absurd (omega (arith, some))
-run-groups schema records (c ∷ cs) spots all found fit some is are =
-    ap (map (pairs_at records)) (are ∙ ap (λ l. map run_items (cut (has_same_key schema records (c ∷ cs)) l)) is)
-    ∙ map-through (pairs_at records) run_items (cut (has_same_key schema records (c ∷ cs)) (sorted_by (spot_order schema records (c ∷ cs)) all))
+runs-named : (schema : Shape) (records : List Record) (cs : List Col) (spots all : List Spot) (groups : List (List Spot)) → AllFit schema records → 0 < length cs
+    → spots ≡ sorted_by (named_order schema records cs) all → groups ≡ map run_items (cut (same_by (named_order schema records cs)) spots)
+    → map (pairs_at records) groups ≡ grouped_pairs schema cs (pairs_at records all)
+runs-named schema records [] spots all groups fit some is are = absurd (omega (arith, some))
+runs-named schema records (c ∷ cs) spots all groups fit some is are =
+    ap (map (pairs_at records)) (are ∙ ap (λ l. map run_items (cut (same_by (named_order schema records (c ∷ cs))) l)) is)
+    ∙ map-through (pairs_at records) run_items (cut (same_by (named_order schema records (c ∷ cs))) (sorted_by (named_order schema records (c ∷ cs)) all))
     ∙ groups-are schema records (c ∷ cs) (spots-fit schema records fit) all
+
+pub run-groups : (schema : Shape) (records : List Record) (cs : List Col) (found : List Lookup) (spots all : List Spot) (groups : List (List Spot)) → AreLookups schema cs found
+    → AllFit schema records → 0 < length cs → spots ≡ sorted_by (spot_order records found) all → groups ≡ map run_items (cut (has_same_key records found) spots)
+    → map (pairs_at records) groups ≡ grouped_pairs schema cs (pairs_at records all)
+run-groups schema records cs found spots all groups are fit some is cuts =
+    let same : spot_order records found ≡ named_order schema records cs = order-found schema records cs found are in
+    runs-named schema records cs spots all groups fit some (is ∙ ap (λ order. sorted_by order all) same)
+    (cuts ∙ ap (λ order. map run_items (cut (same_by order) spots)) same)
 
 -- ---- the places of an answer
 

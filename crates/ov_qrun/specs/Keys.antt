@@ -1,34 +1,42 @@
 -- By what spots and places are sorted.
---     key_at schema records cols spot      the values of the group columns
---     spot_order schema records cols      the order of spots by them
---     keys_for schema records order group      the cells of the keys of ORDER BY, over a group
---     IsPlace schema records order group place      the place of a group, with these cells
+--     key_in found pair      the values of the group columns; key_at records found spot, at a spot
+--     spot_order records found      the order of spots by them
+--     keys_for found group      the cells of the keys of ORDER BY, over a group; named_keys, by the keys of a query
 use Rattle.std.specs.Prelude.{Bool, List, map}
 use Rattle.std.specs.Ordering.{is_eq, on}
 use Rattle.std.specs.declared.cmp.Ordering.{Ordering}
 use Rattle.ov_value.specs.Shapes.{Shape}
 use Rattle.ov_segment.specs.declared.numbered.Record.{Record}
-use Rattle.ov_model.specs.Answers.{Pair, group_key, term_of_group}
+use Rattle.ov_model.specs.Answers.{Pair, term_of_group}
 use Rattle.ov_model.specs.declared.answer.Cell.{Cell}
-use Rattle.ov_model.specs.declared.query.Col.{Col}
+use Rattle.ov_model.specs.declared.answer.Cell.TheVariants as cell
 use Rattle.ov_model.specs.declared.query.Key.{Key}
+use Rattle.ov_terms.specs.Finding.{found_term, value_at}
 use Rattle.ov_terms.specs.Seeing.{cell_of}
 use Rattle.ov_terms.specs.Standing.{pair_at, pairs_at}
+use Rattle.ov_terms.specs.declared.found_term.FoundTerm.{FoundTerm}
+use Rattle.ov_terms.specs.declared.lookup.Lookup.{Lookup}
 use Rattle.ov_terms.specs.declared.spot.Spot.{Spot}
 use Rattle.ov_qrun.specs.Ranking.{ranked_by, ranked_lists}
 use Rattle.ov_qrun.specs.declared.places.Place.{Place}
 
-abbrev pub key_at : Shape → List Record → List Col → Spot → List Cell
-key_at schema records cols spot = group_key schema cols (pair_at records spot)
+abbrev pub key_in : List Lookup → Pair → List Cell
+key_in found pair = map (λ one. cell.Value (value_at one pair)) found
 
-abbrev pub spot_order : Shape → List Record → List Col → Spot → Spot → Ordering
-spot_order schema records cols = on (key_at schema records cols) ranked_lists
+abbrev pub key_at : List Record → List Lookup → Spot → List Cell
+key_at records found spot = key_in found (pair_at records spot)
 
-abbrev pub has_same_key : Shape → List Record → List Col → Spot → Spot → Bool
-has_same_key schema records cols a b = is_eq (spot_order schema records cols a b)
+abbrev pub spot_order : List Record → List Lookup → Spot → Spot → Ordering
+spot_order records found = on (key_at records found) ranked_lists
 
-abbrev pub keys_for : Shape → List Key → List Pair → List Cell
-keys_for schema order group = map (λ key. term_of_group schema group key.term) order
+abbrev pub has_same_key : List Record → List Lookup → Spot → Spot → Bool
+has_same_key records found a b = is_eq (spot_order records found a b)
+
+abbrev pub keys_for : List FoundTerm → List Pair → List Cell
+keys_for found group = map (found_term group) found
+
+abbrev pub named_keys : Shape → List Key → List Pair → List Cell
+named_keys schema order group = map (λ key. term_of_group schema group key.term) order
 
 -- the cells of a place's keys
 abbrev pub cells_in : Place → List Cell

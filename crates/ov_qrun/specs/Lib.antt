@@ -1,3 +1,4 @@
 pub mod Ranking
 pub mod Runs
 pub mod Keys
+pub mod Plans

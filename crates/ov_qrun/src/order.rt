@@ -5,7 +5,7 @@ ghost use Rattle.ov_terms.specs.Seeing.{cell_of};
 ghost use Rattle.ov_qrun.specs.Ranking.{rank, ranked};
 
 use ov_terms::{Seen, cmp_seen};
-use ov_value::Value;
+use ov_value::CellRef;
 use std::cmp::Ordering;
 
 // Where those of unlike kinds stand.
@@ -13,10 +13,10 @@ fn rank(seen: Seen<'_>) -> u8
     ensures { result ≡ rank (cell_of seen.entry) }
 {
     match seen {
-        Seen::Value(Value::Null) | Seen::Null | Seen::Nothing => 0,
-        Seen::Value(Value::Flag(_)) => 1,
-        Seen::Value(Value::Int(_)) | Seen::Vid(_) | Seen::Sum(_) => 2,
-        Seen::Value(Value::Text(_)) => 3,
+        Seen::Cell(CellRef::Null) | Seen::Nothing => 0,
+        Seen::Cell(CellRef::Flag(_)) => 1,
+        Seen::Cell(CellRef::Int(_)) | Seen::Sum(_) => 2,
+        Seen::Cell(CellRef::Text(_)) => 3,
     }
 }
 
@@ -24,5 +24,8 @@ fn rank(seen: Seen<'_>) -> u8
 pub(crate) fn cmp_ranked(a: Seen<'_>, b: Seen<'_>) -> Ordering
     ensures { result ≡ ranked (cell_of a.entry) (cell_of b.entry) }
 {
-    rank(a).cmp(&rank(b)).then(cmp_seen(a, b))
+    match (a, b) {
+        (Seen::Cell(CellRef::Int(x)), Seen::Cell(CellRef::Int(y))) => x.cmp(&y),
+        _ => rank(a).cmp(&rank(b)).then(cmp_seen(a, b)),
+    }
 }

@@ -9,7 +9,7 @@ ghost use Rattle.ov_qrun.specs.Ranking.{first_cell, ranked, ranked_by, turned_by
 
 use crate::order::cmp_ranked;
 use ov_model::Key;
-use ov_terms::{Seen, Spot, Table};
+use ov_terms::{FoundTerm, Seen, Spot, Table};
 use std::alloc::{AllocError, Global};
 use std::cmp::Ordering;
 
@@ -24,14 +24,14 @@ pub(crate) struct Place<'a, 'b> {
 fn keys_over<'a>(
     alloc: Global,
     table: &Table<'a>,
-    order: &[Key],
+    order: &[FoundTerm],
     group: &[Spot],
 ) -> Result<Vec<Seen<'a>>, AllocError>
-    ensures { IfOk result (λ keys. map cell_of keys.items ≡ keys_for table.now.schema.now order.now (pairs_at table.now.records.now group.now)) }
+    ensures { IfOk result (λ keys. map cell_of keys.items ≡ keys_for order.now (pairs_at table.now.records.now group.now)) }
 {
     let mut keys = Vec::with_capacity(alloc, order.len())?;
-    for key in order {
-        keys.push(table.term(group, &key.term))?;
+    for term in order {
+        keys.push(table.term(group, *term))?;
     }
     Ok(keys)
 }
@@ -40,12 +40,12 @@ fn keys_over<'a>(
 pub(crate) fn places_of<'a, 'b>(
     alloc: Global,
     table: &Table<'a>,
-    order: &[Key],
+    order: &[FoundTerm],
     groups: &[&'b [Spot]],
 ) -> Result<Vec<Place<'a, 'b>>, AllocError>
     ensures groups { IfOk result (λ places. map (λ place. place.group.now) places.items ≡ map (λ group. group.now) groups.now) }
     ensures keys { IfOk result (λ places. map cells_in places.items
-        ≡ map (λ place. keys_for table.now.schema.now order.now (pairs_of table.now.records.now place)) places.items) }
+        ≡ map (λ place. keys_for order.now (pairs_of table.now.records.now place)) places.items) }
 {
     let mut places = Vec::with_capacity(alloc, groups.len())?;
     for group in groups {

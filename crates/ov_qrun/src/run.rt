@@ -1,18 +1,21 @@
 //! The answer of a query over a scan.
 
 ghost use Rattle.std.specs.Prelude.{◌≡◌, Ok, List, IfOk, OnOk, if◌then◌else◌, length, map};
-ghost use Rattle.ov_model.specs.Answers.{Related, answer, grouped_pairs, here_for, limited, order_by, places, shown, sorted_by};
+ghost use Rattle.ov_model.specs.Answers.{Related, answer, grouped_pairs, here_for, limited, order_by, places, sorted_by};
 ghost use Rattle.ov_model.specs.Kinds.{is_grouped, kinds};
 ghost use Rattle.ov_fetch.specs.Scans.{AllFit, IsSound};
+ghost use Rattle.ov_terms.specs.Finding.{shown_by};
 ghost use Rattle.ov_terms.specs.Standing.{NoLineages, pairs_at, pairs_shown};
 ghost use Rattle.ov_terms.specs.declared.spot.Spot.{Spot as SpotValue};
 ghost use Rattle.ov_qrun.specs.Keys.{pairs_of, spot_order};
+ghost use Rattle.ov_qrun.specs.Plans.{IsPlan};
 
 use crate::groups::{alone, held, runs, sort_spots};
 use crate::places::{Place, places_of, sort_places};
+use crate::plan::{Plan, plan_of};
 use ov_fetch::Scan;
-use ov_model::{Answer, Cell, Col, Items, Key, Query, Seq};
-use ov_terms::{Spot, Table, spots_of};
+use ov_model::{Answer, Cell, Seq};
+use ov_terms::{FoundItems, Lookup, Spot, Table};
 use ov_typing::Typed;
 use ov_value::Kind;
 use std::alloc::{AllocError, Global};
@@ -21,20 +24,21 @@ use std::alloc::{AllocError, Global};
 fn groups_in<'b>(
     alloc: Global,
     table: &Table<'_>,
-    cols: &[Col],
+    plan: &Plan<'_>,
     spots: &'b [Spot],
 ) -> Result<Vec<&'b [Spot]>, AllocError>
-    requires { AllFit table.now.schema.now table.now.records.now }
-    ensures { (all : List SpotValue) → spots.now ≡ sorted_by (spot_order table.now.schema.now table.now.records.now cols.now) all
+    requires plan { IsPlan plan.now }
+    requires fit { AllFit plan.now.schema.now table.now.records.now }
+    ensures { (all : List SpotValue) → spots.now ≡ sorted_by (spot_order table.now.records.now plan.now.groups.items) all
         → IfOk result (λ found. map (λ group. pairs_at table.now.records.now group.now) found.items
-        ≡ grouped_pairs table.now.schema.now cols.now (pairs_at table.now.records.now all)) }
+        ≡ grouped_pairs plan.now.schema.now plan.now.query.now.groups (pairs_at table.now.records.now all)) }
 {
-    if cols.is_empty() {
+    if plan.query.groups.as_slice().is_empty() {
         let mut found = Vec::new(alloc);
         found.push(spots)?;
         return Ok(found);
     }
-    let found = runs(alloc, table, cols, spots)?;
+    let found = runs(alloc, table, plan.groups.as_slice(), spots)?;
     Ok(found)
 }
 
@@ -42,21 +46,21 @@ fn groups_in<'b>(
 fn taken<'a, 'b>(
     alloc: Global,
     table: &Table<'a>,
-    query: &'a Query,
+    plan: &'a Plan<'_>,
     grouped: bool,
     spots: &'b [Spot],
 ) -> Result<Vec<&'b [Spot]>, AllocError>
-    requires fit { AllFit table.now.schema.now table.now.records.now }
-    requires free { NoLineages query.now.having }
-    requires grouped { grouped ≡ is_grouped query.now }
+    requires plan { IsPlan plan.now }
+    requires fit { AllFit plan.now.schema.now table.now.records.now }
+    requires grouped { grouped ≡ is_grouped plan.now.query.now }
     ensures { (related : Related) (all : List SpotValue)
-        → spots.now ≡ (if grouped then sorted_by (spot_order table.now.schema.now table.now.records.now query.now.groups) all else all)
+        → spots.now ≡ (if grouped then sorted_by (spot_order table.now.records.now plan.now.groups.items) all else all)
         → IfOk result (λ found. map (λ group. pairs_at table.now.records.now group.now) found.items
-        ≡ places query.now table.now.schema.now related (pairs_at table.now.records.now all)) }
+        ≡ places plan.now.query.now plan.now.schema.now related (pairs_at table.now.records.now all)) }
 {
     if grouped {
-        let groups = groups_in(alloc, table, query.groups.as_slice(), spots)?;
-        let found = held(alloc, table, groups.as_slice(), &query.having)?;
+        let groups = groups_in(alloc, table, plan, spots)?;
+        let found = held(alloc, table, groups.as_slice(), &plan.having)?;
         return Ok(found);
     }
     let found = alone(alloc, spots)?;
@@ -67,16 +71,17 @@ fn taken<'a, 'b>(
 fn ordered<'a, 'b>(
     alloc: Global,
     table: &Table<'a>,
-    order: &[Key],
+    plan: &Plan<'_>,
     groups: &[&'b [Spot]],
 ) -> Result<Vec<Place<'a, 'b>>, AllocError>
-    requires { AllFit table.now.schema.now table.now.records.now }
+    requires plan { IsPlan plan.now }
+    requires fit { AllFit plan.now.schema.now table.now.records.now }
     ensures { (related : Related) → IfOk result (λ found. map (pairs_of table.now.records.now) found.items
-        ≡ sorted_by (λ a b. order_by order.now (here_for table.now.schema.now related a) (here_for table.now.schema.now related b))
+        ≡ sorted_by (λ a b. order_by plan.now.query.now.order (here_for plan.now.schema.now related a) (here_for plan.now.schema.now related b))
         (map (λ group. pairs_at table.now.records.now group.now) groups.now)) }
 {
-    let mut found = places_of(alloc, table, order, groups)?;
-    sort_places(order, &mut found)?;
+    let mut found = places_of(alloc, table, plan.order.as_slice(), groups)?;
+    sort_places(plan.query.order.as_slice(), &mut found)?;
     Ok(found)
 }
 
@@ -100,10 +105,10 @@ fn first_places<'a, 'b, 'c>(places: &'c [Place<'a, 'b>], limit: Option<u64>) -> 
 fn rows_at(
     alloc: Global,
     table: &Table<'_>,
-    items: &Items,
+    items: &FoundItems,
     places: &[Place<'_, '_>],
 ) -> Result<Seq<Seq<Cell>>, AllocError>
-    ensures { IfOk result (λ rows. rows ≡ map (shown table.now.schema.now items.now) (map (pairs_of table.now.records.now) places.now)) }
+    ensures { IfOk result (λ rows. rows ≡ map (shown_by items.now) (map (pairs_of table.now.records.now) places.now)) }
 {
     let mut rows = Vec::with_capacity(alloc, places.len())?;
     for place in places {
@@ -125,12 +130,12 @@ fn copy_of(alloc: Global, kinds: &[Kind]) -> Result<Seq<Kind>, AllocError>
 // Where the query is grouped, sorts the spots by the values of its group columns.
 fn sort_if(
     table: &Table<'_>,
-    cols: &[Col],
+    cols: &[Lookup],
     grouped: bool,
     spots: &mut Vec<Spot>,
 ) -> Result<(), AllocError>
     ensures { OnOk result (spots.new.items
-        ≡ (if grouped then sorted_by (spot_order table.now.schema.now table.now.records.now cols.now) spots.old.items else spots.old.items)) }
+        ≡ (if grouped then sorted_by (spot_order table.now.records.now cols.now) spots.old.items else spots.old.items)) }
 {
     if grouped {
         sort_spots(table, cols, spots)?;
@@ -142,34 +147,38 @@ fn sort_if(
 fn answer_rows<'a>(
     alloc: Global,
     table: &Table<'a>,
-    query: &'a Query,
+    plan: &'a Plan<'_>,
     grouped: bool,
     scan: &Scan,
 ) -> Result<Seq<Seq<Cell>>, AllocError>
     requires records { table.now.records.now ≡ scan.now.records }
     requires paired { length scan.now.vids ≡ length scan.now.picks }
-    requires fit { AllFit table.now.schema.now table.now.records.now }
-    requires filter { NoLineages query.now.filter }
-    requires having { NoLineages query.now.having }
-    requires grouped { grouped ≡ is_grouped query.now }
-    ensures { (related : Related) → IfOk result (λ rows. rows ≡ answer query.now table.now.schema.now related (pairs_shown scan.now)) }
+    requires plan { IsPlan plan.now }
+    requires fit { AllFit plan.now.schema.now table.now.records.now }
+    requires grouped { grouped ≡ is_grouped plan.now.query.now }
+    ensures { (related : Related) → IfOk result (λ rows. rows ≡ answer plan.now.query.now plan.now.schema.now related (pairs_shown scan.now)) }
 {
-    let spots = spots_of(alloc, scan)?;
-    let mut kept = table.kept(alloc, spots.as_slice(), &query.filter)?;
-    sort_if(table, query.groups.as_slice(), grouped, &mut kept)?;
-    let groups = taken(alloc, table, query, grouped, kept.as_slice())?;
-    let places = ordered(alloc, table, query.order.as_slice(), groups.as_slice())?;
-    let first = first_places(places.as_slice(), query.limit);
-    let rows = rows_at(alloc, table, &query.items, first)?;
+    let mut kept = table.kept(
+        alloc,
+        scan.vids.as_slice(),
+        scan.picks.as_slice(),
+        &plan.filter,
+    )?;
+    sort_if(table, plan.groups.as_slice(), grouped, &mut kept)?;
+    let groups = taken(alloc, table, plan, grouped, kept.as_slice())?;
+    let places = ordered(alloc, table, plan, groups.as_slice())?;
+    let first = first_places(places.as_slice(), plan.query.limit);
+    let rows = rows_at(alloc, table, &plan.items, first)?;
     Ok(rows)
 }
 
 /// The answer of a query over the versions of a scan, where the rows fit the schema that the query was typed with, and its
 /// conditions name no lineage.
 ///
-/// Memory goes by the spots that WHERE takes, 16 bytes each, and by the places of the answer's rows; a row has values of its own
-/// only in the answer. Time: one pass over the spots, and a sort of those that are taken where the query is grouped, and of the
-/// places where it has ORDER BY.
+/// The query's columns are looked up once, before the first row. Memory goes by the spots that WHERE takes, 16 bytes each, and by
+/// the places of the answer's rows; a row that WHERE drops takes none, and a row has values of its own only in the answer. Time:
+/// one pass over the rows, and a sort of those that are taken where the query is grouped and they aren't in order already, and of
+/// the places where it has ORDER BY.
 pub fn run_typed(alloc: Global, typed: &Typed<'_>, scan: &Scan) -> Result<Answer, AllocError>
     requires sound { IsSound typed.now.schema scan.now }
     requires filter { NoLineages typed.now.query.filter }
@@ -178,12 +187,11 @@ pub fn run_typed(alloc: Global, typed: &Typed<'_>, scan: &Scan) -> Result<Answer
     ensures rows { (related : Related) → IfOk result (λ made. made.rows
         ≡ answer typed.now.query typed.now.schema related (pairs_shown scan.now)) }
 {
-    let query = typed.query();
+    let plan = plan_of(alloc, typed.query(), typed.schema())?;
     let table = Table {
-        schema: typed.schema(),
-        records: scan.records.as_slice(),
+        records: &scan.records,
     };
-    let rows = answer_rows(alloc, &table, query, typed.is_grouped(), scan)?;
+    let rows = answer_rows(alloc, &table, &plan, typed.is_grouped(), scan)?;
     let kinds = copy_of(alloc, typed.kinds())?;
     Ok(Answer { kinds, rows })
 }

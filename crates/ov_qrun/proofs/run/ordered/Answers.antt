@@ -5,10 +5,11 @@ use Rattle.ov_qrun.proofs.run.ordered.Goals as goal
 
 pub returns : goal.returns
 returns c = λ related.
-    let schema = c.args.table.now.schema.now in
+    let plan = c.args.plan.now in
     let records = c.args.table.now.records.now in
-    let order = c.args.order.now in
-    rw c.in_ok-sort_places.ensures
-    (ordered-are schema records related order c.in_ok-found.found.items c.requires c.in_ok-found.ensures.keys
-    ∙ ap (sorted_by (λ a b. order_by order (here_for schema related a) (here_for schema related b)))
+    let order = plan.query.now.order in
+    rw (c.in_ok-sort_places.ensures, c.as_slice-2.ensures)
+    (ordered-are plan.schema.now records related order plan.order.items c.in_ok-found.found.items c.requires.fit c.requires.plan.order
+    (rw c.as_slice.ensures.value at c.in_ok-found.ensures.keys)
+    ∙ ap (sorted_by (λ a b. order_by order (here_for plan.schema.now related a) (here_for plan.schema.now related b)))
     (pairs-placed (λ group. group.now) records c.in_ok-found.found.items c.args.groups.now c.in_ok-found.ensures.groups))

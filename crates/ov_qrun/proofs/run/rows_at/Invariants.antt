@@ -1,8 +1,8 @@
 use Rattle.std.proofs.Common.{◌≡◌, map, take}
-use Rattle.ov_model.specs.Answers.{shown}
+use Rattle.ov_terms.specs.Finding.{shown_by}
 use Rattle.ov_qrun.specs.Keys.{pairs_of}
 use Rattle.ov_qrun.proofs.run.rows_at.Given as goal
 
 abbrev pub invariant-loop-place : goal.invariant-loop-place
 invariant-loop-place l =
-    l.rows.items ≡ map (shown l.table.schema.now l.items) (map (pairs_of l.table.records.now) (take l.place-index l.places))
+    l.rows.items ≡ map (shown_by l.items) (map (pairs_of l.table.records.now) (take l.place-index l.places))
