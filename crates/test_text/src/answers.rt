@@ -5,6 +5,7 @@ ghost use Rattle.ov_fetch.specs.Scans.{IsSound};
 
 use crate::asked::query;
 use crate::schemas::{PEOPLE, schema};
+use crate::tables::table_of;
 use ov_fetch::{Scan, Vids};
 use ov_member::Members;
 use ov_model::Cell;
@@ -43,7 +44,8 @@ fn scan(alloc: Global, schema: &Schema, count: usize) -> Result<Scan, Fail>
     if vids.len() != members.len() {
         return Err("a version without records")?;
     }
-    Ok(scan_of(alloc, schema, Vids::new(vids), records, members.as_slice())?)
+    let table = table_of(alloc, schema, records.as_slice())?;
+    Ok(scan_of(alloc, schema, Vids::new(vids), table, members.as_slice())?)
 }
 
 fn cell_said(alloc: Global, cell: &Cell) -> Result<String, AllocError> {

@@ -29,7 +29,7 @@ fn said(alloc: Global, why: CsvErr) -> Result<String, Fail> {
 // What the rows of the file are written as, or what was said of it.
 fn outcome(alloc: Global, schema: &Schema, file: &[u8]) -> Result<Vec<u8>, Fail> {
     match read_csv(alloc, schema, file) {
-        Ok(rows) => Ok(write_rows(alloc, schema, rows.as_slice())?),
+        Ok(rows) => Ok(write_rows(alloc, schema, &rows)?),
         Err(why) => Ok(Vec::from_slice(alloc, said(alloc, why)?.as_bytes())?),
     }
 }

@@ -25,6 +25,8 @@ mod schemas;
 #[cfg(test)]
 mod speed;
 #[cfg(test)]
+mod tables;
+#[cfg(test)]
 mod terms;
 #[cfg(test)]
 mod tokens;

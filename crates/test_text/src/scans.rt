@@ -4,10 +4,11 @@ ghost use Rattle.std.specs.Bool.{OnTrue};
 ghost use Rattle.ov_fetch.specs.Scans.{AllStand};
 
 use crate::schemas::{PEOPLE, schema};
+use crate::tables::table_of;
 use ov_csv::write_csv;
 use ov_fetch::Vids;
 use ov_read::scan_of;
-use ov_segment::{Record, read_segment};
+use ov_segment::{RecordTable, read_segment};
 use std::alloc::Global;
 use std::test::Fail;
 
@@ -17,7 +18,7 @@ const SEGMENT: &[u8] = b"\0\0\0\x01\0\0\0\x17\0\0\0\0\0\0\0\x01\0\0\0\x03ann\0\0
 \0\0\0\x03\0\0\0\x17\0\0\0\0\0\0\0\x02\0\0\0\x03bob\0\0\0\0\0\0\0\x19\
 \0\0\0\x04\0\0\0\x16\0\0\0\0\0\0\0\x03\0\0\0\x02cy\0\0\0\0\0\0\0\x1e";
 
-fn all_stand(records: &[Record], places: &[usize]) -> bool
+fn all_stand(records: &RecordTable, places: &[usize]) -> bool
     ensures { OnTrue result (AllStand records.now places.now) }
 {
     for place in places {
@@ -34,8 +35,9 @@ fn people_at(alloc: Global, places: &[usize]) -> Result<Vec<u8>, Fail> {
     let Some(records) = read_segment(alloc, &schema, SEGMENT)? else {
         return Err("no segment")?;
     };
-    let scan = scan_of(alloc, &schema, Vids::new(Vec::new(alloc)), records, &[])?;
-    if !all_stand(scan.records.as_slice(), places) {
+    let table = table_of(alloc, &schema, records.as_slice())?;
+    let scan = scan_of(alloc, &schema, Vids::new(Vec::new(alloc)), table, &[])?;
+    if !all_stand(&scan.records, places) {
         return Err("a place without a record")?;
     }
     Ok(write_csv(alloc, &schema, &scan, places)?)

@@ -74,7 +74,7 @@ fn count_rows(rt: HostRuntime, file: &[u8]) -> Result<Option<usize>, Fail> {
     };
     let read = start.elapsed(&rt)?.as_millis();
     let start = Instant::now(&rt)?;
-    let text = write_rows(rt.alloc(), &schema, rows.as_slice())?;
+    let text = write_rows(rt.alloc(), &schema, &rows)?;
     let written = start.elapsed(&rt)?.as_millis();
     println!(rt; "rows {read} ms, text {written} ms")?;
     Ok(if text.as_slice() == file {
