@@ -27,7 +27,7 @@ pub record AreSorted (kept got : List Record) : Type 0 where
 pub sorted_are : (schema : Shape) (kept got : List Record) → AreSorted kept got → AllByRecursion (IsRecord schema) kept → AreRecords schema 0 got
 sorted_are schema kept got s all = subst (AreRecords schema 0) (sym s.got_is) (in_order schema s.sorted s.rising (sorted_all schema kept s.sorted s.permutation all))
 
-same_record : (rid : ℕ) (kept got : List Record) → AreSorted kept got → record_of got rid ≡ record_of kept rid
+pub same_record : (rid : ℕ) (kept got : List Record) → AreSorted kept got → record_of got rid ≡ record_of kept rid
 same_record rid kept got s = ap (λ (l : List Record). record_of l rid) s.got_is ∙ same_after_dedup rid s.sorted ∙ same_after_sort rid kept s.sorted s.stable
 
 and_true : (a b : Bool) → (a && b) ≡ true → (a ≡ true) × (b ≡ true)

@@ -7,3 +7,4 @@ pub mod Gathered
 pub mod Lacking
 pub mod Ordered
 pub mod Asked
+pub mod Counted

@@ -81,6 +81,9 @@ pub fn rows_and_rids_of<H: Host>(
     let mut records = kept;
     records.sort_by_rid()?;
     records.drop_repeats();
+    if records.len() == wanted.len() as usize {
+        return Ok(SegmentsRead { records, rids });
+    }
     let found = rids_in(alloc, &records)?;
     let missing = wanted.without(alloc, &found)?;
     match place_lacking(members, &missing) {

@@ -7,25 +7,9 @@ use Rattle.std.proofs.lemmas.List.Elements.{All-nil, All-cons, All-head, All-tai
 use Rattle.ov_member.specs.Lists.{run}
 use Rattle.ov_member.specs.Rids.{RiseFrom, AreRids, has, shared}
 use Rattle.ov_member.proofs.RunLemmas.{has-run_in, has-run_past}
+use Rattle.ov_fetch.proofs.Counted.{filtered_le}
 use Rattle.ov_read.specs.Agreement.{IsBorneOut}
 use Rattle.ov_read.specs.Counting.{capped}
-
-pub filtered_le : {X : Type 0} (p : X → Bool) (xs : List X) → length (filter p xs) ≤ length xs
-filtered_le p [] = omega arith
-filtered_le {X = X} p (x ∷ xs) = by (p x) (filter p xs) (filtered_le p xs)
-  where
-    by : (b : Bool) (ys : List X) → length ys ≤ length xs → length (cond b (x ∷ ys) ys) ≤ suc (length xs)
-    by true ys le = omega (arith, le)
-    by false ys le = omega (arith, le)
-
--- a filter that keeps as many keeps all
-pub kept_all : {X : Type 0} (p : X → Bool) (xs : List X) → length (filter p xs) ≡ length xs → filter p xs ≡ xs
-kept_all p [] e = refl
-kept_all {X = X} p (x ∷ xs) e = by (p x) (filter p xs) (filtered_le p xs) (λ same. kept_all p xs same) e
-  where
-    by : (b : Bool) (ys : List X) → length ys ≤ length xs → (length ys ≡ length xs → ys ≡ xs) → length (cond b (x ∷ ys) ys) ≡ suc (length xs) → cond b (x ∷ ys) ys ≡ x ∷ xs
-    by true ys le rest same = ap (λ (l : List X). x ∷ l) (rest (omega (arith, same)))
-    by false ys le rest same = absurd (omega (arith, le, same))
 
 -- the test holds of each
 pub passes_all : {X : Type 0} (p : X → Bool) (xs : List X) → length (filter p xs) ≡ length xs → All (λ x. p x ≡ true) xs

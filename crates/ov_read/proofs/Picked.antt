@@ -24,7 +24,7 @@ use Rattle.ov_fetch.proofs.Running.{ascend_rise}
 use Rattle.ov_read.specs.Picking.{ArePicks, IsPick, places_from, places_of}
 use Rattle.ov_read.specs.Found.{AreFirst, IsPicked}
 use Rattle.ov_read.specs.Gathering.{AreFull, IsNotFull, IsRowsOf}
-use Rattle.ov_read.proofs.Bearing.{kept_all}
+use Rattle.ov_fetch.proofs.Counted.{ascending, kept_all, turned}
 
 abbrev pub no_record : Record
 no_record = record { rid = 0; row = [] }
@@ -94,21 +94,6 @@ all_places Q at (r ∷ records) rids h =
     by : (b : Bool) → has rids r.rid ≡ b → All Q (places_from (suc at) records rids) → All Q (if b then at ∷ places_from (suc at) records rids else places_from (suc at) records rids)
     by true is rest = All-cons Q at (places_from (suc at) records rids) (subst Q here (h 0 (omega arith) is)) rest
     by false is rest = rest
-
-and_turned : (a b : Bool) → (a && b) ≡ (b && a)
-and_turned true true = refl
-and_turned true false = refl
-and_turned false true = refl
-and_turned false false = refl
-
-ascending : (schema : Shape) (got : List Record) → AreRecords schema 0 got → AreRids (rids_of got)
-ascending schema got are = ascend_rise 0 (rids_of got) (records_ascend schema 0 got are)
-
--- of two sets, the ones of the first that the second has are the ones of the second that the first has
-turned : (xs ys : List ℕ) → AreRids xs → AreRids ys → filter (has ys) xs ≡ filter (has xs) ys
-turned xs ys h k =
-    same_from 1 1 (filter (has ys) xs) (filter (has xs) ys) (RiseFrom-filter (has ys) 1 xs h) (RiseFrom-filter (has xs) 1 ys k)
-    (λ n. has-filter (has ys) xs n ∙ (and_turned (has xs n) (has ys n) ∙ sym (has-filter (has xs) ys n)))
 
 -- where there are as many positions as rids, each rid has its record
 all_found : (schema : Shape) (got : List Record) (rids : List ℕ) → AreRecords schema 0 got → AreRids rids → length (places_of got rids) ≡ length rids → filter (has rids) (rids_of got) ≡ rids
