@@ -1,10 +1,10 @@
 -- What a command that a line asks for is known to have.
 --     IsAsked command      a command of the forms that the program has, with what its form reads
 --     AsksBuilt c      a comment, or such a command
-use Rattle.std.specs.Prelude.{◌≡◌, ◌≢◌, ◌≤◌, [], length, Option, Some, None, IsTrue}
+use Rattle.std.specs.Prelude.{◌≡◌, ◌≢◌, ◌≤◌, ◌+◌, [], length, Option, Some, None, IsTrue}
 use Rattle.ov_value.specs.Naming.{is_name}
 use Rattle.ov_model.specs.declared.command.Command.{Command}
-use Rattle.ov_model.specs.declared.command.Command.TheVariants.{Init, Checkout, Commit, Run, Log, Ls, DropCvd}
+use Rattle.ov_model.specs.declared.command.Command.TheVariants.{Init, Checkout, Commit, Run, Log, Ls, DropCvd, Generate}
 
 abbrev pub IsAsked : Command → Type 0
 IsAsked (Init cvd schema file) = IsTrue (is_name cvd)
@@ -14,6 +14,8 @@ IsAsked (Run text) = length text ≤ 65536
 IsAsked (Log cvd) = Unit {0}
 IsAsked Ls = Unit {0}
 IsAsked (DropCvd cvd) = Unit {0}
+IsAsked (Generate cvd seed rows versions) =
+    IsTrue (is_name cvd) × (1 ≤ rows) × (1 ≤ versions) × (versions ≤ 65535) × (rows + versions ≤ 1000000)
 IsAsked _ = ⊥
 
 abbrev pub AsksBuilt : Option Command → Type 0

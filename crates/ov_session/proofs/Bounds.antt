@@ -1,12 +1,17 @@
 -- How many bytes of pages a command fetches.
-use Rattle.std.proofs.Common.{◌≡◌, ◌+◌, ℕ, true, List, Some, None, refl, sym, subst, arith}
-use Rattle.std.specs.Prelude.{◌≤◌, Option, is_some}
+use Rattle.std.proofs.Common.{◌≡◌, ◌∙◌, ◌+◌, inr, ℕ, true, List, [], Some, None, refl, sym, ap, subst, arith}
+use Rattle.std.specs.Prelude.{◌≤◌, IsErrOf, Ok, Err, Option, Result, is_some}
 use Rattle.std.specs.Option.{option_or}
 use Rattle.ov_host.specs.Host.{State}
 use Rattle.ov_core.specs.Held.{Held}
 use Rattle.ov_model.specs.Book.{Row}
+use Rattle.ov_model.specs.Line.{Line, Comment, Asks, Refused}
+use Rattle.ov_model.specs.declared.command.Command.{Command}
+use Rattle.ov_model.specs.declared.command.Command.TheVariants as asks
 use Rattle.ov_read.specs.Sizes.{bytes_for}
-use Rattle.ov_session.specs.Bounds.{bytes_in, if_allowed}
+use Rattle.ov_session.specs.Bounds.{IsFetched, IsFetchedBy, IsReading, IsReadingCommand, bytes_in, command_fetch, if_allowed, may_fetch}
+use Rattle.ov_session.specs.declared.errors.EndErr.{EndErr}
+use Rattle.ov_session.specs.declared.errors.EndErr.TheVariants as ending
 use Rattle.ov_store.specs.Committing.{Set, commit_off, parents_off_in, to_off}
 use Rattle.ov_store.specs.Scanning.{set_in}
 use Rattle.ov_store.specs.declared.errors.StoreErr.{StoreErr}
@@ -16,6 +21,54 @@ fetched_none a n = omega arith
 
 pub fetched_still : (old new : State) (n : ℕ) → new.fetched ≡ old.fetched → new.fetched ≤ old.fetched + n
 fetched_still old new n same = omega (arith, same)
+
+-- ---- a line
+
+-- nothing was read, and the store is as it was
+pub unread_command : (user : List ℕ) (command : Command) (held : Held) (fault : Type 0) (s : State) → IsFetched user command held held fault s s
+unread_command user (asks.Generate cvd seed rows versions) held fault s =
+    record { begun = []; are = tt; few = omega arith; last = λ fine. inr refl; fetched = omega arith }
+unread_command user command held fault s = omega arith
+
+pub unread_line : (user : List ℕ) (l : Line) (held : Held) (fault : Type 0) (s : State) → IsFetchedBy user l held held fault s s
+unread_line user Comment held fault s = omega arith
+unread_line user (Asks command) held fault s = unread_command user command held fault s
+unread_line user (Refused refusal) held fault s = omega arith
+
+-- what is printed then reads nothing
+pub printed_command : (user : List ℕ) (command : Command) (held now : Held) (P Q : Type 0) (old mid new : State) → (P → Q) → new.fetched ≡ mid.fetched
+    → IsFetched user command held now P old mid → IsFetched user command held now Q old new
+printed_command user (asks.Generate cvd seed rows versions) held now P Q old mid new to same f =
+    record { begun = f.begun; are = f.are; few = f.few; last = λ fine. f.last (λ p. fine (to p)); fetched = omega (arith, f.fetched, same) }
+printed_command user command held now P Q old mid new to same f = omega (arith, f, same)
+
+pub printed_line : (user : List ℕ) (l : Line) (held now : Held) (P Q : Type 0) (old mid new : State) → (P → Q) → new.fetched ≡ mid.fetched → IsFetchedBy user l held now P old mid
+    → IsFetchedBy user l held now Q old new
+printed_line user Comment held now P Q old mid new to same f = omega (arith, f, same)
+printed_line user (Asks command) held now P Q old mid new to same f = printed_command user command held now P Q old mid new to same f
+printed_line user (Refused refusal) held now P Q old mid new to same f = omega (arith, f, same)
+
+-- a line that changes no store
+reading_command : (user : List ℕ) (command : Command) (before now : Held) (fault : Type 0) (old new : State) → IsReadingCommand command → IsFetched user command before now fault old new
+    → new.fetched ≤ old.fetched + command_fetch before.numbers user command
+reading_command user (asks.Generate cvd seed rows versions) before now fault old new reads f = absurd reads
+reading_command user command before now fault old new reads f = f
+
+pub reading_fetched : (user : List ℕ) (l : Line) (before now : Held) (fault : Type 0) (old new : State) → IsReading l → IsFetchedBy user l before now fault old new
+    → new.fetched ≤ old.fetched + may_fetch before.numbers user l
+reading_fetched user Comment before now fault old new reads f = omega (arith, f)
+reading_fetched user (Asks command) before now fault old new reads f = reading_command user command before now fault old new reads f
+reading_fetched user (Refused refusal) before now fault old new reads f = omega (arith, f)
+
+-- ---- a fault of the host
+
+pub host_again : {A B : Type 0} → (r : Result A EndErr) (q : Result B EndErr) (e : EndErr) → r ≡ Err e → q ≡ Err e → IsErrOf r ending.Host → IsErrOf q ending.Host
+host_again r q e is as_ host = let same : e ≡ ending.Host = cc in as_ ∙ ap Err same
+
+pub ok_no_host : {A : Type 0} → (r : Result A EndErr) (a : A) → r ≡ Ok a → IsErrOf r ending.Host → ⊥
+ok_no_host r a is host = cc
+
+-- ---- a command
 
 -- where the dataset is there
 pub fetched_there : (o : Option Set) (vids : List ℕ) (a b : ℕ) → (set : Set) × (o ≡ Some set) → ((set : Set) → o ≡ Some set → b ≤ a + bytes_for set vids) → b ≤ a + bytes_in o vids

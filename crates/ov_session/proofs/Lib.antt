@@ -12,3 +12,4 @@ pub mod Numbering
 pub mod Meeting
 pub mod Shaping
 pub mod Querying
+pub mod Making

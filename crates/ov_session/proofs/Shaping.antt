@@ -1,5 +1,5 @@
 -- A command is of a shape that is built, or a query that is refused for its shape; and what a line that asks for it comes to.
-use Rattle.std.proofs.Common.{◌≡◌, ◌∙◌, ◌⊎◌, inl, inr, ◌+◌, ℕ, Bool, true, false, List, Some, None, refl, sym, ap, subst, arith}
+use Rattle.std.proofs.Common.{◌≡◌, ◌∙◌, ◌⊎◌, inl, inr, ℕ, Bool, true, false, List, Some, None, refl, sym, ap, subst, arith}
 use Rattle.std.specs.Prelude.{◌≤◌, IfOk, OnOk, Option, Ok, Err, Result, if◌then◌else◌, is_ok}
 use Rattle.ov_host.specs.declared.area.Extent.{Extent}
 use Rattle.ov_host.specs.Host.{State}
@@ -28,9 +28,10 @@ use Rattle.ov_session.proofs.Meeting.{refused_asks, same_command}
 use Rattle.ov_session.proofs.Saying.{Says, comment_none, line_unserved, says_broken, says_refusal, says_reply}
 use Rattle.ov_session.proofs.Standing.{on_any}
 use Rattle.ov_session.specs.Asking.{line_asked}
-use Rattle.ov_session.specs.Bounds.{IsReading, IsReadingCommand, command_fetch, is_command_off, is_off, may_fetch}
+use Rattle.ov_session.specs.Bounds.{IsFetched, IsFetchedBy, IsReading, IsReadingCommand, is_command_off, is_off}
 use Rattle.ov_session.specs.Commands.{IsDamageOf, IsDamaged, IsOther, IsSaid, MeetsDamage, is_comment_in, is_comment_of, is_refused}
 use Rattle.ov_session.specs.Replying.{IsReplyTo}
+use Rattle.ov_session.specs.Standing.{IsIdle, IsIdleBy, IsIdleOn}
 use Rattle.ov_session.specs.declared.errors.EndErr.{EndErr}
 use Rattle.ov_session.specs.declared.serving.Served.{Served}
 use Rattle.ov_store.specs.Kept.{Kept}
@@ -137,15 +138,17 @@ module _ (user : List ℕ) (command : Command) (l : Line) (is : l ≡ served_lin
         by (inl asks_) = still (subst IsReading asks_.0 reads)
         by (inr other) = ap (λ (k : Kept). k.held) (others other.0 other.2).store
 
-    pub fetched_shaped : new.fetched ≤ old.fetched + command_fetch before.held.numbers user command → new.fetched ≤ old.fetched + may_fetch before.held.numbers user l
-    fetched_shaped fetched = by (line_shape l command is)
+    pub fetched_shaped : (fault : Type 0) → IsFetched user command before.held now.held fault old new → IsFetchedBy user l before.held now.held fault old new
+    fetched_shaped fault fetched = by (line_shape l command is)
       where
-        still : (a b n : ℕ) → b ≡ a → b ≤ a + n
-        still a b n same = omega (arith, same)
+        still : (a b : ℕ) → b ≡ a → b ≤ a
+        still a b same = omega (arith, same)
 
-        by : Shape l command → new.fetched ≤ old.fetched + may_fetch before.held.numbers user l
-        by (inl asks_) = subst (λ (x : Line). new.fetched ≤ old.fetched + may_fetch before.held.numbers user x) (sym asks_.0) fetched
-        by (inr other) = still old.fetched new.fetched (may_fetch before.held.numbers user l) (ap (λ (s : State). s.fetched) (others other.0 other.2).host)
+        by : Shape l command → IsFetchedBy user l before.held now.held fault old new
+        by (inl asks_) = subst (λ (x : Line). IsFetchedBy user x before.held now.held fault old new) (sym asks_.0) fetched
+        by (inr other) =
+            subst (λ (x : Line). IsFetchedBy user x before.held now.held fault old new) (sym other.1)
+            (still old.fetched new.fetched (ap (λ (s : State). s.fetched) (others other.0 other.2).host))
 
     pub unread_shaped : (is_command_off before.held.numbers user command ≡ true → new.fetched ≡ old.fetched) → is_off before.held.numbers user l ≡ true → new.fetched ≡ old.fetched
     unread_shaped unread off_ = by (line_shape l command is)
@@ -197,14 +200,23 @@ module _ (user : List ℕ) (command : Command) (l : Line) (is : l ≡ served_lin
   module _ (before now : Kept) (stage staged : Staged) (old new : State) (why : EndErr)
       (others : (refusal : Refusal) → if_built command ≡ off refusal → IsOther refusal (Err why) before now stage staged old new) where
     abbrev IsMet : ℕ → Type 0
-    IsMet page = (asked : Command) × (l ≡ Asks asked) × IsDamaged user asked stage before.held new page
+    IsMet page = (asked : Command) × (l ≡ Asks asked) × IsDamaged user asked stage before.held now.held new page
 
-    pub damaged_shaped : IsDamageOf (IsDamaged user command stage before.held new) why → IsDamageOf IsMet why
+    pub damaged_shaped : IsDamageOf (IsDamaged user command stage before.held now.held new) why → IsDamageOf IsMet why
     damaged_shaped damaged = by (line_shape l command is)
       where
         by : Shape l command → IsDamageOf IsMet why
-        by (inl asks_) = damage_wider (IsDamaged user command stage before.held new) IsMet why (λ page met. (command, asks_.0, met)) damaged
+        by (inl asks_) = damage_wider (IsDamaged user command stage before.held now.held new) IsMet why (λ page met. (command, asks_.0, met)) damaged
         by (inr other) = subst (IsDamageOf IsMet) (sym (others other.0 other.2).reply) tt
+
+    pub idle_shaped : IsIdleBy command why before now stage staged old new → IsIdleOn l why before now stage staged old new
+    idle_shaped idle = by (line_shape l command is)
+      where
+        by : Shape l command → IsIdleOn l why before now stage staged old new
+        by (inl asks_) = subst (λ (x : Line). IsIdleOn x why before now stage staged old new) (sym asks_.0) idle
+        by (inr other) =
+            subst (λ (x : Line). IsIdleOn x why before now stage staged old new) (sym other.1)
+            (subst (λ (e : EndErr). IsIdle e before now stage staged old new) (sym (others other.0 other.2).reply) tt)
 
     module _ (n : ℕ) (w : World) (line : List ℕ) (asked : line_asked user line ≡ l) (at : IsAtWorld w before.held old) where
       pub broken_shaped : (if_built command ≡ done command → Breaks (permitted w (session_of stage.files user) command) (session_of stage.files user) w old new)

@@ -9,13 +9,16 @@ use Rattle.ov_core.specs.Held.{Held}
 use Rattle.law_runs.proofs.Found.{at_same_tape, printed_at}
 use Rattle.ov_fetch.specs.Extents.{Looked}
 use Rattle.ov_model.specs.Replies.{reply_text}
+use Rattle.ov_model.specs.Line.{Line, Comment, Asks, Refused}
 use Rattle.ov_model.specs.World.{World}
+use Rattle.ov_model.specs.declared.command.Command.{Command}
+use Rattle.ov_model.specs.declared.command.Command.TheVariants as asks
 use Rattle.ov_model.specs.declared.reply.Reply.{Reply}
 use Rattle.ov_session.proofs.Calls.{stays_still}
 use Rattle.ov_session.proofs.Saying.{Says}
 use Rattle.ov_session.specs.Commands.{IfDamaged, IsNoDamage, IsNoHost, IsUnsaid}
 use Rattle.ov_session.specs.Errors.{end_of, reply_of}
-use Rattle.ov_session.specs.Standing.{Idle, IsAtSilently, IsAtSome, IsIdle}
+use Rattle.ov_session.specs.Standing.{Idle, IsAtSilently, IsAtSome, IsIdle, IsIdleBy, IsIdleOn, IsUnstaged}
 use Rattle.ov_session.specs.declared.errors.EndErr.{EndErr}
 use Rattle.ov_session.specs.declared.errors.EndErr.TheVariants as ending
 use Rattle.ov_session.specs.declared.serving.Served.{Served}
@@ -100,13 +103,39 @@ module _ (before now : Kept) (stage staged : Staged) (old new : State) where
   idle_given (Err ending.Stage) alone idle = idle
   idle_given (Err (ending.Damaged area at)) alone idle = absurd alone
 
-  -- a print
-  pub idle_unsaid : (result : Result Served EndErr) → IfErr result IsUnsaid → IfErr result (λ e. IsIdle e before now stage staged old new)
-  idle_unsaid (Ok what) alone = tt
-  idle_unsaid (Err ending.Host) alone = tt
-  idle_unsaid (Err ending.Memory) alone = tt
-  idle_unsaid (Err ending.Stage) alone = absurd alone
-  idle_unsaid (Err (ending.Damaged area at)) alone = absurd alone
+  -- a print, whatever the line
+  unsaid_command : (command : Command) (e : EndErr) → IsUnsaid e → IsIdleBy command e before now stage staged old new
+  unsaid_command (asks.Generate cvd seed rows versions) ending.Host alone = tt
+  unsaid_command (asks.Generate cvd seed rows versions) ending.Memory alone = tt
+  unsaid_command (asks.Generate cvd seed rows versions) ending.Stage alone = absurd alone
+  unsaid_command (asks.Generate cvd seed rows versions) (ending.Damaged area at) alone = absurd alone
+  unsaid_command command ending.Host alone = tt
+  unsaid_command command ending.Memory alone = tt
+  unsaid_command command ending.Stage alone = absurd alone
+  unsaid_command command (ending.Damaged area at) alone = absurd alone
+
+  pub unsaid_line : (l : Line) (e : EndErr) → IsUnsaid e → IsIdleOn l e before now stage staged old new
+  unsaid_line (Asks command) e alone = unsaid_command command e alone
+  unsaid_line Comment ending.Host alone = tt
+  unsaid_line Comment ending.Memory alone = tt
+  unsaid_line Comment ending.Stage alone = absurd alone
+  unsaid_line Comment (ending.Damaged area at) alone = absurd alone
+  unsaid_line (Refused refusal) ending.Host alone = tt
+  unsaid_line (Refused refusal) ending.Memory alone = tt
+  unsaid_line (Refused refusal) ending.Stage alone = absurd alone
+  unsaid_line (Refused refusal) (ending.Damaged area at) alone = absurd alone
+
+  pub idle_unsaid_on : (l : Line) (result : Result Served EndErr) → IfErr result IsUnsaid → IfErr result (λ e. IsIdleOn l e before now stage staged old new)
+  idle_unsaid_on l (Ok what) alone = tt
+  idle_unsaid_on l (Err e) alone = unsaid_line l e alone
+
+  -- a dataset that is generated
+  pub idle_unstaged : (result : Result Reply EndErr) → (IsErrOf result ending.Stage → ⊥) → staged.files ≡ stage.files → IfErr result (λ e. IsUnstaged e stage staged)
+  idle_unstaged (Ok reply) alone files = tt
+  idle_unstaged (Err ending.Host) alone files = tt
+  idle_unstaged (Err ending.Memory) alone files = tt
+  idle_unstaged (Err ending.Stage) alone files = absurd (alone refl)
+  idle_unstaged (Err (ending.Damaged area at)) alone files = files
 
 pub the_end : (a b : EndErr) → Some a ≡ Some b → a ≡ b
 the_end a b is = ap (λ o. elim o as (λ _. EndErr) [ None ↦ a | Some x ↦ x ]) is

@@ -1,17 +1,23 @@
 -- How many bytes of pages serving a line of a user may fetch.
 --     may_fetch n user line      of a checkout and of a commit what the versions that it lists have, of a query what it reads, and
---                                nothing where they are refused before that; of every other line nothing
+--                                nothing where they are refused before that; of every other line but a `generate` nothing
+--     IsFetchedBy user line ..      no more was fetched; of a `generate` no more than its versions read of their parents
 --     IsReading line      the line changes no store
---     is_off n user line      the numbers refuse a checkout's versions or a commit's parents, or a query is refused
-use Rattle.std.specs.Prelude.{ℕ, Bool, false, List, Option, Some, None, is_some}
+--     is_off n user line      the numbers refuse a checkout's versions, a commit's parents or the name of a `generate`, or a query is
+--                             refused
+use Rattle.std.specs.Prelude.{◌≤◌, ◌+◌, ℕ, Bool, false, List, Option, Some, None, is_some}
 use Rattle.ov_host.specs.declared.area.Extent.{Extent}
+use Rattle.ov_host.specs.Host.{State}
 use Rattle.ov_catalog.specs.Numbers.{Numbers}
+use Rattle.ov_core.specs.Held.{Held}
+use Rattle.ov_generate.specs.Reads.{HasFetched}
 use Rattle.ov_model.specs.Line.{Line, Asks}
 use Rattle.ov_model.specs.declared.command.Command.{Command}
 use Rattle.ov_model.specs.declared.command.Command.TheVariants as asks
 use Rattle.ov_query.specs.Queries.{query_fetch, query_off}
 use Rattle.ov_read.specs.Sizes.{bytes_for}
 use Rattle.ov_store.specs.Committing.{Set, parents_off_in}
+use Rattle.ov_store.specs.Refusals.{new_off}
 use Rattle.ov_store.specs.Scanning.{scan_off, set_in}
 use Rattle.ov_store.specs.declared.errors.StoreErr.{StoreErr}
 
@@ -35,11 +41,22 @@ abbrev pub may_fetch : Numbers Extent Extent → List ℕ → Line → ℕ
 may_fetch n user (Asks command) = command_fetch n user command
 may_fetch n user _ = 0
 
+-- Of a `generate` each version's parent is read twice, by what the store kept when that version was begun. The store kept `before`,
+-- and keeps `now`; whether the host failed is `fault`.
+abbrev pub IsFetched : List ℕ → Command → Held → Held → Type 0 → State → State → Type 0
+IsFetched user (asks.Generate cvd seed rows versions) before now fault old new = HasFetched cvd seed rows versions before now fault old new
+IsFetched user command before now fault old new = new.fetched ≤ old.fetched + command_fetch before.numbers user command
+
+abbrev pub IsFetchedBy : List ℕ → Line → Held → Held → Type 0 → State → State → Type 0
+IsFetchedBy user (Asks command) before now fault old new = IsFetched user command before now fault old new
+IsFetchedBy user line before now fault old new = new.fetched ≤ old.fetched
+
 -- what is refused so reads nothing
 abbrev pub is_command_off : Numbers Extent Extent → List ℕ → Command → Bool
 is_command_off n user (asks.Checkout cvd vids file table) = is_some (scan_off n cvd vids)
 is_command_off n user (asks.Commit cvd vids file message added) = is_some (parents_off_in (set_in n cvd) vids)
 is_command_off n user (asks.Run text) = is_some (query_off n user text)
+is_command_off n user (asks.Generate cvd seed rows versions) = is_some (new_off n cvd)
 is_command_off n user _ = false
 
 abbrev pub is_off : Numbers Extent Extent → List ℕ → Line → Bool

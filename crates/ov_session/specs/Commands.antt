@@ -1,7 +1,8 @@
 -- What serving a command keeps to on every host and stage.
 --     Goes old new      a host: no call changes whether it tells its bytes, and its counts of faults and of fetched bytes don't fall
 --     Attended old new      a stage
---     IsDamaged user command stage held s page      what the user's command reads is damaged, and nothing refuses it before that
+--     IsDamaged user command stage before now s page      what the user's command reads is damaged, and nothing refuses it before
+--                                                         that; a `generate` by what the store keeps now, after the versions that it made
 --     MeetsDamage user command stage held s page      of a checkout and a query: damage that it meets before it is answered
 --     IsOther refusal result ..      a query of a shape that isn't built was refused, and nothing else was done
 --     IfNoFile P reply      this holds where the reply is that there is no such file
@@ -40,6 +41,7 @@ use Rattle.ov_store.specs.Committing.{IfSet, IsDamagedAt, Set, commit_off}
 use Rattle.ov_store.specs.Kept.{Kept}
 use Rattle.ov_store.specs.Scanning.{IsDamagedIn, scan_off, set_in}
 use Rattle.ov_query.specs.Queries.{IsQueryDamaged}
+use Rattle.ov_generate.specs.Making.{HasDamagedVersion}
 use Rattle.ov_files.specs.Files.{file_rows}
 use Rattle.std.specs.FinMap.{get}
 
@@ -70,17 +72,18 @@ IsCommitDamaged cvd vids file message stage held s page =
     × IfSet (λ set. AreRowsOf set.schema file stage rows × IsDamagedAt set (record { vids = vids; message = message; rows = rows }) s page)
     (set_in held.numbers cvd)
 
-abbrev pub IsDamaged : List ℕ → Command → Staged → Held → State → ℕ → Type 0
-IsDamaged user (asks.Checkout cvd vids file table) stage held s page = IsScanDamaged cvd vids held s page
-IsDamaged user (asks.Commit cvd vids file message added) stage held s page = IsCommitDamaged cvd vids file message stage held s page
-IsDamaged user (asks.Run text) stage held s page = IsQueryDamaged held.numbers user text s page
-IsDamaged user _ stage held s page = ⊥
+abbrev pub IsDamaged : List ℕ → Command → Staged → Held → Held → State → ℕ → Type 0
+IsDamaged user (asks.Checkout cvd vids file table) stage before now s page = IsScanDamaged cvd vids before s page
+IsDamaged user (asks.Commit cvd vids file message added) stage before now s page = IsCommitDamaged cvd vids file message stage before s page
+IsDamaged user (asks.Run text) stage before now s page = IsQueryDamaged before.numbers user text s page
+IsDamaged user (asks.Generate cvd seed rows versions) stage before now s page = HasDamagedVersion now cvd rows versions s page
+IsDamaged user _ stage before now s page = ⊥
 
 -- a checkout or a query that isn't refused reads all that is its own before it is answered; a commit may be refused for its rows
--- before that
+-- before that, and a `generate` for room
 abbrev pub MeetsDamage : List ℕ → Command → Staged → Held → State → ℕ → Type 0
-MeetsDamage user (asks.Checkout cvd vids file table) stage held s page = IsDamaged user (asks.Checkout cvd vids file table) stage held s page
-MeetsDamage user (asks.Run text) stage held s page = IsDamaged user (asks.Run text) stage held s page
+MeetsDamage user (asks.Checkout cvd vids file table) stage held s page = IsDamaged user (asks.Checkout cvd vids file table) stage held held s page
+MeetsDamage user (asks.Run text) stage held s page = IsDamaged user (asks.Run text) stage held held s page
 MeetsDamage user _ stage held s page = ⊥
 
 -- what holds where the reply is that there is no file of some name

@@ -2,13 +2,17 @@
 --     IsAtSome held s      the store is at some World
 --     IsAtSilently held old new      it is, and nothing was printed since
 --     IsIdle why ..      damage and a fault of the stage are met before anything is changed
+--     IsIdleOn line why ..      so it is for each line but a `generate`, which may have made versions before and leaves the stage alone
 use Rattle.std.specs.Prelude.{◌≡◌}
 use Rattle.ov_host.specs.Host.{State}
 use Rattle.ov_host.specs.Stage.{Staged}
 use Rattle.ov_core.specs.AtWorld.{IsAtWorld}
 use Rattle.ov_core.specs.Held.{Held}
 use Rattle.ov_fetch.specs.Extents.{Looked}
+use Rattle.ov_model.specs.Line.{Line, Asks}
 use Rattle.ov_model.specs.World.{World}
+use Rattle.ov_model.specs.declared.command.Command.{Command}
+use Rattle.ov_model.specs.declared.command.Command.TheVariants as asks
 use Rattle.ov_store.specs.Kept.{Kept}
 use Rattle.ov_session.specs.declared.errors.EndErr.{EndErr}
 use Rattle.ov_session.specs.declared.errors.EndErr.TheVariants as ending
@@ -31,3 +35,17 @@ abbrev pub IsIdle : EndErr → Kept → Kept → Staged → Staged → State →
 IsIdle (ending.Damaged area at) before now stage staged old new = Idle before now old new × (staged.files ≡ stage.files)
 IsIdle ending.Stage before now stage staged old new = Idle before now old new
 IsIdle _ before now stage staged old new = Unit {0}
+
+-- a `generate` doesn't call the stage
+abbrev pub IsUnstaged : EndErr → Staged → Staged → Type 0
+IsUnstaged (ending.Damaged area at) stage staged = staged.files ≡ stage.files
+IsUnstaged ending.Stage stage staged = ⊥
+IsUnstaged _ stage staged = Unit {0}
+
+abbrev pub IsIdleBy : Command → EndErr → Kept → Kept → Staged → Staged → State → State → Type 0
+IsIdleBy (asks.Generate cvd seed rows versions) why before now stage staged old new = IsUnstaged why stage staged
+IsIdleBy command why before now stage staged old new = IsIdle why before now stage staged old new
+
+abbrev pub IsIdleOn : Line → EndErr → Kept → Kept → Staged → Staged → State → State → Type 0
+IsIdleOn (Asks command) why before now stage staged old new = IsIdleBy command why before now stage staged old new
+IsIdleOn line why before now stage staged old new = IsIdle why before now stage staged old new

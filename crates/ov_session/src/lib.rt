@@ -6,6 +6,7 @@
 
 mod changing;
 mod errors;
+mod generating;
 mod lines;
 mod reading;
 mod serving;

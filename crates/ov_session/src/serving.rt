@@ -16,15 +16,17 @@ ghost use Rattle.ov_core.specs.Held.{IsByJournal};
 ghost use Rattle.law_runs.specs.Serving.{Serves, is_error as is_error_of, session_of};
 ghost use Rattle.ov_store.specs.Kept.{Kept, MayCall};
 ghost use Rattle.ov_session.specs.Asking.{line_asked};
-ghost use Rattle.ov_session.specs.Bounds.{IsReading, IsReadingCommand, command_fetch, is_command_off, is_off, may_fetch};
+ghost use Rattle.ov_session.specs.Bounds.{IsFetched, IsFetchedBy, IsReading, IsReadingCommand, is_command_off, is_off};
 ghost use Rattle.ov_session.specs.Replying.{IsReplied};
-ghost use Rattle.ov_session.specs.Standing.{IsAtSilently, IsAtSome, IsIdle};
+ghost use Rattle.ov_session.specs.Standing.{IsAtSilently, IsAtSome, IsIdleBy, IsIdleOn};
 ghost use Rattle.ov_session.specs.Commands.{Acts, Attended, Goes, IfNoFile, IsDamageOf, IsDamaged, IsNoDamage, IsOther, IsSaid, IsUnsaid, MeetsDamage, is_comment_in, is_comment_of, is_refused};
 
 use crate::changing::{commit, drop_cvd, init};
 use crate::errors::EndErr;
+use crate::generating::make_versions;
 use crate::lines::{asked, refusal};
 use crate::reading::{checkout, log, ls, run_query};
+use ov_generate::Wanted;
 use ov_host::{Host, Stage};
 use ov_model::{Command, Reply};
 use ov_reply::{is_error, reply as reply_text};
@@ -57,18 +59,18 @@ fn answer<H: Host, T: Stage>(
     ensures goes { Goes (H.state host.old) (H.state host.new) }
     ensures attended { Attended (T.staged stage.old) (T.staged stage.new) }
     ensures still { IsReadingCommand command → store.new.held ≡ store.old.held }
-    ensures fetched { (H.state host.new).fetched ≤ (H.state host.old).fetched + command_fetch store.old.held.numbers user.now command }
+    ensures fetched { IsFetched user.now command store.old.held store.new.held (IsErrOf result EndErr.Host) (H.state host.old) (H.state host.new) }
     ensures unread { is_command_off store.old.held.numbers user.now command ≡ true → (H.state host.new).fetched ≡ (H.state host.old).fetched }
     ensures cause { IsErrOf result EndErr.Host → Rose (H.state host.old).faults (H.state host.new).faults }
     ensures stage { IsErrOf result EndErr.Stage → Rose (T.staged stage.old).faults (T.staged stage.new).faults }
-    ensures damaged { IfErr result (IsDamageOf (IsDamaged user.now command (T.staged stage.old) store.old.held (H.state host.new))) }
+    ensures damaged { IfErr result (IsDamageOf (IsDamaged user.now command (T.staged stage.old) store.old.held store.new.held (H.state host.new))) }
     ensures whole { (page : ℕ) → (H.state host.old).tells ≡ true
         → OnOk result (MeetsDamage user.now command (T.staged stage.old) store.old.held (H.state host.old) page → ⊥) }
     ensures usable { OnOk result (MayCall store.new (H.state host.new)) }
     ensures by_journal { IsByJournal store.old.held (H.state host.old) → (IsErrOf result EndErr.Host → ⊥) → IsByJournal store.new.held (H.state host.new) }
     ensures at { (w : World) → IsAtWorld w store.old.held (H.state host.old) → OnOk result (IsAtSilently store.new.held (H.state host.old) (H.state host.new)) }
     ensures missed { IfOk result (IfNoFile (Rose (T.staged stage.old).misses (T.staged stage.new).misses)) }
-    ensures idle { IfErr result (λ why. IsIdle why store.old store.new (T.staged stage.old) (T.staged stage.new) (H.state host.old) (H.state host.new)) }
+    ensures idle { IfErr result (λ why. IsIdleBy command why store.old store.new (T.staged stage.old) (T.staged stage.new) (H.state host.old) (H.state host.new)) }
     ensures undamaged { (w : World) → IsAtWorld w store.old.held (H.state host.old) → IfErr result IsNoDamage }
     ensures other { (refusal : Refusal) → if_built command ≡ Err refusal → IsOther refusal result store.old store.new
         (T.staged stage.old) (T.staged stage.new) (H.state host.old) (H.state host.new) }
@@ -104,6 +106,20 @@ fn answer<H: Host, T: Stage>(
         Command::Log { cvd } => Ok(log(alloc, store, cvd)?),
         Command::Ls => Ok(ls(alloc, store)?),
         Command::DropCvd { cvd } => drop_cvd(store, host, cvd),
+        Command::Generate {
+            cvd,
+            seed,
+            rows,
+            versions,
+        } => {
+            let wanted = Wanted {
+                cvd,
+                seed,
+                rows,
+                versions,
+            };
+            make_versions(alloc, store, host, wanted)
+        }
         _ => unreachable!(),
     }
 }
@@ -162,17 +178,18 @@ pub fn serve<H: Host, T: Stage>(
     ensures goes { Goes (H.state host.old) (H.state host.new) }
     ensures attended { Attended (T.staged stage.old) (T.staged stage.new) }
     ensures still { IsReading (line_asked user.old line.now) → store.new.held ≡ store.old.held }
-    ensures fetched { (H.state host.new).fetched
-        ≤ (H.state host.old).fetched + may_fetch store.old.held.numbers user.old (line_asked user.old line.now) }
+    ensures fetched { IsFetchedBy user.old (line_asked user.old line.now) store.old.held store.new.held (IsErrOf result EndErr.Host)
+        (H.state host.old) (H.state host.new) }
     ensures unread { is_off store.old.held.numbers user.old (line_asked user.old line.now) ≡ true
         → (H.state host.new).fetched ≡ (H.state host.old).fetched }
     ensures cause { IsErrOf result EndErr.Host → Rose (H.state host.old).faults (H.state host.new).faults }
     ensures stage { IsErrOf result EndErr.Stage → Rose (T.staged stage.old).faults (T.staged stage.new).faults }
     ensures damaged { IfErr result (IsDamageOf (λ page. (command : CommandValue) × (line_asked user.old line.now ≡ Asks command)
-        × IsDamaged user.old command (T.staged stage.old) store.old.held (H.state host.new) page)) }
+        × IsDamaged user.old command (T.staged stage.old) store.old.held store.new.held (H.state host.new) page)) }
     ensures whole { (command : CommandValue) (page : ℕ) → line_asked user.old line.now ≡ Asks command → (H.state host.old).tells ≡ true
         → OnOk result (MeetsDamage user.old command (T.staged stage.old) store.old.held (H.state host.old) page → ⊥) }
-    ensures idle { IfErr result (λ why. IsIdle why store.old store.new (T.staged stage.old) (T.staged stage.new) (H.state host.old) (H.state host.new)) }
+    ensures idle { IfErr result (λ why. IsIdleOn (line_asked user.old line.now) why store.old store.new
+        (T.staged stage.old) (T.staged stage.new) (H.state host.old) (H.state host.new)) }
     ensures undamaged { (w : World) → IsAtWorld w store.old.held (H.state host.old) → IfErr result IsNoDamage }
     ensures usable { OnOk result (MayCall store.new (H.state host.new)) }
     ensures by_journal { IsByJournal store.old.held (H.state host.old) → (IsErrOf result EndErr.Host → ⊥) → IsByJournal store.new.held (H.state host.new) }

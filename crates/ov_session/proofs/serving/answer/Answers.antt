@@ -10,10 +10,12 @@ use Rattle.ov_session.proofs.Dealing.{checkout_asked, commit_asked}
 use Rattle.ov_session.specs.Commands.{Acts}
 use Rattle.std.proofs.Common.{◌+◌, ℕ, List, Some, true}
 use Rattle.std.specs.Prelude.{◌≤◌}
-use Rattle.ov_session.proofs.Bounds.{fetched_allowed, fetched_none, fetched_still, off_there}
+use Rattle.ov_session.proofs.Bounds.{fetched_allowed, fetched_still, off_there, unread_command}
 use Rattle.ov_session.proofs.Replying.{seen_missed}
-use Rattle.ov_session.proofs.Standing.{at_looked, at_still, idle_spared, on_any, result_unmoved}
-use Rattle.ov_session.specs.Bounds.{IsReadingCommand, bytes_in, command_fetch, if_allowed, is_command_off}
+use Rattle.ov_session.proofs.Standing.{at_looked, at_still, idle_spared, idle_unstaged, on_any, result_unmoved}
+use Rattle.ov_session.specs.Bounds.{IsFetched, IsReadingCommand, bytes_in, if_allowed, is_command_off}
+use Rattle.ov_session.specs.Standing.{IsIdleBy}
+use Rattle.ov_store.specs.Refusals.{new_off}
 use Rattle.ov_store.specs.Committing.{parents_off_in}
 use Rattle.ov_store.specs.Scanning.{scan_off, set_in}
 use Rattle.ov_session.proofs.Numbering.{journal_looked}
@@ -23,7 +25,8 @@ use Rattle.ov_query.specs.Queries.{query_off}
 use Rattle.ov_session.proofs.Querying.{query_acts, query_other}
 use Rattle.ov_session.proofs.Shaping.{done, off, ok_err}
 use Rattle.ov_session.specs.Commands.{IsCommitDamaged, IsDamageOf, IsDamaged}
-use Rattle.std.specs.Prelude.{IfErr, OnOk}
+use Rattle.std.specs.Prelude.{IfErr, IsErrOf, OnOk}
+use Rattle.ov_session.specs.declared.errors.EndErr.TheVariants as ending
 use Rattle.ov_session.proofs.serving.answer.Goals as goal
 
 pub returns-in-Init-clause-acts : goal.returns-in-Init-clause-acts
@@ -86,20 +89,24 @@ returns-in-Ls-clause-acts g c = λ w built told at.
     (ap (tells s) (sym (c.in_ok-ls-in-Ls.ensures.told w s (g.H.Host.state c.args.host.now) at))) at refl refl)
 
 pub returns-in-Init-clause-fetched : goal.returns-in-Init-clause-fetched
-returns-in-Init-clause-fetched g c = fetched_still (g.H.Host.state c.args.host.now) (g.H.Host.state c.init.new.host) _ c.init.ensures.fetched
+returns-in-Init-clause-fetched g c =
+    subst (λ (command : Command). IsFetched c.args.user.now command c.args.store.now.held c.init.new.store.held (IsErrOf c.init.result ending.Host) (g.H.Host.state c.args.host.now) (g.H.Host.state c.init.new.host)) (sym c.in-Init.is)
+    (fetched_still (g.H.Host.state c.args.host.now) (g.H.Host.state c.init.new.host) 0 c.init.ensures.fetched)
 
 pub returns-in-Init-clause-unread : goal.returns-in-Init-clause-unread
 returns-in-Init-clause-unread g c = λ is. c.init.ensures.fetched
 
 pub returns-in-DropCvd-clause-fetched : goal.returns-in-DropCvd-clause-fetched
-returns-in-DropCvd-clause-fetched g c = fetched_still (g.H.Host.state c.args.host.now) (g.H.Host.state c.drop_cvd.new.host) _ c.drop_cvd.ensures.fetched
+returns-in-DropCvd-clause-fetched g c =
+    subst (λ (command : Command). IsFetched c.args.user.now command c.args.store.now.held c.drop_cvd.new.store.held (IsErrOf c.drop_cvd.result ending.Host) (g.H.Host.state c.args.host.now) (g.H.Host.state c.drop_cvd.new.host)) (sym c.in-DropCvd.is)
+    (fetched_still (g.H.Host.state c.args.host.now) (g.H.Host.state c.drop_cvd.new.host) 0 c.drop_cvd.ensures.fetched)
 
 pub returns-in-DropCvd-clause-unread : goal.returns-in-DropCvd-clause-unread
 returns-in-DropCvd-clause-unread g c = λ is. c.drop_cvd.ensures.fetched
 
 pub returns-in-Commit-clause-fetched : goal.returns-in-Commit-clause-fetched
 returns-in-Commit-clause-fetched g c =
-    subst (λ (command : Command). (g.H.Host.state c.commit.new.host).fetched ≤ (g.H.Host.state c.args.host.now).fetched + command_fetch c.args.store.now.held.numbers c.args.user.now command) (sym c.in-Commit.is)
+    subst (λ (command : Command). IsFetched c.args.user.now command c.args.store.now.held c.commit.new.store.held (IsErrOf c.commit.result ending.Host) (g.H.Host.state c.args.host.now) (g.H.Host.state c.commit.new.host)) (sym c.in-Commit.is)
     (subst (λ (v : List ℕ). (g.H.Host.state c.commit.new.host).fetched ≤ (g.H.Host.state c.args.host.now).fetched
     + if_allowed (parents_off_in (set_in c.args.store.now.held.numbers c.in-Commit.cvd) v) (bytes_in (set_in c.args.store.now.held.numbers c.in-Commit.cvd) v)) c.as_slice.ensures
     (fetched_allowed (parents_off_in (set_in c.args.store.now.held.numbers c.in-Commit.cvd) c.as_slice.result.now) (bytes_in (set_in c.args.store.now.held.numbers c.in-Commit.cvd) c.as_slice.result.now)
@@ -115,7 +122,7 @@ returns-in-Commit-clause-unread g c = λ is.
 
 pub returns-in-Checkout-clause-fetched : goal.returns-in-Checkout-clause-fetched
 returns-in-Checkout-clause-fetched g c =
-    subst (λ (command : Command). (g.H.Host.state c.checkout.new.host).fetched ≤ (g.H.Host.state c.args.host.now).fetched + command_fetch c.args.store.now.held.numbers c.args.user.now command) (sym c.in-Checkout.is)
+    subst (λ (command : Command). IsFetched c.args.user.now command c.args.store.now.held c.args.store.now.held (IsErrOf c.checkout.result ending.Host) (g.H.Host.state c.args.host.now) (g.H.Host.state c.checkout.new.host)) (sym c.in-Checkout.is)
     (subst (λ (v : List ℕ). (g.H.Host.state c.checkout.new.host).fetched ≤ (g.H.Host.state c.args.host.now).fetched
     + if_allowed (scan_off c.args.store.now.held.numbers c.in-Checkout.cvd v) (bytes_in (set_in c.args.store.now.held.numbers c.in-Checkout.cvd) v)) c.as_slice-in-Checkout.ensures
     (fetched_allowed (scan_off c.args.store.now.held.numbers c.in-Checkout.cvd c.as_slice-in-Checkout.result.now) (bytes_in (set_in c.args.store.now.held.numbers c.in-Checkout.cvd) c.as_slice-in-Checkout.result.now)
@@ -141,20 +148,37 @@ returns-in-DropCvd-clause-missed g c = seen_missed _ c.drop_cvd.result c.drop_cv
 
 pub returns-in-DropCvd-clause-idle : goal.returns-in-DropCvd-clause-idle
 returns-in-DropCvd-clause-idle g c =
-    idle_spared c.args.store.now c.drop_cvd.new.store (g.T.Stage.staged c.args.stage.now) (g.T.Stage.staged c.args.stage.now) (g.H.Host.state c.args.host.now) (g.H.Host.state c.drop_cvd.new.host)
-    c.drop_cvd.result c.drop_cvd.ensures.host_alone c.drop_cvd.ensures.undamaged
+    subst (λ (command : Command). IfErr c.drop_cvd.result (λ e. IsIdleBy command e c.args.store.now c.drop_cvd.new.store (g.T.Stage.staged c.args.stage.now) (g.T.Stage.staged c.args.stage.now)
+    (g.H.Host.state c.args.host.now) (g.H.Host.state c.drop_cvd.new.host))) (sym c.in-DropCvd.is)
+    (idle_spared c.args.store.now c.drop_cvd.new.store (g.T.Stage.staged c.args.stage.now) (g.T.Stage.staged c.args.stage.now) (g.H.Host.state c.args.host.now) (g.H.Host.state c.drop_cvd.new.host)
+    c.drop_cvd.result c.drop_cvd.ensures.host_alone c.drop_cvd.ensures.undamaged)
+
+pub returns-in-Init-clause-idle : goal.returns-in-Init-clause-idle
+returns-in-Init-clause-idle g c =
+    subst (λ (command : Command). IfErr c.init.result (λ e. IsIdleBy command e c.args.store.now c.init.new.store (g.T.Stage.staged c.args.stage.now) (g.T.Stage.staged c.init.new.stage)
+    (g.H.Host.state c.args.host.now) (g.H.Host.state c.init.new.host))) (sym c.in-Init.is) c.init.ensures.idle
+
+pub returns-in-Commit-clause-idle : goal.returns-in-Commit-clause-idle
+returns-in-Commit-clause-idle g c =
+    subst (λ (command : Command). IfErr c.commit.result (λ e. IsIdleBy command e c.args.store.now c.commit.new.store (g.T.Stage.staged c.args.stage.now) (g.T.Stage.staged c.commit.new.stage)
+    (g.H.Host.state c.args.host.now) (g.H.Host.state c.commit.new.host))) (sym c.in-Commit.is) c.commit.ensures.idle
+
+pub returns-in-Checkout-clause-idle : goal.returns-in-Checkout-clause-idle
+returns-in-Checkout-clause-idle g c =
+    subst (λ (command : Command). IfErr c.checkout.result (λ e. IsIdleBy command e c.args.store.now c.args.store.now (g.T.Stage.staged c.args.stage.now) (g.T.Stage.staged c.checkout.new.stage)
+    (g.H.Host.state c.args.host.now) (g.H.Host.state c.checkout.new.host))) (sym c.in-Checkout.is) c.checkout.ensures.idle
 
 pub returns-in_err-log-in-Log-clause-fetched : goal.returns-in_err-log-in-Log-clause-fetched
-returns-in_err-log-in-Log-clause-fetched g c = fetched_none _ _
+returns-in_err-log-in-Log-clause-fetched g c = unread_command c.args.user.now c.args.command c.args.store.now.held _ (g.H.Host.state c.args.host.now)
 
 pub returns-in-Log-clause-fetched : goal.returns-in-Log-clause-fetched
-returns-in-Log-clause-fetched g c = fetched_none _ _
+returns-in-Log-clause-fetched g c = unread_command c.args.user.now c.args.command c.args.store.now.held _ (g.H.Host.state c.args.host.now)
 
 pub returns-in_err-ls-in-Ls-clause-fetched : goal.returns-in_err-ls-in-Ls-clause-fetched
-returns-in_err-ls-in-Ls-clause-fetched g c = fetched_none _ _
+returns-in_err-ls-in-Ls-clause-fetched g c = unread_command c.args.user.now c.args.command c.args.store.now.held _ (g.H.Host.state c.args.host.now)
 
 pub returns-in-Ls-clause-fetched : goal.returns-in-Ls-clause-fetched
-returns-in-Ls-clause-fetched g c = fetched_none _ _
+returns-in-Ls-clause-fetched g c = unread_command c.args.user.now c.args.command c.args.store.now.held _ (g.H.Host.state c.args.host.now)
 
 pub returns-in-Log-clause-at : goal.returns-in-Log-clause-at
 returns-in-Log-clause-at g c = λ w at. at_still w c.args.store.now.held (g.H.Host.state c.args.host.now) at
@@ -254,7 +278,7 @@ returns-in-Run-clause-still g c = λ is. refl
 
 pub returns-in-Run-clause-fetched : goal.returns-in-Run-clause-fetched
 returns-in-Run-clause-fetched g c =
-    subst (λ (command : Command). (g.H.Host.state c.run_query.new.host).fetched ≤ (g.H.Host.state c.args.host.now).fetched + command_fetch c.args.store.now.held.numbers c.args.user.now command)
+    subst (λ (command : Command). IsFetched c.args.user.now command c.args.store.now.held c.args.store.now.held (IsErrOf c.run_query.result ending.Host) (g.H.Host.state c.args.host.now) (g.H.Host.state c.run_query.new.host))
     (sym c.in-Run.is) c.run_query.ensures.fetched
 
 pub returns-in-Run-clause-unread : goal.returns-in-Run-clause-unread
@@ -270,7 +294,7 @@ returns-in-Run-clause-whole g c = λ page told.
 
 pub returns-in-Run-clause-damaged : goal.returns-in-Run-clause-damaged
 returns-in-Run-clause-damaged g c =
-    subst (λ (command : Command). IfErr c.run_query.result (IsDamageOf (IsDamaged c.args.user.now command (g.T.Stage.staged c.args.stage.now) c.args.store.now.held (g.H.Host.state c.run_query.new.host)))) (sym c.in-Run.is)
+    subst (λ (command : Command). IfErr c.run_query.result (IsDamageOf (IsDamaged c.args.user.now command (g.T.Stage.staged c.args.stage.now) c.args.store.now.held c.args.store.now.held (g.H.Host.state c.run_query.new.host)))) (sym c.in-Run.is)
     c.run_query.ensures.damaged
 
 pub returns-in-Run-clause-by_journal : goal.returns-in-Run-clause-by_journal
@@ -286,8 +310,10 @@ returns-in-Run-clause-missed g c = seen_missed _ c.run_query.result c.run_query.
 
 pub returns-in-Run-clause-idle : goal.returns-in-Run-clause-idle
 returns-in-Run-clause-idle g c =
-    result_unmoved c.args.store.now c.args.store.now (g.T.Stage.staged c.args.stage.now) (g.T.Stage.staged c.args.stage.now) (g.H.Host.state c.args.host.now) (g.H.Host.state c.run_query.new.host) c.run_query.result
-    (record { store = refl; looked = c.run_query.ensures.looked }) refl
+    subst (λ (command : Command). IfErr c.run_query.result (λ e. IsIdleBy command e c.args.store.now c.args.store.now (g.T.Stage.staged c.args.stage.now) (g.T.Stage.staged c.args.stage.now)
+    (g.H.Host.state c.args.host.now) (g.H.Host.state c.run_query.new.host))) (sym c.in-Run.is)
+    (result_unmoved c.args.store.now c.args.store.now (g.T.Stage.staged c.args.stage.now) (g.T.Stage.staged c.args.stage.now) (g.H.Host.state c.args.host.now) (g.H.Host.state c.run_query.new.host) c.run_query.result
+    (record { store = refl; looked = c.run_query.ensures.looked }) refl)
 
 pub returns-in-Run-clause-other : goal.returns-in-Run-clause-other
 returns-in-Run-clause-other g c = λ refusal is.
@@ -305,6 +331,58 @@ returns-in-Run-clause-acts g c = λ w built told at.
 
 pub returns-in-Commit-clause-damaged : goal.returns-in-Commit-clause-damaged
 returns-in-Commit-clause-damaged g c =
-    subst (λ (command : Command). IfErr c.commit.result (IsDamageOf (IsDamaged c.args.user.now command (g.T.Stage.staged c.args.stage.now) c.args.store.now.held (g.H.Host.state c.commit.new.host)))) (sym c.in-Commit.is)
+    subst (λ (command : Command). IfErr c.commit.result (IsDamageOf (IsDamaged c.args.user.now command (g.T.Stage.staged c.args.stage.now) c.args.store.now.held c.commit.new.store.held (g.H.Host.state c.commit.new.host)))) (sym c.in-Commit.is)
     (subst (λ (v : List ℕ). IfErr c.commit.result (IsDamageOf (IsCommitDamaged c.in-Commit.cvd v c.in-Commit.file c.in-Commit.message (g.T.Stage.staged c.args.stage.now) c.args.store.now.held (g.H.Host.state c.commit.new.host))))
     c.as_slice.ensures c.commit.ensures.damaged)
+
+-- ---- a dataset that is generated
+
+pub make_versions-requires-clause-name : goal.make_versions-requires-clause-name
+make_versions-requires-clause-name g c = (subst IsAsked c.in-Generate.is c.requires.asked).0
+
+pub make_versions-requires-clause-wanted : goal.make_versions-requires-clause-wanted
+make_versions-requires-clause-wanted g c =
+    let asked = subst IsAsked c.in-Generate.is c.requires.asked
+    in record { some_rows = asked.1; some_versions = asked.2; few_versions = asked.3; few = asked.4 }
+
+pub returns-in-Generate-clause-still : goal.returns-in-Generate-clause-still
+returns-in-Generate-clause-still g c = λ is. absurd (subst IsReadingCommand c.in-Generate.is is)
+
+pub returns-in-Generate-clause-fetched : goal.returns-in-Generate-clause-fetched
+returns-in-Generate-clause-fetched g c =
+    subst (λ (command : Command). IsFetched c.args.user.now command c.args.store.now.held c.make_versions.new.store.held (IsErrOf c.make_versions.result ending.Host) (g.H.Host.state c.args.host.now) (g.H.Host.state c.make_versions.new.host)) (sym c.in-Generate.is)
+    c.make_versions.ensures.fetched
+
+pub returns-in-Generate-clause-unread : goal.returns-in-Generate-clause-unread
+returns-in-Generate-clause-unread g c = λ is.
+    let there = off_there (new_off c.args.store.now.held.numbers c.in-Generate.cvd)
+    (subst (λ (command : Command). is_command_off c.args.store.now.held.numbers c.args.user.now command ≡ true) c.in-Generate.is is)
+    in ap (λ (s : State). s.fetched) (c.make_versions.ensures.unread there.0 there.1)
+
+pub returns-in-Generate-clause-damaged : goal.returns-in-Generate-clause-damaged
+returns-in-Generate-clause-damaged g c =
+    subst (λ (command : Command). IfErr c.make_versions.result (IsDamageOf (IsDamaged c.args.user.now command (g.T.Stage.staged c.args.stage.now) c.args.store.now.held c.make_versions.new.store.held (g.H.Host.state c.make_versions.new.host)))) (sym c.in-Generate.is)
+    c.make_versions.ensures.damaged
+
+pub returns-in-Generate-clause-whole : goal.returns-in-Generate-clause-whole
+returns-in-Generate-clause-whole g c = λ page told.
+    on_any _ c.make_versions.result (subst (λ (command : Command). MeetsDamage c.args.user.now command (g.T.Stage.staged c.args.stage.now) c.args.store.now.held (g.H.Host.state c.args.host.now) page → ⊥) (sym c.in-Generate.is) (λ met. met))
+
+pub returns-in-Generate-clause-missed : goal.returns-in-Generate-clause-missed
+returns-in-Generate-clause-missed g c = seen_missed _ c.make_versions.result c.make_versions.ensures.seen
+
+pub returns-in-Generate-clause-idle : goal.returns-in-Generate-clause-idle
+returns-in-Generate-clause-idle g c =
+    subst (λ (command : Command). IfErr c.make_versions.result (λ e. IsIdleBy command e c.args.store.now c.make_versions.new.store (g.T.Stage.staged c.args.stage.now) (g.T.Stage.staged c.args.stage.now)
+    (g.H.Host.state c.args.host.now) (g.H.Host.state c.make_versions.new.host))) (sym c.in-Generate.is)
+    (idle_unstaged c.args.store.now c.make_versions.new.store (g.T.Stage.staged c.args.stage.now) (g.T.Stage.staged c.args.stage.now) (g.H.Host.state c.args.host.now) (g.H.Host.state c.make_versions.new.host)
+    c.make_versions.result c.make_versions.ensures.host_alone refl)
+
+pub returns-in-Generate-clause-other : goal.returns-in-Generate-clause-other
+returns-in-Generate-clause-other g c = λ refusal is. absurd (ok_err _ refusal (subst (λ (command : Command). if_built command ≡ off refusal) c.in-Generate.is is))
+
+pub returns-in-Generate-clause-acts : goal.returns-in-Generate-clause-acts
+returns-in-Generate-clause-acts g c = λ w built told at.
+    let s = session_of (g.T.Stage.staged c.args.stage.now).files c.args.user.now
+    in subst (λ (command : Command). Acts (permitted w s command) s s w c.make_versions.result c.args.store.now.held c.make_versions.new.store.held (g.H.Host.state c.args.host.now) (g.H.Host.state c.make_versions.new.host)) (sym c.in-Generate.is)
+    (c.make_versions.ensures.acts w s at)

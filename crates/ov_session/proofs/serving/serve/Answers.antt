@@ -1,5 +1,5 @@
 use Rattle.std.proofs.Common.{◌≡◌, ◌∙◌, false, sym, ap, arith, refl, subst, rules}
-use Rattle.std.specs.Prelude.{Err, Option, Result, is_ok}
+use Rattle.std.specs.Prelude.{Err, IsErrOf, Ok, Option, Result, is_ok}
 use Rattle.ov_cmd.specs.Asked.{AsksBuilt}
 use Rattle.ov_cmd.specs.Said.{said}
 use Rattle.ov_session.specs.declared.errors.EndErr.{EndErr}
@@ -8,19 +8,17 @@ use Rattle.ov_session.specs.Asking.{line_asked, refusal_to}
 use Rattle.law_runs.specs.Serving.{Serves, session_of}
 use Rattle.ov_model.specs.Line.{Asks, Refused}
 use Rattle.ov_session.proofs.Saying.{comment_none, line_unserved, says_comment, says_refusal}
-use Rattle.ov_session.proofs.Shaping.{broken_shaped, comment_shaped, damaged_shaped, fetched_shaped, reply_shaped, served_shaped, still_shaped, unread_shaped, whole_shaped}
+use Rattle.ov_session.proofs.Shaping.{broken_shaped, comment_shaped, damaged_shaped, fetched_shaped, idle_shaped, reply_shaped, served_shaped, still_shaped, unread_shaped, whole_shaped}
 use Rattle.ov_model.specs.BuiltShapes.{served_line}
 use Rattle.ov_session.specs.Commands.{IsNoDamage, is_comment_in, is_refused}
-use Rattle.std.proofs.Common.{◌+◌, ℕ}
-use Rattle.std.specs.Prelude.{◌≤◌}
+use Rattle.std.proofs.Common.{ℕ}
 use Rattle.ov_model.specs.Line.{Line}
 use Rattle.ov_model.specs.declared.reply.Reply.TheVariants as says
-use Rattle.ov_session.proofs.Bounds.{fetched_none, fetched_still}
+use Rattle.ov_session.proofs.Bounds.{host_again, ok_no_host, printed_line, unread_line}
 use Rattle.ov_session.proofs.Replying.{asked_seen, is_replied, refused_missed}
-use Rattle.ov_session.proofs.Standing.{at_said, idle_unsaid}
-use Rattle.ov_session.specs.Bounds.{may_fetch}
+use Rattle.ov_session.proofs.Standing.{at_said, idle_unsaid_on, unsaid_line}
 use Rattle.ov_session.specs.Replying.{IsReplyTo}
-use Rattle.ov_session.specs.Standing.{IsIdle}
+use Rattle.ov_session.specs.Standing.{IsIdleOn}
 use Rattle.ov_session.proofs.Numbering.{journal_said}
 use Rattle.ov_session.specs.declared.errors.EndErr.TheVariants as ending
 use Rattle.ov_session.proofs.Meeting.{comment_asks, refused_asks}
@@ -40,7 +38,7 @@ returns-in_err-reply-in-Ok-Some-clause-undamaged g c = λ w at.
 pub returns-in_err-reply-in-Ok-Some-clause-damaged : goal.returns-in_err-reply-in-Ok-Some-clause-damaged
 returns-in_err-reply-in-Ok-Some-clause-damaged g c =
     let IsMet : ℕ → Type 0 = λ page. (command : Command) × (line_asked c.args.user.now c.args.line.now ≡ Asks command)
-    × IsDamaged c.args.user.now command (g.T.Stage.staged c.args.stage.now) c.args.store.now.held (g.H.Host.state c.answer.new.host) page
+    × IsDamaged c.args.user.now command (g.T.Stage.staged c.args.stage.now) c.args.store.now.held c.answer.new.store.held (g.H.Host.state c.answer.new.host) page
     in let fact : IsDamageOf IsMet c.in_err-reply-in-Ok-Some.field-0.0
     = damaged_shaped c.args.user.now c.in-Ok-Some.command (line_asked c.args.user.now c.args.line.now) (c.in-Ok-Some.ensures.ok ∙ ap (λ (o : Option Command). served_line (said o)) c.in-Ok-Some.field-0-is)
     c.args.store.now c.answer.new.store (g.T.Stage.staged c.args.stage.now) (g.T.Stage.staged c.answer.new.stage) (g.H.Host.state c.args.host.now) (g.H.Host.state c.answer.new.host) c.in_err-reply-in-Ok-Some.field-0.0 c.in_err-reply-in-Ok-Some.ensures.other c.in_err-reply-in-Ok-Some.ensures.damaged
@@ -111,23 +109,34 @@ returns-in_ok-reply-in-Ok-Some-clause-goes g c = record {
 
 pub returns-in_err-reply-in-Ok-Some-clause-fetched : goal.returns-in_err-reply-in-Ok-Some-clause-fetched
 returns-in_err-reply-in-Ok-Some-clause-fetched g c =
-    fetched_shaped c.args.user.now c.in-Ok-Some.command (line_asked c.args.user.now c.args.line.now) (c.in-Ok-Some.ensures.ok ∙ ap (λ (o : Option Command). served_line (said o)) c.in-Ok-Some.field-0-is)
-    c.args.store.now c.answer.new.store (g.T.Stage.staged c.args.stage.now) (g.T.Stage.staged c.answer.new.stage) (g.H.Host.state c.args.host.now) (g.H.Host.state c.answer.new.host) c.answer.result c.answer.ensures.other c.answer.ensures.fetched
+    let same : c.from_residual.result ≡ Err c.in_err-reply-in-Ok-Some.field-0.0 = search rules
+    in let result : c.answer.result ≡ Err c.in_err-reply-in-Ok-Some.field-0.0 = search rules
+    in printed_line c.args.user.now (line_asked c.args.user.now c.args.line.now) c.args.store.now.held c.answer.new.store.held (IsErrOf c.answer.result ending.Host) _
+    (g.H.Host.state c.args.host.now) (g.H.Host.state c.answer.new.host) (g.H.Host.state c.answer.new.host)
+    (λ is. host_again c.answer.result c.from_residual.result c.in_err-reply-in-Ok-Some.field-0.0 result same is) refl
+    (fetched_shaped c.args.user.now c.in-Ok-Some.command (line_asked c.args.user.now c.args.line.now) (c.in-Ok-Some.ensures.ok ∙ ap (λ (o : Option Command). served_line (said o)) c.in-Ok-Some.field-0-is)
+    c.args.store.now c.answer.new.store (g.T.Stage.staged c.args.stage.now) (g.T.Stage.staged c.answer.new.stage) (g.H.Host.state c.args.host.now) (g.H.Host.state c.answer.new.host) c.answer.result c.answer.ensures.other
+    (IsErrOf c.answer.result ending.Host) c.answer.ensures.fetched)
 
 pub returns-in_err-refusal-in-Err-clause-fetched : goal.returns-in_err-refusal-in-Err-clause-fetched
-returns-in_err-refusal-in-Err-clause-fetched g c = fetched_none _ _
+returns-in_err-refusal-in-Err-clause-fetched g c = unread_line c.args.user.now (line_asked c.args.user.now c.args.line.now) c.args.store.now.held _ (g.H.Host.state c.args.host.now)
 
 pub returns-in-Ok-None-clause-fetched : goal.returns-in-Ok-None-clause-fetched
-returns-in-Ok-None-clause-fetched g c = fetched_none _ _
+returns-in-Ok-None-clause-fetched g c = unread_line c.args.user.now (line_asked c.args.user.now c.args.line.now) c.args.store.now.held _ (g.H.Host.state c.args.host.now)
 
 pub returns-in_ok-reply-in-Ok-Some-clause-fetched : goal.returns-in_ok-reply-in-Ok-Some-clause-fetched
 returns-in_ok-reply-in-Ok-Some-clause-fetched g c =
-    subst (λ (n : ℕ). n ≤ (g.H.Host.state c.args.host.now).fetched + may_fetch c.args.store.now.held.numbers c.args.user.now (line_asked c.args.user.now c.args.line.now)) (sym c.say.ensures.fetched)
+    let result : c.answer.result ≡ Ok c.in_ok-reply-in-Ok-Some.reply = search rules
+    in printed_line c.args.user.now (line_asked c.args.user.now c.args.line.now) c.args.store.now.held c.answer.new.store.held (IsErrOf c.answer.result ending.Host) _
+    (g.H.Host.state c.args.host.now) (g.H.Host.state c.answer.new.host) (g.H.Host.state c.say.new.host) (λ is. absurd (ok_no_host c.answer.result c.in_ok-reply-in-Ok-Some.reply result is)) c.say.ensures.fetched
     (fetched_shaped c.args.user.now c.in-Ok-Some.command (line_asked c.args.user.now c.args.line.now) (c.in-Ok-Some.ensures.ok ∙ ap (λ (o : Option Command). served_line (said o)) c.in-Ok-Some.field-0-is)
-    c.args.store.now c.answer.new.store (g.T.Stage.staged c.args.stage.now) (g.T.Stage.staged c.answer.new.stage) (g.H.Host.state c.args.host.now) (g.H.Host.state c.answer.new.host) c.answer.result c.answer.ensures.other c.answer.ensures.fetched)
+    c.args.store.now c.answer.new.store (g.T.Stage.staged c.args.stage.now) (g.T.Stage.staged c.answer.new.stage) (g.H.Host.state c.args.host.now) (g.H.Host.state c.answer.new.host) c.answer.result c.answer.ensures.other
+    (IsErrOf c.answer.result ending.Host) c.answer.ensures.fetched)
 
 pub returns-in_ok-refusal-in-Err-clause-fetched : goal.returns-in_ok-refusal-in-Err-clause-fetched
-returns-in_ok-refusal-in-Err-clause-fetched g c = fetched_still (g.H.Host.state c.args.host.now) (g.H.Host.state c.say-in-Err.new.host) _ c.say-in-Err.ensures.fetched
+returns-in_ok-refusal-in-Err-clause-fetched g c =
+    printed_line c.args.user.now (line_asked c.args.user.now c.args.line.now) c.args.store.now.held c.args.store.now.held ⊥ _ (g.H.Host.state c.args.host.now) (g.H.Host.state c.args.host.now) (g.H.Host.state c.say-in-Err.new.host) (λ none. absurd none) c.say-in-Err.ensures.fetched
+    (unread_line c.args.user.now (line_asked c.args.user.now c.args.line.now) c.args.store.now.held ⊥ (g.H.Host.state c.args.host.now))
 
 pub returns-in_err-reply-in-Ok-Some-clause-unread : goal.returns-in_err-reply-in-Ok-Some-clause-unread
 returns-in_err-reply-in-Ok-Some-clause-unread g c =
@@ -146,16 +155,26 @@ returns-in_ok-refusal-in-Err-clause-unread g c = λ is. c.say-in-Err.ensures.fet
 
 pub returns-in_err-reply-in-Ok-Some-clause-idle : goal.returns-in_err-reply-in-Ok-Some-clause-idle
 returns-in_err-reply-in-Ok-Some-clause-idle g c =
-    let fact : IsIdle c.in_err-reply-in-Ok-Some.field-0.0 c.args.store.now c.answer.new.store (g.T.Stage.staged c.args.stage.now) (g.T.Stage.staged c.answer.new.stage) (g.H.Host.state c.args.host.now) (g.H.Host.state c.answer.new.host) = c.in_err-reply-in-Ok-Some.ensures.idle
-    in search (rules, fact)
+    let fact : IsIdleOn (line_asked c.args.user.now c.args.line.now) c.in_err-reply-in-Ok-Some.field-0.0 c.args.store.now c.answer.new.store (g.T.Stage.staged c.args.stage.now) (g.T.Stage.staged c.answer.new.stage) (g.H.Host.state c.args.host.now) (g.H.Host.state c.answer.new.host)
+    = idle_shaped c.args.user.now c.in-Ok-Some.command (line_asked c.args.user.now c.args.line.now) (c.in-Ok-Some.ensures.ok ∙ ap (λ (o : Option Command). served_line (said o)) c.in-Ok-Some.field-0-is)
+    c.args.store.now c.answer.new.store (g.T.Stage.staged c.args.stage.now) (g.T.Stage.staged c.answer.new.stage) (g.H.Host.state c.args.host.now) (g.H.Host.state c.answer.new.host) c.in_err-reply-in-Ok-Some.field-0.0 c.in_err-reply-in-Ok-Some.ensures.other
+    c.in_err-reply-in-Ok-Some.ensures.idle
+    in let is : c.from_residual.result ≡ Err c.in_err-reply-in-Ok-Some.field-0.0 = search rules
+    in subst (λ (r : Result Served EndErr). IfErr r (λ e. IsIdleOn (line_asked c.args.user.now c.args.line.now) e c.args.store.now c.answer.new.store (g.T.Stage.staged c.args.stage.now) (g.T.Stage.staged c.answer.new.stage) (g.H.Host.state c.args.host.now) (g.H.Host.state c.answer.new.host))) (sym is) fact
+
+pub returns-in_err-refusal-in-Err-clause-idle : goal.returns-in_err-refusal-in-Err-clause-idle
+returns-in_err-refusal-in-Err-clause-idle g c =
+    let memory : c.from_residual-in_err-refusal-in-Err.result ≡ Err ending.Memory = search rules
+    in subst (λ (r : Result Served EndErr). IfErr r (λ e. IsIdleOn (line_asked c.args.user.now c.args.line.now) e c.args.store.now c.args.store.now (g.T.Stage.staged c.args.stage.now) (g.T.Stage.staged c.args.stage.now) (g.H.Host.state c.args.host.now) (g.H.Host.state c.args.host.now))) (sym memory)
+    (unsaid_line c.args.store.now c.args.store.now (g.T.Stage.staged c.args.stage.now) (g.T.Stage.staged c.args.stage.now) (g.H.Host.state c.args.host.now) (g.H.Host.state c.args.host.now) (line_asked c.args.user.now c.args.line.now) ending.Memory tt)
 
 pub returns-in_ok-reply-in-Ok-Some-clause-idle : goal.returns-in_ok-reply-in-Ok-Some-clause-idle
 returns-in_ok-reply-in-Ok-Some-clause-idle g c =
-    idle_unsaid c.args.store.now c.answer.new.store (g.T.Stage.staged c.args.stage.now) (g.T.Stage.staged c.answer.new.stage) (g.H.Host.state c.args.host.now) (g.H.Host.state c.say.new.host) c.say.result c.say.ensures.host_alone
+    idle_unsaid_on c.args.store.now c.answer.new.store (g.T.Stage.staged c.args.stage.now) (g.T.Stage.staged c.answer.new.stage) (g.H.Host.state c.args.host.now) (g.H.Host.state c.say.new.host) (line_asked c.args.user.now c.args.line.now) c.say.result c.say.ensures.host_alone
 
 pub returns-in_ok-refusal-in-Err-clause-idle : goal.returns-in_ok-refusal-in-Err-clause-idle
 returns-in_ok-refusal-in-Err-clause-idle g c =
-    idle_unsaid c.args.store.now c.args.store.now (g.T.Stage.staged c.args.stage.now) (g.T.Stage.staged c.args.stage.now) (g.H.Host.state c.args.host.now) (g.H.Host.state c.say-in-Err.new.host) c.say-in-Err.result c.say-in-Err.ensures.host_alone
+    idle_unsaid_on c.args.store.now c.args.store.now (g.T.Stage.staged c.args.stage.now) (g.T.Stage.staged c.args.stage.now) (g.H.Host.state c.args.host.now) (g.H.Host.state c.say-in-Err.new.host) (line_asked c.args.user.now c.args.line.now) c.say-in-Err.result c.say-in-Err.ensures.host_alone
 
 pub returns-in-Ok-None-clause-at : goal.returns-in-Ok-None-clause-at
 returns-in-Ok-None-clause-at g c = λ w at. (w, at)
