@@ -18,6 +18,7 @@ ghost use Rattle.law_runs.specs.Serving.{Does};
 ghost use Rattle.ov_generate.specs.Making.{Ends, HasDamagedVersion, IsDamageOf, IsKnown, IsWanted};
 ghost use Rattle.ov_generate.specs.Reads.{HasFetched};
 
+use crate::tables::first_table;
 use crate::version::add_version;
 use ov_gen::{Gen, generate_schema};
 use ov_host::Host;
@@ -105,7 +106,7 @@ pub fn generate<H: Host>(
     let count = wanted.rows;
     store.may_begin(cvd)?;
     let mut source = Gen::new(wanted.seed, count);
-    let rows = source.first(alloc)?;
+    let rows = first_table(alloc, &mut source)?;
     let message = message(alloc)?;
     let begun = store.init(host, &wanted.cvd, generate_schema(alloc)?, rows)?;
     let mut members = u64::from(begun.rows);

@@ -7,6 +7,7 @@
 mod generating;
 mod parent;
 mod rows;
+mod tables;
 mod version;
 
 pub use generating::{Generated, Wanted, generate};

@@ -57,11 +57,7 @@ pub(crate) fn parent_rows<H: Host>(
 {
     let vids = [u64::from(parent)];
     let scan = store.scan(host, cvd, &vids)?;
-    let rows = copied_rows(
-        alloc,
-        scan.records.as_slice(),
-        scan.picks.as_slice()[0].as_slice(),
-    )?;
+    let rows = copied_rows(alloc, &scan.records, scan.picks.as_slice()[0].as_slice())?;
     if are_grown(&rows, count, vid) {
         return Ok(rows);
     }

@@ -2,12 +2,13 @@
 
 ghost use Rattle.std.specs.Prelude.{◌≡◌, ◌≤◌, ◌<◌, ◌+◌, ◌^◌, ◌↔◌, ℕ, IsTrue, IfOk, MatchOption, pos};
 ghost use Rattle.ov_value.specs.declared.value.Value.TheVariants.{Int};
+ghost use Rattle.ov_value.specs.Cells.{value_of};
 ghost use Rattle.ov_fetch.specs.Scans.{AllStand, rows_at};
 ghost use Rattle.ov_gen.specs.Versions.{IsGrown};
 ghost use Rattle.ov_generate.specs.Rows.{IsLabel, IsLabelled, IsNextRow};
 
-use ov_segment::Record;
-use ov_value::{Row, Value};
+use ov_segment::RecordTable;
+use ov_value::{CellRef, Cells, Row, Txt, Value};
 use std::alloc::{AllocError, Global};
 
 fn is_short_label(letter: u8, digit: u8) -> bool
@@ -91,10 +92,34 @@ pub(crate) fn are_grown(rows: &[Row], count: u32, vid: u32) -> bool
     next > count
 }
 
+// A value of its own.
+fn own_value(alloc: Global, cell: CellRef<'_>) -> Result<Value, AllocError>
+    ensures { IfOk result (λ value. value ≡ value_of cell.entry) }
+{
+    match cell {
+        CellRef::Int(number) => Ok(Value::Int(number)),
+        CellRef::Text(text) => Ok(Value::Text(Txt::new(alloc, text)?)),
+        CellRef::Flag(flag) => Ok(Value::Flag(flag)),
+        CellRef::Null => Ok(Value::Null),
+    }
+}
+
+// A row with values of its own.
+fn own_row(alloc: Global, cells: Cells<'_>) -> Result<Row, AllocError>
+    ensures { IfOk result (λ row. row ≡ cells.entry) }
+{
+    let mut left = cells;
+    let mut values = Vec::new(alloc);
+    while let Some(cell) = left.next() {
+        values.push(own_value(alloc, cell)?)?;
+    }
+    Ok(Row::new(values))
+}
+
 /// Copies of the rows at these positions.
 pub(crate) fn copied_rows(
     alloc: Global,
-    records: &[Record],
+    records: &RecordTable,
     pick: &[usize],
 ) -> Result<Vec<Row>, AllocError>
     requires { AllStand records.now pick.now }
@@ -102,7 +127,7 @@ pub(crate) fn copied_rows(
 {
     let mut rows = Vec::with_capacity(alloc, pick.len())?;
     for place in pick {
-        rows.push(records[*place].row.copy(alloc)?)?;
+        rows.push(own_row(alloc, records.cells(*place))?)?;
     }
     Ok(rows)
 }

@@ -16,6 +16,7 @@ ghost use Rattle.ov_generate.specs.Making.{HasDamage, IsDamageOf, IsKnown, IsUnm
 ghost use Rattle.ov_generate.specs.Reads.{IsVersionMade, bytes_of};
 
 use crate::parent::parent_rows;
+use crate::tables::child_table;
 use ov_gen::Gen;
 use ov_host::Host;
 use ov_store::{Committed, Store, StoreErr};
@@ -65,7 +66,7 @@ pub(crate) fn add_version<H: Host>(
 {
     let parent = source.parent(vid);
     let rows = parent_rows(alloc, store, host, cvd, parent, count, vid)?;
-    let rows = source.child(alloc, vid, rows)?;
+    let rows = child_table(alloc, source, vid, rows)?;
     let vids = [u64::from(parent)];
     store.commit(host, cvd, &vids, rows, message)
 }

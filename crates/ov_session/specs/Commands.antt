@@ -130,11 +130,11 @@ begun s cvd schema rows = does s (Init cvd schema rows) (says.Init cvd (length r
 -- ---- a commit, before its rows are stored
 
 abbrev pub HasRowsOf : Shape → Asked → Type 0
-HasRowsOf schema (asked.Rows rows) = All (IsRow schema) rows.items
+HasRowsOf schema (asked.Rows rows) = All (IsRow schema) rows
 HasRowsOf schema (asked.Said reply) = Unit {0}
 
 abbrev pub HasShortRows : Asked → Type 0
-HasShortRows (asked.Rows rows) = All IsShort rows.items
+HasShortRows (asked.Rows rows) = All IsShort rows
 HasShortRows (asked.Said reply) = Unit {0}
 
 -- the dataset is there
@@ -144,7 +144,7 @@ HasSet o (asked.Said reply) = Unit {0}
 
 -- the rows are those of the file, as far as the stage tells
 abbrev pub HasFileRows : Shape → List ℕ → Staged → Asked → Type 0
-HasFileRows schema file stage (asked.Rows rows) = AreRowsOf schema file stage rows.items
+HasFileRows schema file stage (asked.Rows rows) = AreRowsOf schema file stage rows
 HasFileRows schema file stage (asked.Said reply) = Unit {0}
 
 -- a refusal for want of a file, only where a miss of the stage was counted
@@ -155,7 +155,7 @@ HasMissed old new (asked.Said reply) = IfNoFile (Rose old.misses new.misses) rep
 -- the rows are those of the file, for a version that may be; or the command is refused so
 abbrev pub IsAskedOf : World → Session → List ℕ → List ℕ → List ℕ → List ℕ → Asked → Type 0
 IsAskedOf w s cvd vids message file (asked.Rows rows) = IfThere (λ d. (commit_refusal d vids ≡ None)
-    × (commit_deed w s cvd vids message [] file (Some d) ≡ with_rows w s d.cvd.schema false (commit_rows s d vids message []) (Ok rows.items))) (set_named w cvd)
+    × (commit_deed w s cvd vids message [] file (Some d) ≡ with_rows w s d.cvd.schema false (commit_rows s d vids message []) (Ok rows))) (set_named w cvd)
 IsAskedOf w s cvd vids message file (asked.Said reply) =
     (refusal : Refusal) × (reply ≡ says.Refused refusal) × (commit_deed w s cvd vids message [] file (set_named w cvd) ≡ refuses s refusal)
 

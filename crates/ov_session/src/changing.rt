@@ -23,8 +23,9 @@ use crate::errors::{EndErr, refused};
 use ov_files::{FileRows, rows_of_file};
 use ov_host::{Host, Stage};
 use ov_model::Reply;
+use ov_segment::RowTable;
 use ov_store::Store;
-use ov_value::{Row, Schema, Txt};
+use ov_value::{Schema, Txt};
 use std::alloc::Global;
 
 // Makes a dataset of these rows, whose name is free.
@@ -33,12 +34,12 @@ fn begin<H: Host>(
     host: &mut H,
     cvd: Txt,
     schema: Schema,
-    rows: Vec<Row>,
+    rows: RowTable,
 ) -> Result<Reply, EndErr>
     requires call { MayCall store.old (H.state host.old) }
     requires name { IsTrue (is_name cvd) }
-    requires fit { All (IsRow schema) rows.items }
-    requires short { All IsShort rows.items }
+    requires fit { All (IsRow schema) rows }
+    requires short { All IsShort rows }
     ensures goes { Goes (H.state host.old) (H.state host.new) }
     ensures fetched { (H.state host.new).fetched ≡ (H.state host.old).fetched }
     ensures cause { IsErrOf result EndErr.Host → Rose (H.state host.old).faults (H.state host.new).faults }
@@ -49,7 +50,7 @@ fn begin<H: Host>(
     ensures at { (w : World) → IsAtWorld w store.old.held (H.state host.old) → OnOk result (IsAtSilently store.new.held (H.state host.old) (H.state host.new)) }
     ensures seen { IfOk result (IfNoFile ⊥) }
     ensures acts { (w : World) (s : Session) → IsAtWorld w store.old.held (H.state host.old) → init_refusal w cvd ≡ None
-        → Acts (with_rows w s schema false (begun s cvd schema) (Ok rows.items)) s s w result
+        → Acts (with_rows w s schema false (begun s cvd schema) (Ok rows)) s s w result
         store.old.held store.new.held (H.state host.old) (H.state host.new) }
 {
     match store.init(host, &cvd, schema, rows) {
@@ -103,12 +104,12 @@ fn next_version<H: Host>(
     host: &mut H,
     cvd: Txt,
     vids: &[u64],
-    rows: Vec<Row>,
+    rows: RowTable,
     message: &Txt,
 ) -> Result<Reply, EndErr>
     requires call { MayCall store.old (H.state host.old) }
-    requires fit { (set : Set) → set_in store.old.held.numbers cvd ≡ Some set → All (IsRow set.schema) rows.items }
-    requires short { All IsShort rows.items }
+    requires fit { (set : Set) → set_in store.old.held.numbers cvd ≡ Some set → All (IsRow set.schema) rows }
+    requires short { All IsShort rows }
     requires some { vids.now ≢ [] }
     requires message { length message.now ≤ 1024 }
     ensures goes { Goes (H.state host.old) (H.state host.new) }
@@ -118,8 +119,8 @@ fn next_version<H: Host>(
         → H.state host.new ≡ H.state host.old }
     ensures cause { IsErrOf result EndErr.Host → Rose (H.state host.old).faults (H.state host.new).faults }
     ensures host_alone { IsErrOf result EndErr.Stage → ⊥ }
-    ensures damaged { IfErr result (IsDamageOf (λ page. (commit_off store.old.held cvd vids.now rows.items ≡ None)
-        × IfSet (λ set. IsDamagedAt set (record { vids = vids.now; message = message.now; rows = rows.items }) (H.state host.new) page)
+    ensures damaged { IfErr result (IsDamageOf (λ page. (commit_off store.old.held cvd vids.now rows ≡ None)
+        × IfSet (λ set. IsDamagedAt set (record { vids = vids.now; message = message.now; rows = rows }) (H.state host.new) page)
         (set_in store.old.held.numbers cvd))) }
     ensures idle { IfErr result (IfDamaged (Idle store.old store.new (H.state host.old) (H.state host.new))) }
     ensures undamaged { (w : World) → IsAtWorld w store.old.held (H.state host.old) → IfErr result IsNoDamage }
@@ -129,7 +130,7 @@ fn next_version<H: Host>(
     ensures seen { IfOk result (IfNoFile ⊥) }
     ensures acts { (w : World) (s : Session) (d : Dataset) → IsAtWorld w store.old.held (H.state host.old) → set_named w cvd ≡ Some d
         → commit_refusal d vids.now ≡ None
-        → Acts (with_rows w s d.cvd.schema false (commit_rows s d vids.now message.now []) (Ok rows.items)) s s w result
+        → Acts (with_rows w s d.cvd.schema false (commit_rows s d vids.now message.now []) (Ok rows)) s s w result
         store.old.held store.new.held (H.state host.old) (H.state host.new) }
 {
     match store.commit(host, cvd.as_str(), vids, rows, message) {
@@ -147,7 +148,7 @@ fn next_version<H: Host>(
 #[derive(Drop)]
 enum Asked {
     // The rows of its file.
-    Rows(Vec<Row>),
+    Rows(RowTable),
     // Its reply: it is refused.
     Said(Reply),
 }

@@ -83,12 +83,12 @@ returns-in_err-begun-clause-acts g c = λ w s at.
     in let held = c.args.store.now.held
     in let off = c.in_err-begun.field-0.0
     in let free : init_refusal w a.cvd ≡ None = subst (λ (n : List ℕ). init_refusal w n ≡ None) c.as_str-cvd.ensures.text (c.in_ok-may_begin.ensures.world w old at)
-    in let grown : IsGrown a.rows 2 c.in_ok-rows.rows.items = subst (λ n. IsGrown n 2 c.in_ok-rows.rows.items) c.new-source.ensures.rows c.in_ok-rows.ensures.grown
-    in let rows : c.in_ok-rows.rows.items ≡ (fresh_rows a.rows 1 a.seed).is
+    in let grown : IsGrown a.rows 2 c.in_ok-rows.rows = subst (λ n. IsGrown n 2 c.in_ok-rows.rows) c.new-source.ensures.rows c.in_ok-rows.ensures.grown
+    in let rows : c.in_ok-rows.rows ≡ (fresh_rows a.rows 1 a.seed).is
     = c.in_ok-rows.ensures.rows ∙ (λ i. (fresh_rows (c.new-source.ensures.rows i) 1 (c.new-source.ensures.state i)).is)
     in let not_made : IsUnmoved (Init a.cvd generated_schema (fresh_rows a.rows 1 a.seed).is) w held old new off
     = subst (λ (l : List Row). IsUnmoved (Init a.cvd generated_schema l) w held old new off) rows
-    (first_made w a.cvd c.in_ok-generate_schema.field-0 c.in_ok-rows.rows.items a.rows c.in_ok-generate_schema.ensures grown
+    (first_made w a.cvd c.in_ok-generate_schema.field-0 c.in_ok-rows.rows a.rows c.in_ok-generate_schema.ensures grown
     (omega (arith, c.requires.wanted.few, c.requires.wanted.some_versions)) free held c.init.new.self.held old new (c.init.ensures.stops w at)
     (Err off) tt (c.in_err-begun.ensures.refused w at) (λ entry past in_. c.in_err-begun.ensures.room w entry past at in_))
     in match_err _ (Ends a.cvd (unless s (init_refusal w a.cvd) (the_deed w s a.cvd a.seed a.rows a.versions)) s w held c.init.new.self.held old new)
@@ -104,12 +104,12 @@ loop-before-init g c =
     in let held = c.args.store.now.held
     in let now = c.init.new.self.held
     in let passes = c.init.ensures.passes
-    in let grown : IsGrown a.rows 2 c.in_ok-rows.rows.items = subst (λ n. IsGrown n 2 c.in_ok-rows.rows.items) c.new-source.ensures.rows c.in_ok-rows.ensures.grown
-    in let rows : c.in_ok-rows.rows.items ≡ (fresh_rows a.rows 1 a.seed).is
+    in let grown : IsGrown a.rows 2 c.in_ok-rows.rows = subst (λ n. IsGrown n 2 c.in_ok-rows.rows) c.new-source.ensures.rows c.in_ok-rows.ensures.grown
+    in let rows : c.in_ok-rows.rows ≡ (fresh_rows a.rows 1 a.seed).is
     = c.in_ok-rows.ensures.rows ∙ (λ i. (fresh_rows (c.new-source.ensures.rows i) 1 (c.new-source.ensures.state i)).is)
-    in let members : c.from-members.result ≡ length c.in_ok-rows.rows.items = c.from-members.ensures ∙ ap (λ (x : Committed). x.rows) c.in_ok-begun.ensures.made
-    in let done : IsDone (first_of a.cvd generated_schema c.in_ok-rows.rows.items) held now
-    = subst (λ (x : Shape). IsDone (first_of a.cvd x c.in_ok-rows.rows.items) held now) c.in_ok-generate_schema.ensures c.in_ok-begun.ensures.done
+    in let members : c.from-members.result ≡ length c.in_ok-rows.rows = c.from-members.ensures ∙ ap (λ (x : Committed). x.rows) c.in_ok-begun.ensures.made
+    in let done : IsDone (first_of a.cvd generated_schema c.in_ok-rows.rows) held now
+    = subst (λ (x : Shape). IsDone (first_of a.cvd x c.in_ok-rows.rows) held now) c.in_ok-generate_schema.ensures c.in_ok-begun.ensures.done
     in record {
       told = passes.told;
       kept = passes.kept;
@@ -117,7 +117,7 @@ loop-before-init g c =
       counted = omega (arith, passes.fetched);
       call = c.in_ok-begun.ensures.usable;
       known = subst (λ (n : List ℕ). IsKnown now.numbers n) (sym c.as_str-cvd.ensures.text)
-          (known_first a.cvd c.in_ok-rows.rows.items held now
+          (known_first a.cvd c.in_ok-rows.rows held now
           (subst (λ (n : List ℕ). new_off held.numbers n ≡ None) c.as_str-cvd.ensures.text c.in_ok-may_begin.ensures.answer) done);
       source = ap (λ (x : Source). x.rows) c.in_ok-rows.ensures.state ∙ c.new-source.ensures.rows;
       message = c.in_ok-message.ensures;
@@ -125,16 +125,16 @@ loop-before-init g c =
       fetching = fetching_first name a.seed a.rows held old now new
           (subst (λ (n : List ℕ). IsFirstMade n a.seed a.rows held now) (sym c.as_str-cvd.ensures.text)
           (subst (λ (l : List Row). IsDone (first_of a.cvd generated_schema l) held now) rows done)) passes.fetched;
-      few = omega (arith, members, first_long a.rows c.in_ok-rows.rows.items grown, c.requires.wanted.few);
+      few = omega (arith, members, first_long a.rows c.in_ok-rows.rows grown, c.requires.wanted.few);
       by_journal = λ by. c.in_ok-begun.ensures.by_journal by;
       growing = λ w s at free.
           let free_cvd : init_refusal w a.cvd ≡ None = subst (λ (n : List ℕ). init_refusal w n ≡ None) c.as_str-cvd.ensures.text free
           in let step : IsMoved (Init a.cvd generated_schema (fresh_rows a.rows 1 a.seed).is) w held now old new
           = subst (λ (l : List Row). IsMoved (Init a.cvd generated_schema l) w held now old new) rows
-          (first_made w a.cvd c.in_ok-generate_schema.field-0 c.in_ok-rows.rows.items a.rows c.in_ok-generate_schema.ensures grown
+          (first_made w a.cvd c.in_ok-generate_schema.field-0 c.in_ok-rows.rows a.rows c.in_ok-generate_schema.ensures grown
           (omega (arith, c.requires.wanted.few, c.requires.wanted.some_versions)) free_cvd held now old new (c.init.ensures.stops w at)
           (Ok c.in_ok-begun.begun) (c.in_ok-begun.ensures.moves w at) (c.in_ok-begun.ensures.refused w at) (λ entry past in_. c.in_ok-begun.ensures.room w entry past at in_))
-          in growing_first w s name a.seed a.rows a.versions held old now new c.first.new.self.state c.from-members.result at (free_named w name free) c.requires.wanted.some_versions
+          in growing_first w s name a.seed a.rows a.versions held old now new c.first_table.new.source.state c.from-members.result at (free_named w name free) c.requires.wanted.some_versions
           (ap (λ (x : Source). x.state) c.in_ok-rows.ensures.state ∙ (λ i. (fresh_rows (c.new-source.ensures.rows i) 1 (c.new-source.ensures.state i)).state))
           (members ∙ ap (λ (l : List Row). length l) rows)
           (subst (λ (n : List ℕ). IsMoved (Init n generated_schema (fresh_rows a.rows 1 a.seed).is) w held now old new) (sym c.as_str-cvd.ensures.text) step);

@@ -19,10 +19,10 @@ returns-in_err-scan-clause-world g c = λ w d at named grown.
 pub returns-then-are_grown-clause-world : goal.returns-then-are_grown-clause-world
 returns-then-are_grown-clause-world g c = λ w d at named grown.
     let scan = c.in_ok-scan.scan
-    in let pick : c.as_slice-3.result.now ≡ get_or scan.picks 0 c.as_slice-3.result.now = search rules
-    in let is : rows_at scan.records c.as_slice-3.result.now ≡ model.rows_at d.cvd.versions c.args.parent
-    = one_pick (rows_at scan.records) scan.picks (model.rows_at d.cvd.versions c.args.parent) c.as_slice-3.result.now (c.in_ok-scan.ensures.world w d at named ∙ ap (λ n. model.rows_at d.cvd.versions n ∷ []) c.from.ensures) pick
-    in c.in_ok-rows.ensures ∙ ap (λ records. rows_at records c.as_slice-3.result.now) c.as_slice.ensures ∙ is
+    in let pick : c.as_slice-2.result.now ≡ get_or scan.picks 0 c.as_slice-2.result.now = search rules
+    in let is : rows_at scan.records c.as_slice-2.result.now ≡ model.rows_at d.cvd.versions c.args.parent
+    = one_pick (rows_at scan.records) scan.picks (model.rows_at d.cvd.versions c.args.parent) c.as_slice-2.result.now (c.in_ok-scan.ensures.world w d at named ∙ ap (λ n. model.rows_at d.cvd.versions n ∷ []) c.from.ensures) pick
+    in c.in_ok-rows.ensures ∙ is
 
 pub returns-clause-why : goal.returns-clause-why
 returns-clause-why g c =
@@ -30,18 +30,18 @@ returns-clause-why g c =
     in let set = c.requires.known.set
     in let named = c.requires.known.named
     in let old = g.H.Host.state c.args.host.now
-    in let pick : c.as_slice-3.result.now ≡ get_or scan.picks 0 c.as_slice-3.result.now = search rules
-    in let rows : c.deref.result.now ≡ rows_at scan.records c.as_slice-3.result.now
-    = c.deref.ensures.value ∙ c.in_ok-rows.ensures ∙ ap (λ records. rows_at records c.as_slice-3.result.now) c.as_slice.ensures
+    in let pick : c.as_slice-2.result.now ≡ get_or scan.picks 0 c.as_slice-2.result.now = search rules
+    in let rows : c.deref.result.now ≡ rows_at scan.records c.as_slice-2.result.now
+    = c.deref.ensures.value ∙ c.in_ok-rows.ensures
     in inr (
       c.from-2.result,
       refl,
       subst (λ o. IsNotGrownIn o c.args.parent c.args.count c.args.vid old c.from-2.result) (sym named)
           (λ told. record {
             records = scan.records;
-            pick = c.as_slice-3.result.now;
-            scanned = subst (λ n. IsScanned (page_bytes old) set scan.records n c.as_slice-3.result.now) c.from.ensures
-                (one_beside (IsScanned (page_bytes old) set scan.records) c.from.result scan.picks c.as_slice-3.result.now
+            pick = c.as_slice-2.result.now;
+            scanned = subst (λ n. IsScanned (page_bytes old) set scan.records n c.as_slice-2.result.now) c.from.ensures
+                (one_beside (IsScanned (page_bytes old) set scan.records) c.from.result scan.picks c.as_slice-2.result.now
                 (c.in_ok-scan.ensures.scanned set told named) pick);
             off = λ grown.
                 false≢true (sym c.if-are_grown.false ∙ c.are_grown.ensures.1 (subst (λ (l : List Row). IsGrown c.args.count c.args.vid l) (sym rows) grown));
@@ -52,9 +52,9 @@ returns-clause-why g c =
 pub returns-clause-world : goal.returns-clause-world
 returns-clause-world g c = λ w d at named grown.
     let scan = c.in_ok-scan.scan
-    in let pick : c.as_slice-3.result.now ≡ get_or scan.picks 0 c.as_slice-3.result.now = search rules
-    in let is : rows_at scan.records c.as_slice-3.result.now ≡ model.rows_at d.cvd.versions c.args.parent
-    = one_pick (rows_at scan.records) scan.picks (model.rows_at d.cvd.versions c.args.parent) c.as_slice-3.result.now (c.in_ok-scan.ensures.world w d at named ∙ ap (λ n. model.rows_at d.cvd.versions n ∷ []) c.from.ensures) pick
+    in let pick : c.as_slice-2.result.now ≡ get_or scan.picks 0 c.as_slice-2.result.now = search rules
+    in let is : rows_at scan.records c.as_slice-2.result.now ≡ model.rows_at d.cvd.versions c.args.parent
+    = one_pick (rows_at scan.records) scan.picks (model.rows_at d.cvd.versions c.args.parent) c.as_slice-2.result.now (c.in_ok-scan.ensures.world w d at named ∙ ap (λ n. model.rows_at d.cvd.versions n ∷ []) c.from.ensures) pick
     in let rows : c.deref.result.now ≡ model.rows_at d.cvd.versions c.args.parent
-    = c.deref.ensures.value ∙ c.in_ok-rows.ensures ∙ ap (λ records. rows_at records c.as_slice-3.result.now) c.as_slice.ensures ∙ is
+    = c.deref.ensures.value ∙ c.in_ok-rows.ensures ∙ is
     in false≢true (sym c.if-are_grown.false ∙ c.are_grown.ensures.1 (subst (λ (l : List Row). IsGrown c.args.count c.args.vid l) (sym rows) grown))

@@ -36,9 +36,9 @@ returns-clause-known g c =
 
 pub returns-clause-source : goal.returns-clause-source
 returns-clause-source g c =
-    let same : c.child.new.self.rows ≡ c.args.count
+    let same : c.child_table.new.source.rows ≡ c.args.count
     = ap (λ (x : Source). x.rows) c.in_ok-rows-2.ensures.state ∙ ap (λ (x : Source). x.rows) c.parent-parent.ensures.state ∙ c.requires.source
-    in result_const c.commit.result (c.child.new.self.rows ≡ c.args.count) same
+    in result_const c.commit.result (c.child_table.new.source.rows ≡ c.args.count) same
 
 pub returns-clause-stays : goal.returns-clause-stays
 returns-clause-stays g c =
@@ -66,12 +66,12 @@ returns-clause-world g c = λ w grown number at has long state.
     in let child : child_of c.parent-parent.new.self.rows c.args.vid c.parent-parent.new.self.state c.in_ok-rows.rows.items ≡ rows_next c.args.count grown
     = child_is grown c.args.count c.args.vid c.parent-parent.new.self.rows c.parent-parent.new.self.state c.in_ok-rows.rows.items count long drawn_state parent
     in version_made w c.args.cvd.now number c.args.count grown has
-    (record { vids = c.from.result ∷ []; message = c.args.message.now; rows = c.in_ok-rows-2.rows.items })
+    (record { vids = c.from.result ∷ []; message = c.args.message.now; rows = c.in_ok-rows-2.rows })
     (ap (λ (n : ℕ). n ∷ []) (c.from.ensures ∙ drawn)) c.requires.message
     (c.in_ok-rows-2.ensures.rows ∙ ap (λ (x : Drawn (List Row)). x.is) child)
     (omega (arith, long, c.requires.versions)) (omega (arith, long, c.requires.few))
     c.args.store.now.held c.commit.new.self.held old mid new at c.parent_rows.ensures.looked (c.commit.ensures.stops w at_mid)
-    c.child.new.self.state (ap (λ (x : Source). x.state) c.in_ok-rows-2.ensures.state ∙ ap (λ (x : Drawn (List Row)). x.state) child)
+    c.child_table.new.source.state (ap (λ (x : Source). x.state) c.in_ok-rows-2.ensures.state ∙ ap (λ (x : Drawn (List Row)). x.state) child)
     c.commit.result c.requires.known.set mid (c.commit.ensures.moves w at_mid) (c.commit.ensures.refused w has.set at_mid has.named)
     (λ entry past within. c.commit.ensures.room w has.set entry past at_mid has.named within)
     (c.commit.ensures.done c.requires.known.set c.requires.known.named)
@@ -91,14 +91,14 @@ returns-clause-damaged g c =
     let new = g.H.Host.state c.commit.new.host
     in subst (λ p. IfErr c.commit.result (IsDamageOf (HasDamage c.args.store.now.held c.args.cvd.now p c.args.count c.args.vid new))) c.parent-parent.ensures.drawn
     (commit_damage c.commit.result c.args.store.now.held c.args.cvd.now c.parent-parent.result c.args.count c.args.vid
-    (record { vids = c.from.result ∷ []; message = c.args.message.now; rows = c.in_ok-rows-2.rows.items })
+    (record { vids = c.from.result ∷ []; message = c.args.message.now; rows = c.in_ok-rows-2.rows })
     c.args.store.now c.commit.new.self (g.H.Host.state c.parent_rows.new.host) new (ap (λ (n : ℕ). n ∷ []) c.from.ensures) c.commit.ensures.why c.commit.ensures.stays)
 
 pub returns-clause-rows_few : goal.returns-clause-rows_few
 returns-clause-rows_few g c =
     let count : c.parent-parent.new.self.rows ≡ c.args.count = ap (λ (x : Source). x.rows) c.parent-parent.ensures.state ∙ c.requires.source
-    in let few : length c.in_ok-rows-2.rows.items ≤ 1000000
-    = omega (arith, c.requires.few, begin-few c.parent-parent.new.self.rows 1 (c.parent-parent.new.self.rows + (c.args.vid + 1)) c.in_ok-rows-2.rows.items (omega arith) c.in_ok-rows-2.ensures.grown, count)
+    in let few : length c.in_ok-rows-2.rows ≤ 1000000
+    = omega (arith, c.requires.few, begin-few c.parent-parent.new.self.rows 1 (c.parent-parent.new.self.rows + (c.args.vid + 1)) c.in_ok-rows-2.rows (omega arith) c.in_ok-rows-2.ensures.grown, count)
     in rows_ok c.commit.result c.requires.known.set _ _ c.args.store.now.held c.commit.new.self.held (c.commit.ensures.done c.requires.known.set c.requires.known.named) few
 
 -- ---- what is fetched
@@ -125,5 +125,5 @@ pub returns-clause-made : goal.returns-clause-made
 returns-clause-made g c =
     let count : c.parent-parent.new.self.rows ≡ c.args.count = ap (λ (x : Source). x.rows) c.parent-parent.ensures.state ∙ c.requires.source
     in version_is_made c.commit.result c.args.cvd.now c.args.count c.args.vid _ c.args.store.now.held c.commit.new.self.held c.requires.known _ _
-    (ap (λ (n : ℕ). n ∷ []) (c.from.ensures ∙ c.parent-parent.ensures.drawn)) (subst (λ n. IsGrown n (c.args.vid + 1) c.in_ok-rows-2.rows.items) count c.in_ok-rows-2.ensures.grown)
+    (ap (λ (n : ℕ). n ∷ []) (c.from.ensures ∙ c.parent-parent.ensures.drawn)) (subst (λ n. IsGrown n (c.args.vid + 1) c.in_ok-rows-2.rows) count c.in_ok-rows-2.ensures.grown)
     (c.commit.ensures.done c.requires.known.set c.requires.known.named)

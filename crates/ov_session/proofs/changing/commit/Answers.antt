@@ -25,7 +25,7 @@ returns-in-Rows-clause-acts g c = λ w user told at.
     let s = session_of (g.T.Stage.staged c.args.stage.now).files user
     in commit_acts w s (session_of (g.T.Stage.staged c.rows_for.new.stage).files user) c.args.cvd c.args.vids.now c.args.message.now c.args.file.now
     c.args.store.now.held c.next_version.new.store.held (g.H.Host.state c.args.host.now) (g.H.Host.state c.next_version.new.host)
-    (ap (λ files. session_of files user) (sym c.rows_for.ensures.files)) c.in-Rows.rows.items c.next_version.result
+    (ap (λ files. session_of files user) (sym c.rows_for.ensures.files)) c.in-Rows.rows c.next_version.result
     (subst (IsAskedOf w s c.args.cvd c.args.vids.now c.args.message.now c.args.file.now) c.in-Rows.is
     (c.in_ok-rows.ensures.asked w (g.H.Host.state c.args.host.now) s c.args.message.now told at refl))
     (λ d is none. c.next_version.ensures.acts w s d at is none)
@@ -69,7 +69,7 @@ returns-in-Rows-clause-idle g c =
 
 pub returns-in-Rows-clause-damaged : goal.returns-in-Rows-clause-damaged
 returns-in-Rows-clause-damaged g c =
-    result_and_rows c.args.store.now.held c.args.cvd c.args.vids.now c.args.message.now c.args.file.now (g.T.Stage.staged c.args.stage.now) c.in-Rows.rows.items (g.H.Host.state c.next_version.new.host)
+    result_and_rows c.args.store.now.held c.args.cvd c.args.vids.now c.args.message.now c.args.file.now (g.T.Stage.staged c.args.stage.now) c.in-Rows.rows (g.H.Host.state c.next_version.new.host)
     c.next_version.result (λ set is. subst (HasFileRows set.schema c.args.file.now (g.T.Stage.staged c.args.stage.now)) c.in-Rows.is (c.in_ok-rows.ensures.read set is))
     c.next_version.ensures.damaged
 

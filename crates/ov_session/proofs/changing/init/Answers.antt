@@ -24,7 +24,7 @@ returns-in-Rows-clause-acts g c = λ w user told at.
     in let none = ap (init_refusal w) (sym c.as_str.ensures.text) ∙ c.in-Ok.ensures.world w (g.H.Host.state c.args.host.now) at
     in init_acts w s (session_of (g.T.Stage.staged c.rows_of_file.new.stage).files user) c.args.cvd c.args.schema c.args.file (g.T.Stage.staged c.args.stage.now).files refl
     (ap (λ files. session_of files user) (sym c.rows_of_file.ensures.looks.files)) c.args.store.now.held c.begin.new.store.held (g.H.Host.state c.args.host.now) (g.H.Host.state c.begin.new.host)
-    c.in-Rows.rows.items c.begin.result none (sym (ap result_of c.in-Rows.is) ∙ c.in_ok-rows-in-Ok.ensures.rows told)
+    c.in-Rows.rows c.begin.result none (sym (ap result_of c.in-Rows.is) ∙ c.in_ok-rows-in-Ok.ensures.rows told)
     (c.begin.ensures.acts w s at none)
 
 pub returns-in-Refused-clause-acts : goal.returns-in-Refused-clause-acts

@@ -16,7 +16,7 @@ pub returns-in-Rows-clause-asked : goal.returns-in-Rows-clause-asked
 returns-in-Rows-clause-asked g c = λ w t s message told at files.
     let fine = c.in-Ok.ensures.world w t at
     in asked_rows w s c.as_str.result.now c.args.cvd.now c.args.vids.now message c.args.file.now c.as_str.ensures.text c.in-Ok.d.now.schema
-    (g.T.Stage.staged c.args.stage.now).files c.in-Rows.rows.items files fine.0 fine.1
+    (g.T.Stage.staged c.args.stage.now).files c.in-Rows.rows files fine.0 fine.1
     (sym (ap result_of c.in-Rows.is) ∙ c.in_ok-rows-in-Ok.ensures.rows told)
 
 pub returns-in-Refused-clause-asked : goal.returns-in-Refused-clause-asked
@@ -43,7 +43,7 @@ returns-in-Rows-clause-found g c = (numbers_of c.in-Ok.d.now, ap (set_in c.args.
 pub returns-in-Rows-clause-read : goal.returns-in-Rows-clause-read
 returns-in-Rows-clause-read g c = λ set is told.
     let same : numbers_of c.in-Ok.d.now ≡ set = same_Some _ set (sym c.in-Ok.ensures.found ∙ ap (set_in c.args.store.now.held.numbers) c.as_str.ensures.text ∙ is)
-    in subst (λ (x : Set). file_rows x.schema c.args.file.now (get (g.T.Stage.staged c.args.stage.now).files c.args.file.now) ≡ Ok c.in-Rows.rows.items) same
+    in subst (λ (x : Set). file_rows x.schema c.args.file.now (get (g.T.Stage.staged c.args.stage.now).files c.args.file.now) ≡ Ok c.in-Rows.rows) same
     (sym (sym (ap result_of c.in-Rows.is) ∙ c.in_ok-rows-in-Ok.ensures.rows told))
 
 pub returns-in-Refused-clause-missed : goal.returns-in-Refused-clause-missed
