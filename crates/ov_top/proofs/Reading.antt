@@ -1,24 +1,19 @@
 -- What a run reads of the pages, and the damage that it meets.
 use Rattle.std.proofs.Common.{◌≡◌, ◌≤◌, ◌+◌, inl, inr, ℕ, Bool, true, List, [], ◌∷◌, ◌++◌, length, take, refl, sym, ◌∙◌, ap, subst, append_assoc, arith}
-use Rattle.std.specs.Prelude.{None, Ok, Option, Some, codes}
+use Rattle.std.specs.Prelude.{Err, None, Ok, Option, Result, Some, codes}
 use Rattle.std.specs.FinMap.{get}
 use Rattle.std.proofs.lemmas.List.{length-take, take_all}
 use Rattle.std.proofs.lemmas.Bool.{cases_lt}
-use Rattle.ov_host.specs.Disk.{settled}
+use Rattle.ov_host.specs.declared.area.Area.{Area}
 use Rattle.ov_host.specs.Host.{State}
 use Rattle.ov_host.specs.Source.{Script}
 use Rattle.ov_host.specs.Stage.{Files as Map, Staged}
-use Rattle.ov_host.specs.Tape.{Tape}
-use Rattle.ov_journal.specs.Bytes.{IsLive}
-use Rattle.ov_journal.specs.Held.{kept_by}
-use Rattle.ov_journal.specs.Journal.{IsJournal}
-use Rattle.ov_fetch.specs.Extents.{Looked}
 use Rattle.ov_files.specs.Files.{file_rows}
 use Rattle.ov_value.specs.Shapes.{Shape}
 use Rattle.ov_core.specs.Held.{Held, IsByJournal}
 use Rattle.ov_model.specs.Book.{Row}
 use Rattle.ov_model.specs.BuiltShapes.{served_forms}
-use Rattle.ov_model.specs.Line.{Asks, Refused, line_of}
+use Rattle.ov_model.specs.Line.{Line, Asks, Refused, line_of}
 use Rattle.ov_model.specs.Users.{line_by}
 use Rattle.ov_model.specs.Words.{lines_of}
 use Rattle.ov_model.specs.declared.command.Command.{Command}
@@ -27,9 +22,10 @@ use Rattle.ov_model.specs.declared.refusal.Refusal.TheVariants.{LongLine}
 use Rattle.ov_store.specs.Committing.{IfSet, Set}
 use Rattle.ov_store.specs.Kept.{Kept}
 use Rattle.ov_session.specs.Asking.{line_asked}
-use Rattle.ov_session.specs.Bounds.{IsReading, may_fetch}
+use Rattle.ov_session.specs.Bounds.{IsFetchedBy, IsReading, may_fetch}
+use Rattle.ov_session.proofs.Bounds.{reading_fetched}
 use Rattle.ov_session.specs.Commands.{AreRowsOf, IsDamageOf, IsDamaged, IsNoDamage}
-use Rattle.ov_session.specs.Standing.{IsIdle}
+use Rattle.ov_session.specs.Standing.{IsIdle, IsIdleBy, IsIdleOn}
 use Rattle.ov_session.specs.declared.errors.EndErr.{EndErr}
 use Rattle.ov_session.specs.declared.errors.EndErr.TheVariants as ending
 use Rattle.ov_script.specs.Reader.{IsNext}
@@ -87,9 +83,12 @@ fetches_all before now all left old new is = omega (arith, is.bound)
 
 module _ (before now : Held) (all left later : List (List ℕ)) (user x line : List ℕ) (old mid new : State) (so : Fetches before now all left old mid)
     (first : user ≡ user_of_run) (next : left ≡ line ∷ later) (kept : line_asked user x ≡ line_of_run line)
-    (fetched : new.fetched ≤ mid.fetched + may_fetch now.numbers user (line_asked user x)) where
+    (later_held : Held) (fault : Type 0) (read : IsFetchedBy user (line_asked user x) now later_held fault mid new) where
   there : Fetches before now all (line ∷ later) old mid
   there = subst (λ (ls : List (List ℕ)). Fetches before now all ls old mid) next so
+
+  fetched : new.fetched ≤ mid.fetched + may_fetch now.numbers user (line_asked user x)
+  fetched = reading_fetched user (line_asked user x) now later_held fault mid new (subst IsReading (sym kept) there.reading.0) read
 
   same_bound : may_fetch now.numbers user (line_asked user x) ≡ may_fetch before.numbers user_of_run (line_of_run line)
   same_bound =
@@ -101,8 +100,8 @@ module _ (before now : Held) (all left later : List (List ℕ)) (user x line : L
       let split : reads before.numbers (line ∷ later) ≡ may_fetch before.numbers user_of_run (line_of_run line) + reads before.numbers later = refl
       in omega (arith, fetched, same_bound, split, there.bound)
 
-  pub fetches_more : (held : Held) → (IsReading (line_asked user x) → held ≡ now) → Fetches before held all later old new
-  fetches_more held still = record {
+  pub fetches_more : (IsReading (line_asked user x) → later_held ≡ now) → Fetches before later_held all later old new
+  fetches_more still = record {
     same = still (subst IsReading (sym kept) there.reading.0) ∙ so.same;
     reading = there.reading.1;
     bound = still_bound;
@@ -112,21 +111,6 @@ module _ (before now : Held) (all left later : List (List ℕ)) (user x line : L
   fetches_ends = omega (arith, still_bound)
 
 -- ---- damage
-
-by_looked : (held : Held) (old new : State) → Looked old new → old.tells ≡ true → IsByJournal held old → IsByJournal held new
-by_looked held old new looked told is =
-    let tape : old.tape ≡ new.tape = sym (looked.tape told)
-    in record {
-      payloads = is.payloads;
-      at = record {
-        told = looked.told ∙ told;
-        rest = subst (λ (t : Tape). t.disk.journal ≡ settled t.disk.journal.bytes) tape is.at.rest;
-        spells = subst (λ (t : Tape). IsJournal (kept_by held.journal is.payloads) t.disk.journal.bytes) tape is.at.spells;
-        place = is.at.place;
-        slots = subst (λ (t : Tape). IsLive held.journal.side held.journal.spare_open (take 38 t.disk.journal.bytes)) tape is.at.slots;
-      };
-      replays = is.replays;
-    }
 
 module _ (stage staged : Staged) (files : staged.files ≡ stage.files) (told : staged.tells ≡ stage.tells) (held : Held) (s : State) (page : ℕ) where
   rows_as : (schema : Shape) (file : List ℕ) (rows : List Row) → AreRowsOf schema file stage rows → AreRowsOf schema file staged rows
@@ -138,7 +122,7 @@ module _ (stage staged : Staged) (files : staged.files ≡ stage.files) (told : 
   set_as file rows P (Some set) is = (rows_as set.schema file rows is.0, is.1)
 
   -- what is read of the stage is the same
-  damaged_as : (user : List ℕ) (command : Command) → IsDamaged user command stage held s page → IsDamaged user command staged held s page
+  damaged_as : (user : List ℕ) (command : Command) → IsDamaged user command stage held held s page → IsDamaged user command staged held held s page
   damaged_as user (asks.Checkout cvd vids file table) is = is
   damaged_as user (asks.Commit cvd vids file message added) is = (is.0, is.1, set_as file is.0 _ _ is.2)
   damaged_as user (asks.Init cvd schema file) is = absurd is
@@ -153,35 +137,51 @@ module _ (stage staged : Staged) (files : staged.files ≡ stage.files) (told : 
   damaged_as user asks.Ls is = absurd is
   damaged_as user (asks.DropCvd cvd) is = absurd is
   damaged_as user asks.Checkpoint is = absurd is
-  damaged_as user (asks.Generate cvd seed rows versions) is = absurd is
+  damaged_as user (asks.Generate cvd seed rows versions) is = is
   damaged_as user (asks.CreateUser name) is = absurd is
   damaged_as user (asks.Config name) is = absurd is
   damaged_as user asks.Whoami is = absurd is
   damaged_as user (asks.Unstage owner table) is = absurd is
   damaged_as user asks.Tables is = absurd is
 
+-- what a command but a `generate` met, it met before it changed anything
+module _ (before now : Kept) (stage staged : Staged) (old new : State) (told : staged.tells ≡ stage.tells) (area : Area) (page : ℕ) where
+  still_damaged : (user : List ℕ) (command : Command) → IsIdle (ending.Damaged area page) before now stage staged old new
+      → IsDamaged user command stage before.held now.held new page → IsDamaged user command staged now.held now.held new page
+  still_damaged user command idle is =
+      damaged_as stage staged idle.1 told now.held new page user command
+      (subst (λ (k : Kept). IsDamaged user command stage k.held now.held new page) (sym idle.0.store) is)
+
+  now_damaged : (user : List ℕ) (command : Command) → IsIdleBy command (ending.Damaged area page) before now stage staged old new
+      → IsDamaged user command stage before.held now.held new page → IsDamaged user command staged now.held now.held new page
+  now_damaged user (asks.Generate cvd seed rows versions) idle is = is
+  now_damaged user command idle is = still_damaged user command idle is
+
 module _ (user x : List ℕ) (first : user ≡ codes "admin") (before now : Kept) (script : Script) (stage staged : Staged) (old new : State) (told : staged.tells ≡ stage.tells)
-    (numbers : old.tells ≡ true → IsByJournal before.held old)
     (among : (command : Command) → line_asked user x ≡ Asks command → script.tells ≡ true → IsLineOf script.left x) where
-  pub run_damage : (e : EndErr)
-      → IsDamageOf (λ page. (command : Command) × (line_asked user x ≡ Asks command) × IsDamaged user command stage before.held new page) e
-      → IsIdle e before now stage staged old new → IsRunDamage script staged new (by_serving e)
-  run_damage ending.Host is idle = tt
-  run_damage ending.Stage is idle = tt
-  run_damage ending.Memory is idle = tt
-  run_damage (ending.Damaged area at) is idle = (
+  pub run_damage : (e : EndErr) → ((e ≡ ending.Host → ⊥) → new.tells ≡ true → IsByJournal now.held new)
+      → IsDamageOf (λ page. (command : Command) × (line_asked user x ≡ Asks command) × IsDamaged user command stage before.held now.held new page) e
+      → IsIdleOn (line_asked user x) e before now stage staged old new → IsRunDamage script staged new (by_serving e)
+  run_damage ending.Host by is idle = tt
+  run_damage ending.Stage by is idle = tt
+  run_damage ending.Memory by is idle = tt
+  run_damage (ending.Damaged area at) by is idle = (
     is.0,
     record {
       line = x;
       among = among is.1.0 is.1.1;
       command = is.1.0;
       asks = ap (λ (u : List ℕ). line_asked u x) (sym first) ∙ is.1.1;
-      held = before.held;
-      numbers = λ tells. let tells_old : old.tells ≡ true = sym idle.0.looked.told ∙ tells in by_looked before.held old new idle.0.looked tells_old (numbers tells_old);
-      damaged = subst (λ (u : List ℕ). IsDamaged u is.1.0 staged before.held new at) first
-          (damaged_as stage staged idle.1 told before.held new at user is.1.0 is.1.2);
+      held = now.held;
+      numbers = by (λ e. cc);
+      damaged = subst (λ (u : List ℕ). IsDamaged u is.1.0 staged now.held now.held new at) first
+          (now_damaged before now stage staged old new told area at user is.1.0
+          (subst (λ (l : Line). IsIdleOn l (ending.Damaged area at) before now stage staged old new) is.1.1 idle) is.1.2);
     },
   )
+
+pub err_end : {A : Type 0} → (e f : EndErr) → (let one : Result A EndErr = Err e in one) ≡ Err f → e ≡ f
+err_end e f is = cc
 
 -- a line of the script, where it asks for something
 pub asked_among : (ended : Bool) (user x kept line all left later : List ℕ) → user ≡ codes "admin" → x ≡ kept → kept ≡ take 65537 line

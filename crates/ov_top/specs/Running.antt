@@ -67,8 +67,8 @@ line_of_run text = line_asked user_of_run text
 abbrev pub IsLineOf : List ℕ → List ℕ → Type 0
 IsLineOf text line = (before : List (List ℕ)) × (after : List (List ℕ)) × (lines_of text ≡ before ++ line ∷ after)
 
--- A line of the script asked for what is damaged at this page, by the numbers that the journal on the host says, and by the files
--- of the stage, where it tells them.
+-- A line of the script asked for what is damaged at this page, by the numbers that the journal on the host says (of a `generate`
+-- with the versions that it made before), and by the files of the stage, where it tells them.
 pub record ReadsDamage (script : Script) (stage : Staged) (s : State) (page : ℕ) : Type 0 where
   pub line : List ℕ
   pub among : script.tells ≡ true → IsLineOf script.left line
@@ -76,7 +76,7 @@ pub record ReadsDamage (script : Script) (stage : Staged) (s : State) (page : �
   pub asks : line_of_run line ≡ Asks command
   pub held : Held
   pub numbers : s.tells ≡ true → IsByJournal held s
-  pub damaged : IsDamaged user_of_run command stage held s page
+  pub damaged : IsDamaged user_of_run command stage held held s page
 
 abbrev pub IsRunDamage : Script → Staged → State → RunErr → Type 0
 IsRunDamage script stage s (running.Damaged area at) = (area ≡ Pages) × ReadsDamage script stage s at

@@ -12,7 +12,8 @@ use Rattle.ov_top.specs.declared.errors.RunErr.{RunErr}
 use Rattle.ov_top.specs.declared.errors.RunErr.TheVariants as running
 use Rattle.ov_top.proofs.Lined.{Gone, admin_is_name, ends_reading, ends_serving, err_is, given_true, gone_all, gone_ends, gone_more, gone_start, no_lines, nothing_left, read_whole, runs_start, not_seen, rose_in_all, serves_as, spent_by}
 use Rattle.ov_script.proofs.Readers.{next_lines}
-use Rattle.ov_top.proofs.Reading.{Fetches, asked_among, fetches_all, fetches_ends, fetches_more, fetches_start, line_kept, lined_more, reading_harmless, run_damage, unharmed, unharmed_reading}
+use Rattle.ov_session.specs.declared.errors.EndErr.TheVariants as ending
+use Rattle.ov_top.proofs.Reading.{Fetches, asked_among, err_end, fetches_all, fetches_ends, fetches_more, fetches_start, line_kept, lined_more, reading_harmless, run_damage, unharmed, unharmed_reading}
 use Rattle.ov_top.proofs.runs.serve_all.Goals as goal
 
 pub returns-in_err-user-clause-served : goal.returns-in_err-user-clause-served
@@ -175,7 +176,7 @@ lines-preserved g c =
           c.lines.user c.as_slice.result.now given.0 (g.H.Host.state c.args.host.now) (g.H.Host.state c.lines.host) (g.H.Host.state c.serve.new.host) (inv.fetched told are) inv.user
           (next_lines c.next_line.new.self.ended given.0 left later given.1)
           (line_kept c.lines.user c.as_slice.result.now c.next_line.new.line.items given.0 inv.user c.as_slice.ensures.value given.2)
-          c.serve.ensures.fetched c.serve.new.store.held c.serve.ensures.still;
+          c.serve.new.store.held _ c.serve.ensures.fetched c.serve.ensures.still;
       at_end = λ told. c.in_ok-next_line.ensures.at_end (inv.told ∙ told) (inv.at_end told);
     }
 
@@ -257,12 +258,15 @@ returns-in_err-served-clause-damaged g c = λ by.
     = err_is c.from_residual-in_err-served.result (by_serving e) c.from_residual-in_err-served.ensures.0 c.from_residual-in_err-served.ensures.1
     in subst (λ (r : Result Bool RunErr). IfErr r (IsRunDamage first staged host)) (sym is)
     (run_damage c.lines.user c.as_slice.result.now c.lines.invariant.user c.lines.store c.serve.new.store first stage staged (g.H.Host.state c.lines.host) host c.serve.ensures.attended.told
-    (c.lines.invariant.by_journal by)
     (λ command asks_ told.
     let given = given_true _ _ _ _ _ c.if-branch.true (c.in_ok-next_line.ensures.given (c.lines.invariant.told ∙ told) (c.lines.invariant.at_end told))
     in asked_among c.next_line.new.self.ended c.lines.user c.as_slice.result.now c.next_line.new.line.items given.0 first.left left later c.lines.invariant.user c.as_slice.ensures.value given.2
     (c.lines.invariant.lined told) given.1 command asks_)
-    e c.in_err-served.ensures.damaged c.in_err-served.ensures.idle)
+    e
+    (λ fine tells.
+    let tells_old : (g.H.Host.state c.lines.host).tells ≡ true = sym c.serve.ensures.goes.told ∙ tells
+    in c.in_err-served.ensures.by_journal (c.lines.invariant.by_journal by tells_old) (λ is. fine (err_end e ending.Host is)))
+    c.in_err-served.ensures.damaged c.in_err-served.ensures.idle)
 
 pub returns-in_err-served-clause-undamaged : goal.returns-in_err-served-clause-undamaged
 returns-in_err-served-clause-undamaged g c = λ w at.
@@ -281,4 +285,4 @@ returns-in_err-served-clause-fetched g c = λ told are.
     c.lines.user c.as_slice.result.now given.0 (g.H.Host.state c.args.host.now) (g.H.Host.state c.lines.host) (g.H.Host.state c.serve.new.host) (c.lines.invariant.fetched told are) c.lines.invariant.user
     (next_lines c.next_line.new.self.ended given.0 left later given.1)
     (line_kept c.lines.user c.as_slice.result.now c.next_line.new.line.items given.0 c.lines.invariant.user c.as_slice.ensures.value given.2)
-    c.serve.ensures.fetched
+    c.serve.new.store.held _ c.serve.ensures.fetched
