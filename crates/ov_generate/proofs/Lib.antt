@@ -7,3 +7,4 @@ pub mod Versions
 pub mod Firsts
 pub mod Whole
 pub mod Damages
+pub mod Fetching

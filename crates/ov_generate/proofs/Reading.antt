@@ -189,6 +189,13 @@ pub err_of : {A E : Type 0} (r : Result A E) (e x : E) → IsErr r × IsErrAnd r
 err_of (Ok y) e x h is = absurd (true≢false (sym h.0))
 err_of (Err y) e x h is = ap Err (h.1 ∙ is)
 
+err_same : {A E : Type 0} (r : Result A E) (a b : E) → r ≡ Err a → r ≡ Err b → a ≡ b
+err_same r a b x y = cc
+
+pub of_err : {A E : Type 0} (r : Result A E) (e x : E) → IsErr r × IsErrAnd r (λ y. y ≡ e) → IsErrOf r x → e ≡ x
+of_err (Ok y) e x h is = absurd (true≢false (sym h.0))
+of_err (Err y) e x h is = sym h.1 ∙ err_same (Err y) y x refl is
+
 -- ---- damage
 
 pub unread_damage : (held : Held) (name : List ℕ) (parent count vid : ℕ) (old new : State) (off : StoreErr) → Looked old new → IsUnread held name parent count vid old new off

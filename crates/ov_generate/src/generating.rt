@@ -16,6 +16,7 @@ ghost use Rattle.ov_store.specs.Scanning.{IsUndamaged};
 ghost use Rattle.ov_store.specs.declared.errors.StoreErr.{StoreErr as StoreErrValue};
 ghost use Rattle.law_runs.specs.Serving.{Does};
 ghost use Rattle.ov_generate.specs.Making.{Ends, HasDamagedVersion, IsDamageOf, IsKnown, IsWanted};
+ghost use Rattle.ov_generate.specs.Reads.{HasFetched};
 
 use crate::version::add_version;
 use ov_gen::{Gen, generate_schema};
@@ -83,6 +84,8 @@ pub fn generate<H: Host>(
     ensures kept { (H.state host.new).keeps ≡ (H.state host.old).keeps }
     ensures faults { (H.state host.old).faults ≤ (H.state host.new).faults }
     ensures counted { min (H.state host.old).fetched (2 ^ 64 - 1) ≤ (H.state host.new).fetched }
+    ensures fetched { HasFetched wanted.now.cvd wanted.now.seed wanted.now.rows wanted.now.versions store.old.held store.new.held
+        (IsErrOf result StoreErr.Host) (H.state host.old) (H.state host.new) }
     ensures unread { (off : StoreErrValue) → new_off store.old.held.numbers wanted.now.cvd ≡ Some off → H.state host.new ≡ H.state host.old }
     ensures first { (off : StoreErrValue) → new_off store.old.held.numbers wanted.now.cvd ≡ Some off → IfErr result (λ e. e ≡ off) }
     ensures allowed { OnOk result (new_off store.old.held.numbers wanted.now.cvd ≡ None) }

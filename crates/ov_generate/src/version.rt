@@ -13,6 +13,7 @@ ghost use Rattle.ov_store.specs.Scanning.{set_in};
 ghost use Rattle.law_generated.specs.Grown.{Grown, HasGrown, grown_more, move_next, rows_next};
 ghost use Rattle.law_moves.specs.Doing.{IsMoved};
 ghost use Rattle.ov_generate.specs.Making.{HasDamage, IsDamageOf, IsKnown, IsUnmoved};
+ghost use Rattle.ov_generate.specs.Reads.{IsVersionMade, bytes_of};
 
 use crate::parent::parent_rows;
 use ov_gen::Gen;
@@ -45,6 +46,9 @@ pub(crate) fn add_version<H: Host>(
     ensures kept { (H.state host.new).keeps ≡ (H.state host.old).keeps }
     ensures faults { (H.state host.old).faults ≤ (H.state host.new).faults }
     ensures counted { min (H.state host.old).fetched (2 ^ 64 - 1) ≤ (H.state host.new).fetched }
+    ensures fetched { (H.state host.new).fetched ≤ (H.state host.old).fetched
+        + 2 * bytes_of (set_in store.old.held.numbers cvd.now) (parent_drawn (vid - 1) source.old.state).is }
+    ensures made { OnOk result (IsVersionMade cvd.now count vid (parent_drawn (vid - 1) source.old.state).is store.old.held store.new.held) }
     ensures known { IfOk result (λ made. IsKnown store.new.held.numbers cvd.now) }
     ensures source { IfOk result (λ made. source.new.rows ≡ count) }
     ensures rows_few { IfOk result (λ made. made.rows ≤ 1000000) }

@@ -1,5 +1,5 @@
 use Rattle.std.proofs.Common.{◌≡◌, ◌≤◌, ◌+◌, ◌-◌, ◌*◌, ◌∙◌, ℕ, suc, List, [], length, refl, sym, ap, subst, arith}
-use Rattle.std.specs.Prelude.{Err, None, Ok, Some}
+use Rattle.std.specs.Prelude.{Err, IsErrOf, None, Ok, Some}
 use Rattle.ov_gen.specs.Versions.{IsGrown, Source}
 use Rattle.ov_model.specs.Act.{Session, init_refusal, unless}
 use Rattle.ov_model.specs.Book.{Row}
@@ -8,6 +8,7 @@ use Rattle.ov_model.specs.Moves.{Init}
 use Rattle.ov_model.specs.declared.reply.Reply.TheVariants as says
 use Rattle.ov_store.specs.Beginning.{first_of}
 use Rattle.ov_store.specs.Changes.{IsDone}
+use Rattle.ov_store.specs.Kept.{Kept}
 use Rattle.ov_store.specs.Refusals.{new_off, refusal_of, refused}
 use Rattle.ov_store.specs.declared.store.Committed.{Committed}
 use Rattle.ov_store.specs.declared.errors.StoreErr.TheVariants as why
@@ -22,9 +23,12 @@ use Rattle.ov_model.specs.Generator.{draw, parent_drawn}
 use Rattle.law_generated.specs.Grown.{move_next}
 use Rattle.law_generated.proofs.Steps.{parent_by_least, parent_by_most}
 use Rattle.ov_generate.proofs.Damages.{undamaged_of, unmoved_none, version_damage}
-use Rattle.ov_generate.proofs.Firsts.{by_off, first_made, free_named, may_off}
+use Rattle.ov_generate.proofs.Firsts.{by_off, first_made, free_named, may_off, still_of}
+use Rattle.ov_generate.specs.Reads.{HasFetched, IsFirstMade}
+use Rattle.ov_generate.proofs.Fetching.{IsFetching, fetched_all, fetched_none, fetched_off, fetching_first, fetching_more}
 use Rattle.ov_generate.proofs.Numbers.{known_first}
-use Rattle.ov_generate.proofs.Reading.{err_of, if_err, match_err}
+use Rattle.ov_generate.proofs.Reading.{err_of, if_err, match_err, of_err}
+use Rattle.ov_store.proofs.Readying.{rose_later}
 use Rattle.ov_generate.proofs.Whole.{IsGrowing, first_off, first_long, growing_done, growing_first, growing_more, growing_off, new_is, none_some, refused_first, some_off, the_deed}
 use Rattle.ov_generate.proofs.generating.generate.Goals as goal
 
@@ -117,6 +121,10 @@ loop-before-init g c =
           (subst (λ (n : List ℕ). new_off held.numbers n ≡ None) c.as_str-cvd.ensures.text c.in_ok-may_begin.ensures.answer) done);
       source = ap (λ (x : Source). x.rows) c.in_ok-rows.ensures.state ∙ c.new-source.ensures.rows;
       message = c.in_ok-message.ensures;
+      within = c.requires.wanted.some_versions;
+      fetching = fetching_first name a.seed a.rows held old now new
+          (subst (λ (n : List ℕ). IsFirstMade n a.seed a.rows held now) (sym c.as_str-cvd.ensures.text)
+          (subst (λ (l : List Row). IsDone (first_of a.cvd generated_schema l) held now) rows done)) passes.fetched;
       few = omega (arith, members, first_long a.rows c.in_ok-rows.rows.items grown, c.requires.wanted.few);
       by_journal = λ by. c.in_ok-begun.ensures.by_journal by;
       growing = λ w s at free.
@@ -187,6 +195,14 @@ loop-before-preserved g c =
       known = c.in_ok-made.ensures.known;
       source = c.in_ok-made.ensures.source;
       message = inv.message;
+      within = omega (arith, c.loop-before-test.true);
+      fetching =
+          let some : 1 ≤ before = c.loop-before.auto.before
+          in let drawn : 1 ≤ before + 1 - 1 = omega (arith, some)
+          in fetching_more name a.seed a.rows held old before (parent_drawn (before + 1 - 1) c.loop-before.source.state).is c.loop-before.store.held mid new inv.fetching
+          (parent_by_least (before + 1 - 1) (draw 4 c.loop-before.source.state) drawn)
+          (let most = parent_by_most (before + 1 - 1) (draw 4 c.loop-before.source.state) drawn in omega (arith, most))
+          c.add_version.ensures.fetched c.add_version.new.store.held c.in_ok-made.ensures.made;
       few = few_more c.loop-before.members c.from.result before inv.few (omega (arith, c.from.ensures, c.in_ok-made.ensures.rows_few));
       by_journal = λ by. c.in_ok-made.ensures.by_journal (inv.by_journal by);
       growing = λ w s at free.
@@ -283,3 +299,72 @@ returns-in_err-made-clause-first g c = λ off is.
 
 pub returns-clause-allowed : goal.returns-clause-allowed
 returns-clause-allowed g c = subst (λ (n : List ℕ). new_off c.args.store.now.held.numbers n ≡ None) c.as_str-cvd.ensures.text c.in_ok-may_begin.ensures.answer
+
+-- ---- what is fetched
+
+pub returns-in_err-may_begin-clause-fetched : goal.returns-in_err-may_begin-clause-fetched
+returns-in_err-may_begin-clause-fetched g c =
+    fetched_none c.args.wanted.now.cvd c.args.wanted.now.seed c.args.wanted.now.rows c.args.store.now.held (g.H.Host.state c.args.host.now) c.args.wanted.now.versions
+    c.args.store.now.held _ (g.H.Host.state c.args.host.now) c.requires.wanted.some_versions (λ fine. refl) refl
+
+pub returns-in_err-rows-clause-fetched : goal.returns-in_err-rows-clause-fetched
+returns-in_err-rows-clause-fetched g c =
+    fetched_none c.args.wanted.now.cvd c.args.wanted.now.seed c.args.wanted.now.rows c.args.store.now.held (g.H.Host.state c.args.host.now) c.args.wanted.now.versions
+    c.args.store.now.held _ (g.H.Host.state c.args.host.now) c.requires.wanted.some_versions (λ fine. refl) refl
+
+pub returns-in_err-message-clause-fetched : goal.returns-in_err-message-clause-fetched
+returns-in_err-message-clause-fetched g c =
+    fetched_none c.args.wanted.now.cvd c.args.wanted.now.seed c.args.wanted.now.rows c.args.store.now.held (g.H.Host.state c.args.host.now) c.args.wanted.now.versions
+    c.args.store.now.held _ (g.H.Host.state c.args.host.now) c.requires.wanted.some_versions (λ fine. refl) refl
+
+pub returns-in_err-generate_schema-clause-fetched : goal.returns-in_err-generate_schema-clause-fetched
+returns-in_err-generate_schema-clause-fetched g c =
+    fetched_none c.args.wanted.now.cvd c.args.wanted.now.seed c.args.wanted.now.rows c.args.store.now.held (g.H.Host.state c.args.host.now) c.args.wanted.now.versions
+    c.args.store.now.held _ (g.H.Host.state c.args.host.now) c.requires.wanted.some_versions (λ fine. refl) refl
+
+pub returns-in_err-begun-clause-fetched : goal.returns-in_err-begun-clause-fetched
+returns-in_err-begun-clause-fetched g c =
+    let a = c.args.wanted.now
+    in let old = g.H.Host.state c.args.host.now
+    in let new = g.H.Host.state c.init.new.host
+    in let off = c.in_err-begun.field-0.0
+    in fetched_none a.cvd a.seed a.rows c.args.store.now.held old a.versions c.init.new.self.held _ new c.requires.wanted.some_versions
+    (λ fine. ap (λ (k : Kept). k.held) (still_of off c.args.store.now c.init.new.self old new c.in_err-begun.ensures.stays
+    (λ is. fine (err_of c.from_residual-in_err-begun.result off why.Host c.from_residual-in_err-begun.ensures is))).0)
+    c.init.ensures.passes.fetched
+
+pub returns-in_err-made-clause-fetched : goal.returns-in_err-made-clause-fetched
+returns-in_err-made-clause-fetched g c =
+    let a = c.args.wanted.now
+    in let name = c.as_str-cvd.result.now
+    in let old = g.H.Host.state c.args.host.now
+    in let mid = g.H.Host.state c.loop-before.host
+    in let new = g.H.Host.state c.add_version.new.host
+    in let held = c.args.store.now.held
+    in let before = c.loop-before.before
+    in let off = c.in_err-made.field-0.0
+    in let drawn : 1 ≤ before + 1 - 1 = (let some : 1 ≤ before = c.loop-before.auto.before in omega (arith, some))
+    in let fetched = fetched_off name a.seed a.rows held old before (parent_drawn (before + 1 - 1) c.loop-before.source.state).is c.loop-before.store.held mid new c.loop-before.invariant.fetching
+    (parent_by_least (before + 1 - 1) (draw 4 c.loop-before.source.state) drawn)
+    (let most = parent_by_most (before + 1 - 1) (draw 4 c.loop-before.source.state) drawn in omega (arith, most))
+    c.add_version.ensures.fetched a.versions c.add_version.new.store.held (IsErrOf c.from_residual-in_err-made.result why.Host) c.loop-before-test.true
+    (λ fine. ap (λ (k : Kept). k.held) (still_of off c.loop-before.store c.add_version.new.store mid new c.in_err-made.ensures.stays
+    (λ is. fine (err_of c.from_residual-in_err-made.result off why.Host c.from_residual-in_err-made.ensures is))).0)
+    in subst (λ (n : List ℕ). HasFetched n a.seed a.rows a.versions held c.add_version.new.store.held (IsErrOf c.from_residual-in_err-made.result why.Host) old new) c.as_str-cvd.ensures.text fetched
+
+pub returns-clause-fetched : goal.returns-clause-fetched
+returns-clause-fetched g c =
+    let a = c.args.wanted.now
+    in let name = c.as_str-cvd.result.now
+    in let old = g.H.Host.state c.args.host.now
+    in let new = g.H.Host.state c.loop-before.host
+    in let held = c.args.store.now.held
+    in let now = c.loop-before.store.held
+    in let all : c.loop-before.before ≡ a.versions = omega (arith, c.loop-before-test.false, c.loop-before.invariant.within)
+    in let fetching = subst (λ n. IsFetching name a.seed a.rows held old n now new) all c.loop-before.invariant.fetching
+    in fetched_all name a.seed a.rows held old a.cvd a.versions now _ new c.as_str-cvd.ensures.text fetching
+
+pub returns-in_err-made-clause-cause : goal.returns-in_err-made-clause-cause
+returns-in_err-made-clause-cause g c = λ is.
+    rose_later (g.H.Host.state c.args.host.now).faults (g.H.Host.state c.loop-before.host).faults (g.H.Host.state c.add_version.new.host).faults c.loop-before.invariant.faults
+    (c.in_err-made.ensures.cause (ap Err (of_err c.from_residual-in_err-made.result c.in_err-made.field-0.0 why.Host c.from_residual-in_err-made.ensures is)))

@@ -1,16 +1,17 @@
 use Rattle.std.proofs.Common.{◌≡◌, ◌≤◌, ◌+◌, ◌-◌, ◌∙◌, ℕ, List, [], ◌∷◌, length, sym, ap, subst, arith}
 use Rattle.std.specs.Prelude.{IfErr, None}
 use Rattle.ov_core.specs.AtWorld.{IsAtWorld}
-use Rattle.ov_gen.specs.Versions.{Source}
+use Rattle.ov_gen.specs.Versions.{IsGrown, Source}
 use Rattle.ov_gen.proofs.Growing.{begin-few}
 use Rattle.ov_model.specs.Book.{Row}
 use Rattle.ov_model.specs.Generator.{Drawn, child_of, parent_drawn}
 use Rattle.ov_model.specs.Records.{rows_at}
-use Rattle.ov_store.specs.Scanning.{scan_off}
+use Rattle.ov_store.specs.Scanning.{scan_off, set_in}
 use Rattle.ov_store.proofs.Looking.{looked_at}
 use Rattle.law_generated.specs.Grown.{move_next, parent_next, rows_next, rows_of_parent}
 use Rattle.law_generated.proofs.Steps.{parent_rows}
 use Rattle.ov_generate.specs.Making.{HasDamage, IsDamageOf, IsUnmoved}
+use Rattle.ov_generate.proofs.Fetching.{bytes_there, version_is_made}
 use Rattle.ov_generate.proofs.Reading.{commit_damage, if_err, match_err, parent_there, result_const, result_journal, result_stays, unread_damage, unread_unmoved}
 use Rattle.ov_generate.proofs.Versions.{child_is, known_ok, parent_is, rows_ok, state_is, version_made, world_rows}
 use Rattle.ov_generate.proofs.version.add_version.Goals as goal
@@ -99,3 +100,30 @@ returns-clause-rows_few g c =
     in let few : length c.in_ok-rows-2.rows.items ≤ 1000000
     = omega (arith, c.requires.few, begin-few c.parent-parent.new.self.rows 1 (c.parent-parent.new.self.rows + (c.args.vid + 1)) c.in_ok-rows-2.rows.items (omega arith) c.in_ok-rows-2.ensures.grown, count)
     in rows_ok c.commit.result c.requires.known.set _ _ c.args.store.now.held c.commit.new.self.held (c.commit.ensures.done c.requires.known.set c.requires.known.named) few
+
+-- ---- what is fetched
+
+pub returns-in_err-rows-clause-fetched : goal.returns-in_err-rows-clause-fetched
+returns-in_err-rows-clause-fetched g c =
+    omega (
+      arith,
+      c.parent_rows.ensures.fetched c.requires.known.set c.requires.known.named,
+      bytes_there (set_in c.args.store.now.held.numbers c.args.cvd.now) c.requires.known.set _ _ c.requires.known.named c.parent-parent.ensures.drawn,
+    )
+
+pub returns-clause-fetched : goal.returns-clause-fetched
+returns-clause-fetched g c =
+    omega (
+      arith,
+      c.parent_rows.ensures.fetched c.requires.known.set c.requires.known.named,
+      c.commit.ensures.fetched c.requires.known.set c.requires.known.named,
+      bytes_there (set_in c.args.store.now.held.numbers c.args.cvd.now) c.requires.known.set _ _ c.requires.known.named c.parent-parent.ensures.drawn,
+      bytes_there (set_in c.args.store.now.held.numbers c.args.cvd.now) c.requires.known.set _ _ c.requires.known.named (c.from.ensures ∙ c.parent-parent.ensures.drawn),
+    )
+
+pub returns-clause-made : goal.returns-clause-made
+returns-clause-made g c =
+    let count : c.parent-parent.new.self.rows ≡ c.args.count = ap (λ (x : Source). x.rows) c.parent-parent.ensures.state ∙ c.requires.source
+    in version_is_made c.commit.result c.args.cvd.now c.args.count c.args.vid _ c.args.store.now.held c.commit.new.self.held c.requires.known _ _
+    (ap (λ (n : ℕ). n ∷ []) (c.from.ensures ∙ c.parent-parent.ensures.drawn)) (subst (λ n. IsGrown n (c.args.vid + 1) c.in_ok-rows-2.rows.items) count c.in_ok-rows-2.ensures.grown)
+    (c.commit.ensures.done c.requires.known.set c.requires.known.named)
