@@ -1,5 +1,5 @@
 -- Why a call isn't done whose version isn't ready.
-use Rattle.std.proofs.Common.{inl, ◌≡◌, ◌<◌, ◌≤◌, ◌^◌, ◌+◌, ℕ, List, [], length, sym, ◌∙◌, ap, subst, refl, arith}
+use Rattle.std.proofs.Common.{◌≡◌, ◌<◌, ◌≤◌, ◌^◌, ◌+◌, ℕ, List, [], length, sym, ◌∙◌, ap, subst, refl, arith}
 use Rattle.std.specs.Prelude.{◌/◌, Option, Some, None}
 use Rattle.ov_host.specs.Host.{State}
 use Rattle.ov_host.specs.declared.area.Extent.{Extent}

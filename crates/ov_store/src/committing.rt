@@ -45,7 +45,8 @@ use ov_host::Host;
 use ov_new_version::{Commit, Wanted, commit_of};
 use ov_parents::parents_of;
 use ov_rows::version_rows;
-use ov_value::{Row, Txt};
+use ov_segment::RowTable;
+use ov_value::Txt;
 
 /// How many versions a dataset may have.
 const MOST_VERSIONS: usize = ov_model::MOST_VERSIONS as usize;
@@ -61,7 +62,7 @@ struct Parents<'a> {
 struct Ask<'a> {
     d: &'a Cvd,
     vids: Vec<u32>,
-    rows: Vec<Row>,
+    rows: RowTable,
 }
 
 /// A version that is ready to be stored: what it brings, its number, and how many of its records are new.
@@ -105,20 +106,20 @@ impl Store {
     }
 
     // What a commit asks, where nothing of the catalog and its arguments refuses it.
-    fn ask(&self, name: &str, parents: &[u64], rows: Vec<Row>) -> Result<Ask<'_>, StoreErr>
-        requires fit { (s : Set) → set_in self.now.held.numbers name.now ≡ Some s → All (IsRow s.schema) rows.items }
-        requires short { All IsShort rows.items }
+    fn ask(&self, name: &str, parents: &[u64], rows: RowTable) -> Result<Ask<'_>, StoreErr>
+        requires fit { (s : Set) → set_in self.now.held.numbers name.now ≡ Some s → All (IsRow s.schema) rows }
+        requires short { All IsShort rows }
         requires some { parents.now ≢ [] }
-        ensures allowed { OnOk result (commit_off self.now.held name.now parents.now rows.items ≡ None) }
+        ensures allowed { OnOk result (commit_off self.now.held name.now parents.now rows ≡ None) }
         ensures found { IfOk result (λ ask. set_in self.now.held.numbers name.now ≡ Some (numbers_of ask.d.now)) }
         ensures sound { IfOk result (λ ask. IsSet ask.d.now) }
         ensures few { IfOk result (λ ask. length ask.d.now.versions.items < 65535) }
         ensures vids { IfOk result (λ ask. ask.vids.items ≡ parents.now) }
         ensures parents { IfOk result (λ ask. AreParents (length ask.d.now.versions.items) ask.vids.items) }
-        ensures rows { IfOk result (λ ask. ask.rows.items ≡ in_key_order ask.d.now.schema rows.items) }
-        ensures fit { IfOk result (λ ask. AreRows ask.d.now.schema ask.rows.items) }
-        ensures count { IfOk result (λ ask. length ask.rows.items ≡ length rows.items) }
-        ensures why { IfErr result (IsRefused (commit_off self.now.held name.now parents.now rows.items)) }
+        ensures rows { IfOk result (λ ask. ask.rows ≡ in_key_order ask.d.now.schema rows) }
+        ensures fit { IfOk result (λ ask. AreRows ask.d.now.schema ask.rows) }
+        ensures count { IfOk result (λ ask. length ask.rows ≡ length rows) }
+        ensures why { IfErr result (IsRefused (commit_off self.now.held name.now parents.now rows)) }
     {
         let Parents { d, vids } = self.parents_in(name, parents)?;
         let format = self.core.journal().format();
@@ -132,31 +133,31 @@ impl Store {
         host: &mut H,
         name: &str,
         parents: &[u64],
-        rows: Vec<Row>,
+        rows: RowTable,
         message: &Txt,
     ) -> Result<NextVersion, Unready>
-        requires fit { (s : Set) → set_in self.now.held.numbers name.now ≡ Some s → All (IsRow s.schema) rows.items }
-        requires short { All IsShort rows.items }
+        requires fit { (s : Set) → set_in self.now.held.numbers name.now ≡ Some s → All (IsRow s.schema) rows }
+        requires short { All IsShort rows }
         requires some { parents.now ≢ [] }
         requires message { length message.now ≤ 1024 }
         ensures looked { Looked (H.state host.old) (H.state host.new) }
         ensures fetched { (s : Set) → set_in self.now.held.numbers name.now ≡ Some s
             → (H.state host.new).fetched ≤ (H.state host.old).fetched + bytes_for s parents.now }
-        ensures unread { (off : StoreErrValue) → commit_off self.now.held name.now parents.now rows.items ≡ Some off → H.state host.new ≡ H.state host.old }
+        ensures unread { (off : StoreErrValue) → commit_off self.now.held name.now parents.now rows ≡ Some off → H.state host.new ≡ H.state host.old }
         ensures ready { IfOk result (λ next. IsReady next.brought self.now.held) }
-        ensures allowed { OnOk result (commit_off self.now.held name.now parents.now rows.items ≡ None) }
+        ensures allowed { OnOk result (commit_off self.now.held name.now parents.now rows ≡ None) }
         ensures by { (s : Set) → set_in self.now.held.numbers name.now ≡ Some s → IfOk result (λ next. IsCommitBy s
-            (record { vids = parents.now; message = message.now; rows = rows.items }) (H.state host.old) (bringing_of next.brought) next.fresh) }
+            (record { vids = parents.now; message = message.now; rows = rows }) (H.state host.old) (bringing_of next.brought) next.fresh) }
         ensures vid { (s : Set) → set_in self.now.held.numbers name.now ≡ Some s → IfOk result (λ next. next.vid ≡ length s.versions + 1) }
-        ensures count { OnOk result (length rows.items ≤ 1000000) }
-        ensures why { IfErr result (IsUnready self.now.held name.now (record { vids = parents.now; message = message.now; rows = rows.items })
+        ensures count { OnOk result (length rows ≤ 1000000) }
+        ensures why { IfErr result (IsUnready self.now.held name.now (record { vids = parents.now; message = message.now; rows = rows })
             (H.state host.old) (H.state host.new)) }
         ensures brings { (w : World) (d : Dataset) → IsAtWorld w self.now.held (H.state host.old) → set_named w name.now ≡ Some d
-            → IfOk result (λ next. Brings (commit_move d parents.now message.now rows.items) w next.brought) }
+            → IfOk result (λ next. Brings (commit_move d parents.now message.now rows) w next.brought) }
         ensures fresh { (w : World) (d : Dataset) → IsAtWorld w self.now.held (H.state host.old) → set_named w name.now ≡ Some d
-            → IfOk result (λ next. next.fresh ≡ fresh_in_world d (record { vids = parents.now; message = message.now; rows = rows.items })) }
+            → IfOk result (λ next. next.fresh ≡ fresh_in_world d (record { vids = parents.now; message = message.now; rows = rows })) }
         ensures spared { (w : World) (d : Dataset) → IsAtWorld w self.now.held (H.state host.old) → set_named w name.now ≡ Some d
-            → IfErr result (IsSparedBy w d (record { vids = parents.now; message = message.now; rows = rows.items })) }
+            → IfErr result (IsSparedBy w d (record { vids = parents.now; message = message.now; rows = rows })) }
     {
         let Ask { d, vids, rows } = self.ask(name, parents, rows)?;
         let _ = self.core.is_replayed();
@@ -209,12 +210,12 @@ impl Store {
         host: &mut H,
         name: &str,
         parents: &[u64],
-        rows: Vec<Row>,
+        rows: RowTable,
         message: &Txt,
     ) -> Result<Committed, StoreErr>
         requires call { MayCall self.old (H.state host.old) }
-        requires fit { (s : Set) → set_in self.old.held.numbers name.now ≡ Some s → All (IsRow s.schema) rows.items }
-        requires short { All IsShort rows.items }
+        requires fit { (s : Set) → set_in self.old.held.numbers name.now ≡ Some s → All (IsRow s.schema) rows }
+        requires short { All IsShort rows }
         requires some { parents.now ≢ [] }
         requires message { length message.now ≤ 1024 }
         ensures told { (H.state host.new).tells ≡ (H.state host.old).tells }
@@ -223,11 +224,11 @@ impl Store {
         ensures fetched { (s : Set) → set_in self.old.held.numbers name.now ≡ Some s
             → (H.state host.new).fetched ≤ (H.state host.old).fetched + bytes_for s parents.now }
         ensures counted { min (H.state host.old).fetched (2 ^ 64 - 1) ≤ (H.state host.new).fetched }
-        ensures unread { (off : StoreErrValue) → commit_off self.old.held name.now parents.now rows.items ≡ Some off → H.state host.new ≡ H.state host.old }
+        ensures unread { (off : StoreErrValue) → commit_off self.old.held name.now parents.now rows ≡ Some off → H.state host.new ≡ H.state host.old }
         ensures done { (s : Set) → set_in self.old.held.numbers name.now ≡ Some s → IfOk result (IsCommitted s
-            (record { vids = parents.now; message = message.now; rows = rows.items }) (H.state host.old) self.old.held self.new.held) }
-        ensures allowed { OnOk result (commit_off self.old.held name.now parents.now rows.items ≡ None) }
-        ensures why { IfErr result (IsUncommitted self.old.held name.now (record { vids = parents.now; message = message.now; rows = rows.items })
+            (record { vids = parents.now; message = message.now; rows = rows }) (H.state host.old) self.old.held self.new.held) }
+        ensures allowed { OnOk result (commit_off self.old.held name.now parents.now rows ≡ None) }
+        ensures why { IfErr result (IsUncommitted self.old.held name.now (record { vids = parents.now; message = message.now; rows = rows })
             (H.state host.old) (H.state host.new)) }
         ensures undamaged { (s : Set) → (H.state host.old).tells ≡ true → set_in self.old.held.numbers name.now ≡ Some s
             → OnOk result ((page : ℕ) → RefusesParents (fetch.Damaged page) (page_bytes (H.state host.old)) s parents.now → ⊥) }
@@ -238,25 +239,25 @@ impl Store {
 
         // Where the store is at a World: a stop at any moment, what was made, how many records are new, and why not.
         ensures stops { (w : World) → IsAtWorld w self.old.held (H.state host.old) → Only (H.state host.old).tape (H.state host.new).tape
-            (IsEither w (committed name.now (record { vids = parents.now; message = message.now; rows = rows.items }) w) (H.state host.old).tape.disk.printed) }
+            (IsEither w (committed name.now (record { vids = parents.now; message = message.now; rows = rows }) w) (H.state host.old).tape.disk.printed) }
         ensures moves { (w : World) → IsAtWorld w self.old.held (H.state host.old) → OnOk result
-            (IsAtNext (committed name.now (record { vids = parents.now; message = message.now; rows = rows.items }) w) self.new.held (H.state host.old) (H.state host.new)) }
+            (IsAtNext (committed name.now (record { vids = parents.now; message = message.now; rows = rows }) w) self.new.held (H.state host.old) (H.state host.new)) }
         ensures fresh { (w : World) (d : Dataset) → IsAtWorld w self.old.held (H.state host.old) → set_named w name.now ≡ Some d
-            → IfOk result (λ made. made.fresh ≡ fresh_in_world d (record { vids = parents.now; message = message.now; rows = rows.items })) }
+            → IfOk result (λ made. made.fresh ≡ fresh_in_world d (record { vids = parents.now; message = message.now; rows = rows })) }
         ensures spared { (w : World) (d : Dataset) → IsAtWorld w self.old.held (H.state host.old) → set_named w name.now ≡ Some d
-            → IfErr result (IsSparedOff d (record { vids = parents.now; message = message.now; rows = rows.items })) }
+            → IfErr result (IsSparedOff d (record { vids = parents.now; message = message.now; rows = rows })) }
 
         // So a commit that the World refuses begins nothing, and is refused for that; and the room that is taken.
         ensures refused { (w : World) (d : Dataset) → IsAtWorld w self.old.held (H.state host.old) → set_named w name.now ≡ Some d → MatchResult result
-            (λ made. version_refusal w d (record { vids = parents.now; message = message.now; rows = rows.items }) ≡ None)
-            (IsRefusedAs name.now (version_refusal w d (record { vids = parents.now; message = message.now; rows = rows.items }))) }
+            (λ made. version_refusal w d (record { vids = parents.now; message = message.now; rows = rows }) ≡ None)
+            (IsRefusedAs name.now (version_refusal w d (record { vids = parents.now; message = message.now; rows = rows }))) }
         ensures still { (w : World) (d : Dataset) (refusal : Refusal) → IsAtWorld w self.old.held (H.state host.old) → set_named w name.now ≡ Some d
-            → version_refusal w d (record { vids = parents.now; message = message.now; rows = rows.items }) ≡ Some refusal
+            → version_refusal w d (record { vids = parents.now; message = message.now; rows = rows }) ≡ Some refusal
             → Only (H.state host.old).tape (H.state host.new).tape (IsWorld w (H.state host.old).tape.disk.printed) }
         ensures room { (w : World) (d : Dataset) (entry : Entry) (past : List Made) → IsAtWorld w self.old.held (H.state host.old)
             → set_named w name.now ≡ Some d → IsWithin entry past self.old.held
-            → MatchResult result (λ made. IsWithin entry (and_made past (commit_move d parents.now message.now rows.items) w) self.new.held)
-            (IsLack entry past (commit_move d parents.now message.now rows.items) w) }
+            → MatchResult result (λ made. IsWithin entry (and_made past (commit_move d parents.now message.now rows) w) self.new.held)
+            (IsLack entry past (commit_move d parents.now message.now rows) w) }
     {
         let count = rows.len();
         let next = match self.next(host, name, parents, rows, message) {

@@ -44,7 +44,8 @@ use ov_host::Host;
 use ov_model::MOST_CVDS;
 use ov_open::{OpenErr, open as open_core};
 use ov_rows::version_rows;
-use ov_value::{Row, Schema, Txt};
+use ov_segment::RowTable;
+use ov_value::{Schema, Txt};
 use ov_version_bytes::first_version;
 use std::alloc::Global;
 use std::marker::Model;
@@ -193,23 +194,23 @@ impl Store {
     }
 
     // What a dataset of these rows brings.
-    fn first(&self, name: &Txt, schema: &Schema, rows: Vec<Row>) -> Result<Brought, Unready>
+    fn first(&self, name: &Txt, schema: &Schema, rows: RowTable) -> Result<Brought, Unready>
         requires name { IsTrue (is_a_name name.now) }
         requires sound { IsSound schema.now }
-        requires fit { All (IsRow schema.now) rows.items }
-        requires short { All IsShort rows.items }
+        requires fit { All (IsRow schema.now) rows }
+        requires short { All IsShort rows }
         ensures ready { IfOk result (λ b. IsReady b self.now.held) }
-        ensures allowed { OnOk result (init_off self.now.held name.now schema.now rows.items ≡ None) }
-        ensures few { OnOk result (length rows.items ≤ 1000000) }
-        ensures is { IfOk result (λ b. bringing_of b ≡ first_of name.now schema.now rows.items) }
-        ensures why { IfErr result (IsUnready (init_off self.now.held name.now schema.now rows.items) (first_of name.now schema.now rows.items)) }
-        ensures brings { (w : World) (s : State) → IsAtWorld w self.now.held s → IfOk result (Brings (first_move name.now schema.now rows.items) w) }
-        ensures long { (w : World) → IfErr result (IfTooLong (first_move name.now schema.now rows.items) w) }
+        ensures allowed { OnOk result (init_off self.now.held name.now schema.now rows ≡ None) }
+        ensures few { OnOk result (length rows ≤ 1000000) }
+        ensures is { IfOk result (λ b. bringing_of b ≡ first_of name.now schema.now rows) }
+        ensures why { IfErr result (IsUnready (init_off self.now.held name.now schema.now rows) (first_of name.now schema.now rows)) }
+        ensures brings { (w : World) (s : State) → IsAtWorld w self.now.held s → IfOk result (Brings (first_move name.now schema.now rows) w) }
+        ensures long { (w : World) → IfErr result (IfTooLong (first_move name.now schema.now rows) w) }
     {
         self.may_begin(name.as_str())?;
         let format = self.core.journal().format();
         let rows = version_rows(self.alloc, schema, format, false, rows)?;
-        Ok(first_version(self.alloc, name, schema, rows)?)
+        Ok(first_version(self.alloc, name, schema, &rows)?)
     }
 
     /// Makes a dataset with version 1, of these rows.
@@ -222,17 +223,17 @@ impl Store {
         host: &mut H,
         name: &Txt,
         schema: Schema,
-        rows: Vec<Row>,
+        rows: RowTable,
     ) -> Result<Committed, StoreErr>
         requires call { MayCall self.old (H.state host.old) }
         requires name { IsTrue (is_a_name name.now) }
-        requires fit { All (IsRow schema) rows.items }
-        requires short { All IsShort rows.items }
+        requires fit { All (IsRow schema) rows }
+        requires short { All IsShort rows }
         ensures passes { Passes (H.state host.old) (H.state host.new) }
-        ensures done { OnOk result (IsDone (first_of name.now schema rows.items) self.old.held self.new.held) }
-        ensures allowed { OnOk result (init_off self.old.held name.now schema rows.items ≡ None) }
-        ensures made { IfOk result (λ made. made ≡ record { vid = 1; rows = length rows.items; fresh = length rows.items }) }
-        ensures why { IfErr result (IsWhy (init_off self.old.held name.now schema rows.items) (first_of name.now schema rows.items)
+        ensures done { OnOk result (IsDone (first_of name.now schema rows) self.old.held self.new.held) }
+        ensures allowed { OnOk result (init_off self.old.held name.now schema rows ≡ None) }
+        ensures made { IfOk result (λ made. made ≡ record { vid = 1; rows = length rows; fresh = length rows }) }
+        ensures why { IfErr result (IsWhy (init_off self.old.held name.now schema rows) (first_of name.now schema rows)
             self.old.held (H.state host.old) (H.state host.new)) }
         ensures stays { IfErr result (λ off. Stays off self.old self.new (H.state host.old) (H.state host.new)) }
         ensures usable { OnOk result (MayCall self.new (H.state host.new)) }
@@ -240,19 +241,19 @@ impl Store {
         ensures unusable { IsErrOf result StoreErr.Host → self.new.usable ≡ false }
         ensures stops { (w : World) → IsAtWorld w self.old.held (H.state host.old)
             → Only (H.state host.old).tape (H.state host.new).tape
-            (IsEither w (moved (first_move name.now schema rows.items) w) (H.state host.old).tape.disk.printed) }
+            (IsEither w (moved (first_move name.now schema rows) w) (H.state host.old).tape.disk.printed) }
         ensures moves { (w : World) → IsAtWorld w self.old.held (H.state host.old)
-            → OnOk result (IsAtNext (moved (first_move name.now schema rows.items) w) self.new.held (H.state host.old) (H.state host.new)) }
+            → OnOk result (IsAtNext (moved (first_move name.now schema rows) w) self.new.held (H.state host.old) (H.state host.new)) }
 
         // Where the store is at a World: why not; a call that the World refuses begins nothing; and the room that is taken.
         ensures refused { (w : World) → IsAtWorld w self.old.held (H.state host.old) → MatchResult result
-            (λ made. begin_refusal w name.now schema rows.items ≡ None) (IsRefusedAs name.now (begin_refusal w name.now schema rows.items)) }
+            (λ made. begin_refusal w name.now schema rows ≡ None) (IsRefusedAs name.now (begin_refusal w name.now schema rows)) }
         ensures still { (w : World) (refusal : Refusal) → IsAtWorld w self.old.held (H.state host.old)
-            → begin_refusal w name.now schema rows.items ≡ Some refusal
+            → begin_refusal w name.now schema rows ≡ Some refusal
             → Only (H.state host.old).tape (H.state host.new).tape (IsWorld w (H.state host.old).tape.disk.printed) }
         ensures room { (w : World) (entry : Entry) (past : List Made) → IsAtWorld w self.old.held (H.state host.old) → IsWithin entry past self.old.held
-            → MatchResult result (λ made. IsWithin entry (and_made past (first_move name.now schema rows.items) w) self.new.held)
-            (IsLack entry past (first_move name.now schema rows.items) w) }
+            → MatchResult result (λ made. IsWithin entry (and_made past (first_move name.now schema rows) w) self.new.held)
+            (IsLack entry past (first_move name.now schema rows) w) }
     {
         let count = rows.len();
         let brought = match self.first(name, &schema, rows) {

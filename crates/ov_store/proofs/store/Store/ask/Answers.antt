@@ -10,8 +10,8 @@ use Rattle.ov_store.proofs.store.Store.ask.Goals as goal
 
 pub returns-in_err-d-clause-why : goal.returns-in_err-d-clause-why
 returns-in_err-d-clause-why c =
-    let fact : IsRefused (commit_off c.args.self.now.held c.args.name.now c.args.parents.now c.args.rows.items) c.in_err-d.field-0.0
-    = parents_first c.args.self.now.held c.args.name.now c.args.parents.now c.args.rows.items c.in_err-d.field-0.0 c.in_err-d.ensures.why
+    let fact : IsRefused (commit_off c.args.self.now.held c.args.name.now c.args.parents.now c.args.rows) c.in_err-d.field-0.0
+    = parents_first c.args.self.now.held c.args.name.now c.args.parents.now c.args.rows c.in_err-d.field-0.0 c.in_err-d.ensures.why
     in search (rules, fact)
 
 pub returns-clause-parents : goal.returns-clause-parents
@@ -22,5 +22,5 @@ returns-clause-parents c =
 
 pub returns-clause-fit : goal.returns-clause-fit
 returns-clause-fit c =
-    rows_sorted c.in_ok-d.field-0.d.now.schema c.args.rows.items c.in_ok-rows.rows.items c.in_ok-rows.ensures.kept c.in_ok-rows.ensures.rise c.in_ok-rows.ensures.few
+    rows_sorted c.in_ok-d.field-0.d.now.schema c.args.rows c.in_ok-rows.rows c.in_ok-rows.ensures.kept c.in_ok-rows.ensures.rise c.in_ok-rows.ensures.few
     (c.requires.fit (sets.set_in c.in_ok-d.field-0.d.now) c.in_ok-d.ensures.found) c.requires.short

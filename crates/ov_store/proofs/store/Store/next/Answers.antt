@@ -31,14 +31,14 @@ use Rattle.ov_store.proofs.store.Store.next.Goals as goal
 
 pub returns-in_err-d-clause-why : goal.returns-in_err-d-clause-why
 returns-in_err-d-clause-why g c =
-    let fact : IsUncommitted c.args.self.now.held c.args.name.now (record { vids = c.args.parents.now; message = c.args.message.now; rows = c.args.rows.items }) (g.H.Host.state c.args.host.now) (g.H.Host.state c.args.host.now) c.in_err-d.field-0.0
-    = refused_uncommitted c.args.self.now.held c.args.name.now (record { vids = c.args.parents.now; message = c.args.message.now; rows = c.args.rows.items }) (g.H.Host.state c.args.host.now) c.in_err-d.field-0.0 c.in_err-d.ensures.why
+    let fact : IsUncommitted c.args.self.now.held c.args.name.now (record { vids = c.args.parents.now; message = c.args.message.now; rows = c.args.rows }) (g.H.Host.state c.args.host.now) (g.H.Host.state c.args.host.now) c.in_err-d.field-0.0
+    = refused_uncommitted c.args.self.now.held c.args.name.now (record { vids = c.args.parents.now; message = c.args.message.now; rows = c.args.rows }) (g.H.Host.state c.args.host.now) c.in_err-d.field-0.0 c.in_err-d.ensures.why
     in search (rules, fact)
 
 pub returns-in_err-d-clause-spared : goal.returns-in_err-d-clause-spared
 returns-in_err-d-clause-spared g c = λ w d at named.
-    let fact : IsSparedYet d (record { vids = c.args.parents.now; message = c.args.message.now; rows = c.args.rows.items }) c.in_err-d.field-0.0
-    = commit_spared c.args.self.now.held c.args.name.now d (record { vids = c.args.parents.now; message = c.args.message.now; rows = c.args.rows.items }) c.in_err-d.field-0.0 c.in_err-d.ensures.why
+    let fact : IsSparedYet d (record { vids = c.args.parents.now; message = c.args.message.now; rows = c.args.rows }) c.in_err-d.field-0.0
+    = commit_spared c.args.self.now.held c.args.name.now d (record { vids = c.args.parents.now; message = c.args.message.now; rows = c.args.rows }) c.in_err-d.field-0.0 c.in_err-d.ensures.why
     in search (rules, fact)
 
 pub parents_of-requires-clause-there : goal.parents_of-requires-clause-there
@@ -69,8 +69,8 @@ returns-in_err-read-clause-spared g c = λ w d at named.
     = subst (λ (xs : List ℕ). All (IsThere (sets.set_in c.in_ok-d.field-0.d.now)) xs) (sym c.deref.ensures.value)
     (subst (λ (n : ℕ). All (λ vid. (1 ≤ vid) × (vid ≤ n)) c.in_ok-d.field-0.vids.items) (sym (length-map c.in_ok-d.field-0.d.now.versions.items sets.version_in))
     (there_all (length c.in_ok-d.field-0.d.now.versions.items) c.in_ok-d.field-0.vids.items c.in_ok-d.ensures.parents.there))
-    in let fact : IsSparedYet d (record { vids = c.args.parents.now; message = c.args.message.now; rows = c.args.rows.items }) (of_fetch c.in_err-read.field-0.0)
-    = reading_spared w c.args.self.now.held (g.H.Host.state c.args.host.now) at c.args.name.now (sets.set_in c.in_ok-d.field-0.d.now) d (record { vids = c.args.parents.now; message = c.args.message.now; rows = c.args.rows.items }) c.deref.result.now c.in_err-read.field-0.0 c.in_ok-d.ensures.found named there (c.in_err-read.ensures.answer at.at.told)
+    in let fact : IsSparedYet d (record { vids = c.args.parents.now; message = c.args.message.now; rows = c.args.rows }) (of_fetch c.in_err-read.field-0.0)
+    = reading_spared w c.args.self.now.held (g.H.Host.state c.args.host.now) at c.args.name.now (sets.set_in c.in_ok-d.field-0.d.now) d (record { vids = c.args.parents.now; message = c.args.message.now; rows = c.args.rows }) c.deref.result.now c.in_err-read.field-0.0 c.in_ok-d.ensures.found named there (c.in_err-read.ensures.answer at.at.told)
     in search (rules, fact)
 
 pub commit_of-requires-clause-most : goal.commit_of-requires-clause-most
@@ -83,7 +83,7 @@ commit_of-requires-clause-most g c =
 pub returns-in_err-brought-clause-why : goal.returns-in_err-brought-clause-why
 returns-in_err-brought-clause-why g c =
     let vids_are : c.deref-2.result.now ≡ c.args.parents.now = c.deref-2.ensures.value ∙ c.in_ok-d.ensures.vids
-    in let sorted : c.in_ok-d.field-0.rows.items ≡ in_key_order (sets.set_in c.in_ok-d.field-0.d.now).schema c.args.rows.items = c.in_ok-d.ensures.rows
+    in let sorted : c.in_ok-d.field-0.rows ≡ in_key_order (sets.set_in c.in_ok-d.field-0.d.now).schema c.args.rows = c.in_ok-d.ensures.rows
     in let same : c.deref.result.now ≡ c.deref-2.result.now = c.deref.ensures.value ∙ sym c.deref-2.ensures.value
     in let held : AreHeld (g.H.Host.state c.args.host.now).tells (page_bytes (g.H.Host.state c.args.host.now)) (sets.set_in c.in_ok-d.field-0.d.now) c.deref-2.result.now c.deref-4.result.now
     = subst (λ (xs : List (List (List ℕ))). AreHeld (g.H.Host.state c.args.host.now).tells (page_bytes (g.H.Host.state c.args.host.now)) (sets.set_in c.in_ok-d.field-0.d.now) c.deref-2.result.now xs) (sym c.deref-4.ensures.value)
@@ -91,15 +91,15 @@ returns-in_err-brought-clause-why g c =
     in let all : c.in_ok-read.read.records.items ≡ c.deref-3.result.now = sym c.deref-3.ensures.value
     in let read : (g.H.Host.state c.args.host.now).tells ≡ true → AllZip (IsParent (page_bytes (g.H.Host.state c.args.host.now)) (sets.set_in c.in_ok-d.field-0.d.now)) c.deref-2.result.now c.deref-3.result.now = λ told. subst (λ (xs : List (List Record)). AllZip (IsParent (page_bytes (g.H.Host.state c.args.host.now)) (sets.set_in c.in_ok-d.field-0.d.now)) c.deref-2.result.now xs) all (subst (λ (xs : List ℕ). AllZip (IsParent (page_bytes (g.H.Host.state c.args.host.now)) (sets.set_in c.in_ok-d.field-0.d.now)) xs c.in_ok-read.read.records.items) same (c.in_ok-read.ensures.answer told))
     in let agree : ParentsAgree (sets.set_in c.in_ok-d.field-0.d.now) c.deref-2.result.now c.deref-3.result.now = subst (λ (xs : List (List Record)). ParentsAgree (sets.set_in c.in_ok-d.field-0.d.now) c.deref-2.result.now xs) all (subst (λ (xs : List ℕ). ParentsAgree (sets.set_in c.in_ok-d.field-0.d.now) xs c.in_ok-read.read.records.items) same c.in_ok-read.ensures.agree)
-    in let fact : IsUnready c.args.self.now.held c.args.name.now (record { vids = c.args.parents.now; message = c.args.message.now; rows = c.args.rows.items }) (g.H.Host.state c.args.host.now) (g.H.Host.state c.parents_of.new.host) (of_commit c.in_err-brought.field-0.0)
-    = unready_by (sets.set_in c.in_ok-d.field-0.d.now) (record { vids = c.args.parents.now; message = c.args.message.now; rows = c.args.rows.items }) c.deref-2.result.now c.deref-3.result.now c.in_ok-d.field-0.rows.items vids_are sorted (g.H.Host.state c.args.host.now) read agree c.args.self.now.held c.args.name.now (g.H.Host.state c.parents_of.new.host) c.in_err-brought.field-0.0 c.in_ok-d.ensures.found c.in_ok-d.ensures.allowed c.in_ok-d.ensures.fit.few
+    in let fact : IsUnready c.args.self.now.held c.args.name.now (record { vids = c.args.parents.now; message = c.args.message.now; rows = c.args.rows }) (g.H.Host.state c.args.host.now) (g.H.Host.state c.parents_of.new.host) (of_commit c.in_err-brought.field-0.0)
+    = unready_by (sets.set_in c.in_ok-d.field-0.d.now) (record { vids = c.args.parents.now; message = c.args.message.now; rows = c.args.rows }) c.deref-2.result.now c.deref-3.result.now c.in_ok-d.field-0.rows vids_are sorted (g.H.Host.state c.args.host.now) read agree c.args.self.now.held c.args.name.now (g.H.Host.state c.parents_of.new.host) c.in_err-brought.field-0.0 c.in_ok-d.ensures.found c.in_ok-d.ensures.allowed c.in_ok-d.ensures.fit.few
     (c.in_err-brought.ensures.refuses (g.H.Host.state c.args.host.now).tells (page_bytes (g.H.Host.state c.args.host.now)) held)
     in search (rules, fact)
 
 pub returns-in_err-brought-clause-spared : goal.returns-in_err-brought-clause-spared
 returns-in_err-brought-clause-spared g c = λ w d at named.
     let vids_are : c.deref-2.result.now ≡ c.args.parents.now = c.deref-2.ensures.value ∙ c.in_ok-d.ensures.vids
-    in let sorted : c.in_ok-d.field-0.rows.items ≡ in_key_order (sets.set_in c.in_ok-d.field-0.d.now).schema c.args.rows.items = c.in_ok-d.ensures.rows
+    in let sorted : c.in_ok-d.field-0.rows ≡ in_key_order (sets.set_in c.in_ok-d.field-0.d.now).schema c.args.rows = c.in_ok-d.ensures.rows
     in let same : c.deref.result.now ≡ c.deref-2.result.now = c.deref.ensures.value ∙ sym c.deref-2.ensures.value
     in let held : AreHeld (g.H.Host.state c.args.host.now).tells (page_bytes (g.H.Host.state c.args.host.now)) (sets.set_in c.in_ok-d.field-0.d.now) c.deref-2.result.now c.deref-4.result.now
     = subst (λ (xs : List (List (List ℕ))). AreHeld (g.H.Host.state c.args.host.now).tells (page_bytes (g.H.Host.state c.args.host.now)) (sets.set_in c.in_ok-d.field-0.d.now) c.deref-2.result.now xs) (sym c.deref-4.ensures.value)
@@ -115,9 +115,9 @@ returns-in_err-brought-clause-spared g c = λ w d at named.
     = subst (λ (n : ℕ). AreParents n c.deref-2.result.now) count (subst (λ (xs : List ℕ). AreParents (length c.in_ok-d.field-0.d.now.versions.items) xs) (sym c.deref-2.ensures.value) c.in_ok-d.ensures.parents)
     in let text : IsUtf8 c.args.message.now = subst (λ (xs : List ℕ). IsUtf8 xs) c.as_str.ensures.text c.as_str.ensures.utf8
     in let few : length (sets.set_in c.in_ok-d.field-0.d.now).versions < 65535 = subst (λ (n : ℕ). n < 65535) count c.in_ok-d.ensures.few
-    in let fact : IsSparedBy w d (record { vids = c.args.parents.now; message = c.args.message.now; rows = c.args.rows.items }) (of_commit c.in_err-brought.field-0.0)
-    = spared_there (sets.set_in c.in_ok-d.field-0.d.now) (record { vids = c.args.parents.now; message = c.args.message.now; rows = c.args.rows.items }) c.deref-2.result.now c.deref-3.result.now c.in_ok-d.field-0.rows.items vids_are sorted (g.H.Host.state c.args.host.now) read w c.args.self.now.held at c.args.name.now d c.in_ok-d.ensures.found named there are text c.requires.message few c.in_ok-d.ensures.fit c.in_ok-d.ensures.allowed c.in_err-brought.field-0.0
-    (c.in_err-brought.ensures.world (page_bytes (g.H.Host.state c.args.host.now)) w d (if_told (g.H.Host.state c.args.host.now).tells (page_bytes (g.H.Host.state c.args.host.now)) (sets.set_in c.in_ok-d.field-0.d.now) c.deref-2.result.now c.deref-4.result.now held at.at.told) (asked_there (sets.set_in c.in_ok-d.field-0.d.now) (record { vids = c.args.parents.now; message = c.args.message.now; rows = c.args.rows.items }) c.deref-2.result.now c.deref-3.result.now c.in_ok-d.field-0.rows.items vids_are sorted (g.H.Host.state c.args.host.now) read w c.args.self.now.held at c.args.name.now d c.in_ok-d.ensures.found named there))
+    in let fact : IsSparedBy w d (record { vids = c.args.parents.now; message = c.args.message.now; rows = c.args.rows }) (of_commit c.in_err-brought.field-0.0)
+    = spared_there (sets.set_in c.in_ok-d.field-0.d.now) (record { vids = c.args.parents.now; message = c.args.message.now; rows = c.args.rows }) c.deref-2.result.now c.deref-3.result.now c.in_ok-d.field-0.rows vids_are sorted (g.H.Host.state c.args.host.now) read w c.args.self.now.held at c.args.name.now d c.in_ok-d.ensures.found named there are text c.requires.message few c.in_ok-d.ensures.fit c.in_ok-d.ensures.allowed c.in_err-brought.field-0.0
+    (c.in_err-brought.ensures.world (page_bytes (g.H.Host.state c.args.host.now)) w d (if_told (g.H.Host.state c.args.host.now).tells (page_bytes (g.H.Host.state c.args.host.now)) (sets.set_in c.in_ok-d.field-0.d.now) c.deref-2.result.now c.deref-4.result.now held at.at.told) (asked_there (sets.set_in c.in_ok-d.field-0.d.now) (record { vids = c.args.parents.now; message = c.args.message.now; rows = c.args.rows }) c.deref-2.result.now c.deref-3.result.now c.in_ok-d.field-0.rows vids_are sorted (g.H.Host.state c.args.host.now) read w c.args.self.now.held at c.args.name.now d c.in_ok-d.ensures.found named there))
     in search (rules, fact)
 
 pub returns-clause-ready : goal.returns-clause-ready
@@ -136,7 +136,7 @@ returns-clause-ready g c =
 pub returns-clause-by : goal.returns-clause-by
 returns-clause-by g c = λ s named.
     let vids_are : c.deref-2.result.now ≡ c.args.parents.now = c.deref-2.ensures.value ∙ c.in_ok-d.ensures.vids
-    in let sorted : c.in_ok-d.field-0.rows.items ≡ in_key_order (sets.set_in c.in_ok-d.field-0.d.now).schema c.args.rows.items = c.in_ok-d.ensures.rows
+    in let sorted : c.in_ok-d.field-0.rows ≡ in_key_order (sets.set_in c.in_ok-d.field-0.d.now).schema c.args.rows = c.in_ok-d.ensures.rows
     in let same : c.deref.result.now ≡ c.deref-2.result.now = c.deref.ensures.value ∙ sym c.deref-2.ensures.value
     in let held : AreHeld (g.H.Host.state c.args.host.now).tells (page_bytes (g.H.Host.state c.args.host.now)) (sets.set_in c.in_ok-d.field-0.d.now) c.deref-2.result.now c.deref-4.result.now
     = subst (λ (xs : List (List (List ℕ))). AreHeld (g.H.Host.state c.args.host.now).tells (page_bytes (g.H.Host.state c.args.host.now)) (sets.set_in c.in_ok-d.field-0.d.now) c.deref-2.result.now xs) (sym c.deref-4.ensures.value)
@@ -145,13 +145,13 @@ returns-clause-by g c = λ s named.
     in let read : (g.H.Host.state c.args.host.now).tells ≡ true → AllZip (IsParent (page_bytes (g.H.Host.state c.args.host.now)) (sets.set_in c.in_ok-d.field-0.d.now)) c.deref-2.result.now c.deref-3.result.now = λ told. subst (λ (xs : List (List Record)). AllZip (IsParent (page_bytes (g.H.Host.state c.args.host.now)) (sets.set_in c.in_ok-d.field-0.d.now)) c.deref-2.result.now xs) all (subst (λ (xs : List ℕ). AllZip (IsParent (page_bytes (g.H.Host.state c.args.host.now)) (sets.set_in c.in_ok-d.field-0.d.now)) xs c.in_ok-read.read.records.items) same (c.in_ok-read.ensures.answer told))
     in let agree : ParentsAgree (sets.set_in c.in_ok-d.field-0.d.now) c.deref-2.result.now c.deref-3.result.now = subst (λ (xs : List (List Record)). ParentsAgree (sets.set_in c.in_ok-d.field-0.d.now) c.deref-2.result.now xs) all (subst (λ (xs : List ℕ). ParentsAgree (sets.set_in c.in_ok-d.field-0.d.now) xs c.in_ok-read.read.records.items) same c.in_ok-read.ensures.agree)
     in let is : (sets.set_in c.in_ok-d.field-0.d.now) ≡ s = ap (λ o. elim o as (λ _. Set) [ None ↦ (sets.set_in c.in_ok-d.field-0.d.now) | Some x ↦ x ]) (sym c.in_ok-d.ensures.found ∙ named)
-    in subst (λ x. IsCommitBy x (record { vids = c.args.parents.now; message = c.args.message.now; rows = c.args.rows.items }) (g.H.Host.state c.args.host.now) (bringing_of c.in_ok-brought.field-0.brought) c.in_ok-brought.field-0.fresh) is
-    (made_by (sets.set_in c.in_ok-d.field-0.d.now) (record { vids = c.args.parents.now; message = c.args.message.now; rows = c.args.rows.items }) c.deref-2.result.now c.deref-3.result.now c.in_ok-d.field-0.rows.items vids_are sorted (g.H.Host.state c.args.host.now) read agree (bringing_of c.in_ok-brought.field-0.brought) c.in_ok-brought.field-0.fresh (c.in_ok-brought.ensures.is (g.H.Host.state c.args.host.now).tells (page_bytes (g.H.Host.state c.args.host.now)) held) c.in_ok-brought.ensures.fresh)
+    in subst (λ x. IsCommitBy x (record { vids = c.args.parents.now; message = c.args.message.now; rows = c.args.rows }) (g.H.Host.state c.args.host.now) (bringing_of c.in_ok-brought.field-0.brought) c.in_ok-brought.field-0.fresh) is
+    (made_by (sets.set_in c.in_ok-d.field-0.d.now) (record { vids = c.args.parents.now; message = c.args.message.now; rows = c.args.rows }) c.deref-2.result.now c.deref-3.result.now c.in_ok-d.field-0.rows vids_are sorted (g.H.Host.state c.args.host.now) read agree (bringing_of c.in_ok-brought.field-0.brought) c.in_ok-brought.field-0.fresh (c.in_ok-brought.ensures.is (g.H.Host.state c.args.host.now).tells (page_bytes (g.H.Host.state c.args.host.now)) held) c.in_ok-brought.ensures.fresh)
 
 pub returns-clause-brings : goal.returns-clause-brings
 returns-clause-brings g c = λ w d at named.
     let vids_are : c.deref-2.result.now ≡ c.args.parents.now = c.deref-2.ensures.value ∙ c.in_ok-d.ensures.vids
-    in let sorted : c.in_ok-d.field-0.rows.items ≡ in_key_order (sets.set_in c.in_ok-d.field-0.d.now).schema c.args.rows.items = c.in_ok-d.ensures.rows
+    in let sorted : c.in_ok-d.field-0.rows ≡ in_key_order (sets.set_in c.in_ok-d.field-0.d.now).schema c.args.rows = c.in_ok-d.ensures.rows
     in let same : c.deref.result.now ≡ c.deref-2.result.now = c.deref.ensures.value ∙ sym c.deref-2.ensures.value
     in let held : AreHeld (g.H.Host.state c.args.host.now).tells (page_bytes (g.H.Host.state c.args.host.now)) (sets.set_in c.in_ok-d.field-0.d.now) c.deref-2.result.now c.deref-4.result.now
     = subst (λ (xs : List (List (List ℕ))). AreHeld (g.H.Host.state c.args.host.now).tells (page_bytes (g.H.Host.state c.args.host.now)) (sets.set_in c.in_ok-d.field-0.d.now) c.deref-2.result.now xs) (sym c.deref-4.ensures.value)
@@ -162,23 +162,23 @@ returns-clause-brings g c = λ w d at named.
     = subst (λ (xs : List ℕ). All (IsThere (sets.set_in c.in_ok-d.field-0.d.now)) xs) (sym c.deref-2.ensures.value)
     (subst (λ (n : ℕ). All (λ vid. (1 ≤ vid) × (vid ≤ n)) c.in_ok-d.field-0.vids.items) (sym (length-map c.in_ok-d.field-0.d.now.versions.items sets.version_in))
     (there_all (length c.in_ok-d.field-0.d.now.versions.items) c.in_ok-d.field-0.vids.items c.in_ok-d.ensures.parents.there))
-    in let answered = c.in_ok-brought.ensures.world (page_bytes (g.H.Host.state c.args.host.now)) w d (if_told (g.H.Host.state c.args.host.now).tells (page_bytes (g.H.Host.state c.args.host.now)) (sets.set_in c.in_ok-d.field-0.d.now) c.deref-2.result.now c.deref-4.result.now held at.at.told) (asked_there (sets.set_in c.in_ok-d.field-0.d.now) (record { vids = c.args.parents.now; message = c.args.message.now; rows = c.args.rows.items }) c.deref-2.result.now c.deref-3.result.now c.in_ok-d.field-0.rows.items vids_are sorted (g.H.Host.state c.args.host.now) read w c.args.self.now.held at c.args.name.now d c.in_ok-d.ensures.found named there)
+    in let answered = c.in_ok-brought.ensures.world (page_bytes (g.H.Host.state c.args.host.now)) w d (if_told (g.H.Host.state c.args.host.now).tells (page_bytes (g.H.Host.state c.args.host.now)) (sets.set_in c.in_ok-d.field-0.d.now) c.deref-2.result.now c.deref-4.result.now held at.at.told) (asked_there (sets.set_in c.in_ok-d.field-0.d.now) (record { vids = c.args.parents.now; message = c.args.message.now; rows = c.args.rows }) c.deref-2.result.now c.deref-3.result.now c.in_ok-d.field-0.rows vids_are sorted (g.H.Host.state c.args.host.now) read w c.args.self.now.held at c.args.name.now d c.in_ok-d.ensures.found named there)
     in let count : length c.in_ok-d.field-0.d.now.versions.items ≡ length (sets.set_in c.in_ok-d.field-0.d.now).versions = sym (length-map c.in_ok-d.field-0.d.now.versions.items sets.version_in)
     in let are : AreParents (length (sets.set_in c.in_ok-d.field-0.d.now).versions) c.deref-2.result.now
     = subst (λ (n : ℕ). AreParents n c.deref-2.result.now) count (subst (λ (xs : List ℕ). AreParents (length c.in_ok-d.field-0.d.now.versions.items) xs) (sym c.deref-2.ensures.value) c.in_ok-d.ensures.parents)
     in let text : IsUtf8 c.args.message.now = subst (λ (xs : List ℕ). IsUtf8 xs) c.as_str.ensures.text c.as_str.ensures.utf8
     in record {
-      fits = fits_there (sets.set_in c.in_ok-d.field-0.d.now) (record { vids = c.args.parents.now; message = c.args.message.now; rows = c.args.rows.items }) c.deref-2.result.now c.deref-3.result.now c.in_ok-d.field-0.rows.items vids_are sorted (g.H.Host.state c.args.host.now) read w c.args.self.now.held at c.args.name.now d c.in_ok-d.ensures.found named there are text c.requires.message
+      fits = fits_there (sets.set_in c.in_ok-d.field-0.d.now) (record { vids = c.args.parents.now; message = c.args.message.now; rows = c.args.rows }) c.deref-2.result.now c.deref-3.result.now c.in_ok-d.field-0.rows vids_are sorted (g.H.Host.state c.args.host.now) read w c.args.self.now.held at c.args.name.now d c.in_ok-d.ensures.found named there are text c.requires.message
           (subst (λ (n : ℕ). n < 65535) count c.in_ok-d.ensures.few) c.in_ok-d.ensures.fit c.in_ok-d.ensures.allowed c.in_ok-brought.field-0.brought.event c.in_ok-brought.field-0.fresh
           c.in_ok-brought.field-0.brought.list.items c.in_ok-brought.field-0.brought.segment.items answered;
-      says = says_there (sets.set_in c.in_ok-d.field-0.d.now) (record { vids = c.args.parents.now; message = c.args.message.now; rows = c.args.rows.items }) c.deref-2.result.now c.deref-3.result.now c.in_ok-d.field-0.rows.items vids_are sorted (g.H.Host.state c.args.host.now) read w c.args.self.now.held at c.args.name.now d c.in_ok-d.ensures.found named there c.in_ok-brought.field-0.brought.event c.in_ok-brought.field-0.fresh
+      says = says_there (sets.set_in c.in_ok-d.field-0.d.now) (record { vids = c.args.parents.now; message = c.args.message.now; rows = c.args.rows }) c.deref-2.result.now c.deref-3.result.now c.in_ok-d.field-0.rows vids_are sorted (g.H.Host.state c.args.host.now) read w c.args.self.now.held at c.args.name.now d c.in_ok-d.ensures.found named there c.in_ok-brought.field-0.brought.event c.in_ok-brought.field-0.fresh
           c.in_ok-brought.field-0.brought.list.items c.in_ok-brought.field-0.brought.segment.items answered;
     }
 
 pub returns-clause-fresh : goal.returns-clause-fresh
 returns-clause-fresh g c = λ w d at named.
     let vids_are : c.deref-2.result.now ≡ c.args.parents.now = c.deref-2.ensures.value ∙ c.in_ok-d.ensures.vids
-    in let sorted : c.in_ok-d.field-0.rows.items ≡ in_key_order (sets.set_in c.in_ok-d.field-0.d.now).schema c.args.rows.items = c.in_ok-d.ensures.rows
+    in let sorted : c.in_ok-d.field-0.rows ≡ in_key_order (sets.set_in c.in_ok-d.field-0.d.now).schema c.args.rows = c.in_ok-d.ensures.rows
     in let same : c.deref.result.now ≡ c.deref-2.result.now = c.deref.ensures.value ∙ sym c.deref-2.ensures.value
     in let held : AreHeld (g.H.Host.state c.args.host.now).tells (page_bytes (g.H.Host.state c.args.host.now)) (sets.set_in c.in_ok-d.field-0.d.now) c.deref-2.result.now c.deref-4.result.now
     = subst (λ (xs : List (List (List ℕ))). AreHeld (g.H.Host.state c.args.host.now).tells (page_bytes (g.H.Host.state c.args.host.now)) (sets.set_in c.in_ok-d.field-0.d.now) c.deref-2.result.now xs) (sym c.deref-4.ensures.value)
@@ -189,8 +189,8 @@ returns-clause-fresh g c = λ w d at named.
     = subst (λ (xs : List ℕ). All (IsThere (sets.set_in c.in_ok-d.field-0.d.now)) xs) (sym c.deref-2.ensures.value)
     (subst (λ (n : ℕ). All (λ vid. (1 ≤ vid) × (vid ≤ n)) c.in_ok-d.field-0.vids.items) (sym (length-map c.in_ok-d.field-0.d.now.versions.items sets.version_in))
     (there_all (length c.in_ok-d.field-0.d.now.versions.items) c.in_ok-d.field-0.vids.items c.in_ok-d.ensures.parents.there))
-    in let answered = c.in_ok-brought.ensures.world (page_bytes (g.H.Host.state c.args.host.now)) w d (if_told (g.H.Host.state c.args.host.now).tells (page_bytes (g.H.Host.state c.args.host.now)) (sets.set_in c.in_ok-d.field-0.d.now) c.deref-2.result.now c.deref-4.result.now held at.at.told) (asked_there (sets.set_in c.in_ok-d.field-0.d.now) (record { vids = c.args.parents.now; message = c.args.message.now; rows = c.args.rows.items }) c.deref-2.result.now c.deref-3.result.now c.in_ok-d.field-0.rows.items vids_are sorted (g.H.Host.state c.args.host.now) read w c.args.self.now.held at c.args.name.now d c.in_ok-d.ensures.found named there)
-    in fresh_there (sets.set_in c.in_ok-d.field-0.d.now) (record { vids = c.args.parents.now; message = c.args.message.now; rows = c.args.rows.items }) c.deref-2.result.now c.deref-3.result.now c.in_ok-d.field-0.rows.items vids_are sorted (g.H.Host.state c.args.host.now) read w c.args.self.now.held at c.args.name.now d c.in_ok-d.ensures.found named there c.in_ok-brought.field-0.brought.event c.in_ok-brought.field-0.fresh
+    in let answered = c.in_ok-brought.ensures.world (page_bytes (g.H.Host.state c.args.host.now)) w d (if_told (g.H.Host.state c.args.host.now).tells (page_bytes (g.H.Host.state c.args.host.now)) (sets.set_in c.in_ok-d.field-0.d.now) c.deref-2.result.now c.deref-4.result.now held at.at.told) (asked_there (sets.set_in c.in_ok-d.field-0.d.now) (record { vids = c.args.parents.now; message = c.args.message.now; rows = c.args.rows }) c.deref-2.result.now c.deref-3.result.now c.in_ok-d.field-0.rows vids_are sorted (g.H.Host.state c.args.host.now) read w c.args.self.now.held at c.args.name.now d c.in_ok-d.ensures.found named there)
+    in fresh_there (sets.set_in c.in_ok-d.field-0.d.now) (record { vids = c.args.parents.now; message = c.args.message.now; rows = c.args.rows }) c.deref-2.result.now c.deref-3.result.now c.in_ok-d.field-0.rows vids_are sorted (g.H.Host.state c.args.host.now) read w c.args.self.now.held at c.args.name.now d c.in_ok-d.ensures.found named there c.in_ok-brought.field-0.brought.event c.in_ok-brought.field-0.fresh
     c.in_ok-brought.field-0.brought.list.items c.in_ok-brought.field-0.brought.segment.items answered
 
 pub returns-in_err-brought-clause-fetched : goal.returns-in_err-brought-clause-fetched
