@@ -14,13 +14,11 @@ use Rattle.ov_member.proofs.RidLemmas.{RiseFrom-filter, has-filter, same_from}
 use Rattle.ov_value.specs.Shapes.{Shape}
 use Rattle.ov_segment.specs.declared.numbered.Record.{Record}
 use Rattle.ov_segment.specs.Segments.{AreRecords}
-use Rattle.ov_segment.proofs.WrittenLemmas.{records_ascend}
 use Rattle.ov_fetch.specs.Extents.{page_bytes, rids_of}
 use Rattle.ov_fetch.specs.Rows.{AreRows, is_asked, joined, record_of}
 use Rattle.ov_fetch.specs.Scans.{AllStand, InKeyOrder, row_at, rows_at, rows_of}
 use Rattle.ov_fetch.proofs.Lacking.{get_at}
 use Rattle.ov_fetch.proofs.Ordered.{has_record}
-use Rattle.ov_fetch.proofs.Running.{ascend_rise}
 use Rattle.ov_read.specs.Picking.{ArePicks, IsPick, places_from, places_of}
 use Rattle.ov_read.specs.Found.{AreFirst, IsPicked}
 use Rattle.ov_read.specs.Gathering.{AreFull, IsNotFull, IsRowsOf}

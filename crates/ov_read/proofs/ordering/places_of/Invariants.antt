@@ -1,6 +1,5 @@
 use Rattle.std.proofs.Common.{◌≡◌, take}
 use Rattle.ov_fetch.specs.Scans.{AllStand}
-use Rattle.ov_segment.specs.Keeping.{Walk}
 use Rattle.ov_read.specs.Picking.{places_of as places_of_rids}
 use Rattle.ov_read.proofs.Walking.{SaysFrom}
 use Rattle.ov_read.proofs.ordering.places_of.Given as goal

@@ -1,9 +1,7 @@
 use Rattle.std.proofs.Common.{ℕ, List, length, ap, ◌∙◌, subst}
-use Rattle.std.specs.List.{All, AllZip}
 use Rattle.ov_segment.specs.declared.numbered.Record.{Record}
 use Rattle.ov_fetch.specs.Extents.{page_bytes}
-use Rattle.ov_fetch.specs.Scans.{AllStand}
-use Rattle.ov_read.specs.Gathering.{AreFull, IsNotFull, IsRowsOf}
+use Rattle.ov_read.specs.Gathering.{AreFull, IsNotFull}
 use Rattle.ov_read.proofs.PickFacts.{all_fit, picks_paired}
 use Rattle.ov_read.proofs.Picked.{rows_zip, none_short}
 use Rattle.ov_read.proofs.picking.scan_part.Goals as goal

@@ -1,4 +1,4 @@
-use Rattle.std.proofs.Common.{◌≡◌, List, sym, ◌∙◌, subst, length}
+use Rattle.std.proofs.Common.{List, sym, ◌∙◌, subst}
 use Rattle.std.specs.List.{All}
 use Rattle.ov_segment.specs.declared.numbered.Record.{Record}
 use Rattle.ov_segment.specs.Segments.{AreRecords}
