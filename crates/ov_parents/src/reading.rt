@@ -41,7 +41,8 @@ pub struct ParentsRead {
 /// than an earlier one has it with.
 ///
 /// Each list is read once, and so is each partition that serves one of the versions. Time beside that: what a scan
-/// takes, and n log n for n records of all versions together, which are copied.
+/// takes, and n log n for n records of all versions together. Records are copied as bytes where there are several
+/// versions, and those of a single one aren't copied.
 pub fn parents_of<H: Host>(
     alloc: Global,
     host: &mut H,

@@ -1,34 +1,40 @@
 //! Parents that agree and parents that don't, worked out by hand, and the time of large ones.
 
+ghost use Rattle.std.specs.Prelude.{IfOk};
 ghost use Rattle.std.specs.Bool.{OnTrue};
 ghost use Rattle.std.specs.List.{All};
+ghost use Rattle.ov_value.specs.Shapes.{Shape};
+ghost use Rattle.ov_records.specs.Records.{RowsFit};
 ghost use Rattle.law_commits.specs.Differing.{HasNoRidTwice};
 
-use crate::pairs::{Listed, parents_of, row_of};
+use crate::pairs::{COLUMNS, Listed, parents_of, push};
+use crate::schemas::schema;
 use ov_parents::first_disagreeing;
-use ov_segment::{Record, Records};
+use ov_segment::{RecordTable, Table};
+use ov_value::Schema;
 use std::alloc::{AllocError, Global};
 use std::test::Fail;
 use std::time::Instant;
 
-fn ascend(records: &[Record]) -> bool
+fn ascend(records: &RecordTable) -> bool
     ensures { OnTrue result (HasNoRidTwice records.now) }
 {
     let mut last = 0;
-    for record in records {
-        if record.rid <= last {
+    for i in 0..records.len() {
+        let rid = records.rid(i);
+        if rid <= last {
             return false;
         }
-        last = record.rid;
+        last = rid;
     }
     true
 }
 
-fn all_ascend(parents: &[Records]) -> bool
+fn all_ascend(parents: &[RecordTable]) -> bool
     ensures { OnTrue result (All HasNoRidTwice parents.now) }
 {
     for parent in parents {
-        if !ascend(parent.as_slice()) {
+        if !ascend(parent) {
             return false;
         }
     }
@@ -38,8 +44,10 @@ fn all_ascend(parents: &[Records]) -> bool
 // What `first_disagreeing` gives, where it may be asked.
 fn first_if_ascending(
     alloc: Global,
-    parents: &[Records],
-) -> Option<Result<Option<usize>, AllocError>> {
+    parents: &[RecordTable],
+) -> Option<Result<Option<usize>, AllocError>>
+    requires { (schema : Shape) × All (RowsFit schema) parents.now }
+{
     if all_ascend(parents) {
         Some(first_disagreeing(alloc, parents))
     } else {
@@ -169,8 +177,9 @@ const CASES: [Case; 14] = [
 #[test]
 fn the_first_parent_with_another_row_is_named(rt: HostRuntime) -> Result<(), Fail> {
     let alloc = rt.alloc();
+    let schema = schema(alloc, COLUMNS)?;
     for (i, case) in CASES.iter().enumerate() {
-        let parents = parents_of(alloc, case.parents, case.records)?;
+        let parents = parents_of(alloc, &schema, case.parents, case.records)?;
         let found = first_if_ascending(alloc, &parents).ok_or("rids ascend")??;
         assert!(rt; found == case.first, "case {i}");
     }
@@ -178,23 +187,38 @@ fn the_first_parent_with_another_row_is_named(rt: HostRuntime) -> Result<(), Fai
 }
 
 // All parents have all records; the last row of the last parent differs.
-fn many_parents(alloc: Global) -> Result<Vec<Records>, AllocError> {
+fn many_records(alloc: Global, schema: &Schema, parent: u32) -> Result<RecordTable, Fail>
+    ensures { IfOk result (RowsFit schema.now) }
+{
+    let mut table = Table::new(alloc, schema)?;
+    for rid in 1..=20_000u32 {
+        let is_last = parent == 9 && rid == 20_000;
+        push(
+            alloc,
+            schema,
+            &mut table,
+            rid,
+            7,
+            if is_last { "other" } else { "same" },
+        )?;
+    }
+    Ok(RecordTable::new(table))
+}
+
+fn many_parents(alloc: Global, schema: &Schema) -> Result<Vec<RecordTable>, Fail>
+    ensures { IfOk result (λ parents. All (RowsFit schema.now) parents.items) }
+{
     let mut parents = Vec::new(alloc);
     for parent in 0..10u32 {
-        let mut records = Vec::new(alloc);
-        for rid in 1..=20_000u32 {
-            let is_last = parent == 9 && rid == 20_000;
-            let row = row_of(alloc, 7, if is_last { "other" } else { "same" })?;
-            records.push(Record { rid, row })?;
-        }
-        parents.push(Records::new(records))?;
+        parents.push(many_records(alloc, schema, parent)?)?;
     }
     Ok(parents)
 }
 
 #[test]
 fn many_records_take_a_moment(rt: HostRuntime) -> Result<(), Fail> {
-    let parents = many_parents(rt.alloc())?;
+    let schema = schema(rt.alloc(), COLUMNS)?;
+    let parents = many_parents(rt.alloc(), &schema)?;
     let start = Instant::now(&rt)?;
     let found = first_if_ascending(rt.alloc(), &parents).ok_or("rids ascend")??;
     let taken = start.elapsed(&rt)?.as_millis();

@@ -4,14 +4,14 @@ ghost use Rattle.std.specs.Bool.{OnTrue};
 ghost use Rattle.ov_catalog.specs.Sets.{set_in};
 ghost use Rattle.ov_parents.specs.Parents.{IsCounted};
 
-use crate::pages::{area, host_of, rids};
+use crate::pages::{area, host_of};
 use crate::people::{APART, apart, dataset};
 use ov_catalog::Cvd;
 use ov_fetch::FetchErr;
 use ov_member::Members;
 use ov_parents::parents_of;
 use ov_read::has_version;
-use ov_segment::Records;
+use ov_segment::RecordTable;
 use std::alloc::Global;
 use std::test::Fail;
 
@@ -36,7 +36,7 @@ fn two_parents(
     d: &Cvd,
     one: u32,
     other: u32,
-) -> Result<Vec<Records>, FetchErr> {
+) -> Result<Vec<RecordTable>, FetchErr> {
     let there = has_version(d, one) && has_version(d, other);
     if one == other || !there || !is_counted(d) {
         return Err(FetchErr::Memory);
@@ -45,10 +45,14 @@ fn two_parents(
     Ok(parents_of(alloc, &mut host, d, &[one, other])?.records)
 }
 
-// The rids of the parent at a place, in order.
-fn rids_at(alloc: Global, parents: &[Records], place: usize) -> Result<Vec<u32>, Fail> {
+// The rids of the parent at a place.
+fn rids_at(alloc: Global, parents: &[RecordTable], place: usize) -> Result<Vec<u32>, Fail> {
     let records = parents.get(place).ok_or("it is there")?;
-    Ok(rids(alloc, records.as_slice())?)
+    let mut rids = Vec::new(alloc);
+    for i in 0..records.len() {
+        rids.push(records.rid(i))?;
+    }
+    Ok(rids)
 }
 
 #[test]
