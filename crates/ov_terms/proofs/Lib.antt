@@ -5,3 +5,4 @@ pub mod Spots
 pub mod Found
 pub mod FoundTruths
 pub mod Among
+pub mod OfRows

@@ -3,6 +3,7 @@
 --     found_term group term      what a term is over a group
 --     found_truth group condition      what a condition says of a group; found_holds, of WHERE or HAVING
 --     shown_by items group      the row of an answer that a group gives
+--     IsOfRow condition      it says the same of a row in every version
 --     IsLookup, IsFoundTerm, IsFoundOperand, IsFound, IsFoundGuard, IsFoundItems      it is found of what a query names, in a schema: they say the
 --         same of all groups of pairs
 use Rattle.std.specs.Prelude.{◌≡◌, ℕ, pos, Bool, true, List, [], ◌∷◌, length, map, filter, slice_index_or, Option, Some, None}
@@ -11,6 +12,7 @@ use Rattle.ov_value.specs.declared.value.Value.{Value}
 use Rattle.ov_value.specs.declared.value.Value.TheVariants as value
 use Rattle.ov_value.specs.Shapes.{Shape}
 use Rattle.ov_model.specs.Answers.{Pair, Related, cell_order, compared, first_by, greatest_from, here_for, holds, is_null_cell, is_present, is_true, is_version, least_from, operand_in, row_of, shown, sum_cell, term_of_group, truth, truth_any, truth_every, truth_not, turned_if, value_in}
+use Rattle.ov_model.specs.Book.{Row}
 use Rattle.ov_model.specs.declared.answer.Cell.{Cell}
 use Rattle.ov_model.specs.declared.answer.Cell.TheVariants as cell
 use Rattle.ov_model.specs.declared.query.Col.{Col}
@@ -75,6 +77,9 @@ abbrev pub found_holds : Option FoundCond → List Pair → Bool
 found_holds None group = true
 found_holds (Some c) group = is_true (found_truth group c)
 
+abbrev pub in_version : ℕ → Row → Pair
+in_version vid row = record { vid = vid; row = row }
+
 -- whether WHERE takes a pair, which is read as the group of itself alone
 abbrev pub is_taken : Option FoundCond → Pair → Bool
 is_taken guard pair = found_holds guard (pair ∷ [])
@@ -83,6 +88,22 @@ is_taken guard pair = found_holds guard (pair ∷ [])
 abbrev pub shown_by : FoundItems → List Pair → List Cell
 shown_by items.Everything group = row_of group
 shown_by (items.Terms terms) group = map (found_term group) terms
+
+-- it says the same of a row in every version
+abbrev pub IsLookupOfRow : Lookup → Type 0
+IsLookupOfRow found = (v w : ℕ) (row : Row) → value_at found (in_version v row) ≡ value_at found (in_version w row)
+
+abbrev pub IsTermOfRow : FoundTerm → Type 0
+IsTermOfRow found = (v w : ℕ) (row : Row) → found_term (in_version v row ∷ []) found ≡ found_term (in_version w row ∷ []) found
+
+abbrev pub IsOperandOfRow : FoundOperand → Type 0
+IsOperandOfRow found = (v w : ℕ) (row : Row) → found_operand (in_version v row ∷ []) found ≡ found_operand (in_version w row ∷ []) found
+
+abbrev pub IsOfRow : FoundCond → Type 0
+IsOfRow found = (v w : ℕ) (row : Row) → found_truth (in_version v row ∷ []) found ≡ found_truth (in_version w row ∷ []) found
+
+abbrev pub IsGuardOfRow : Option FoundCond → Type 0
+IsGuardOfRow guard = (v w : ℕ) (row : Row) → is_taken guard (in_version v row) ≡ is_taken guard (in_version w row)
 
 abbrev pub IsLookup : Shape → Col → Lookup → Type 0
 IsLookup schema col found = (pair : Pair) → value_at found pair ≡ value_in schema pair col
@@ -101,3 +122,7 @@ IsFoundGuard schema guard found = (related : Related) (group : List Pair) → fo
 
 abbrev pub IsFoundItems : Shape → Items → FoundItems → Type 0
 IsFoundItems schema items found = (group : List Pair) → shown_by found group ≡ shown schema items group
+
+-- whether WHERE takes each row, where it says the same in every version
+abbrev pub verdicts : Option FoundCond → List Row → List Bool
+verdicts guard rows = map (λ row. is_taken guard (in_version 0 row)) rows

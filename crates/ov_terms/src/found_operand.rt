@@ -1,7 +1,7 @@
 //! A side of a comparison whose column was found.
 
-ghost use Rattle.std.specs.Prelude.{IfOk};
-ghost use Rattle.ov_terms.specs.Finding.{IsFoundOperand};
+ghost use Rattle.std.specs.Prelude.{IfOk, IsTrue};
+ghost use Rattle.ov_terms.specs.Finding.{IsFoundOperand, IsOperandOfRow};
 
 use crate::found_term::FoundTerm;
 use ov_model::Operand;
@@ -24,5 +24,15 @@ impl FoundOperand {
             Operand::Term(term) => FoundOperand::Term(FoundTerm::of(schema, term)),
             Operand::Literal(value) => FoundOperand::Literal(value.copy(alloc)?),
         })
+    }
+
+    /// Whether it is the same of a row in every version.
+    pub(crate) fn is_of_row(&self) -> bool
+        ensures { IsTrue result → IsOperandOfRow self.now }
+    {
+        match self {
+            FoundOperand::Term(term) => term.is_of_row(),
+            FoundOperand::Literal(_) => true,
+        }
     }
 }

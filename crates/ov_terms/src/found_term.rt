@@ -1,6 +1,7 @@
 //! A term whose column was found.
 
-ghost use Rattle.ov_terms.specs.Finding.{IsFoundTerm};
+ghost use Rattle.std.specs.Prelude.{IsTrue};
+ghost use Rattle.ov_terms.specs.Finding.{IsFoundTerm, IsTermOfRow};
 
 use crate::lookup::Lookup;
 use ov_model::Term;
@@ -29,6 +30,20 @@ impl FoundTerm {
             Term::Sum(col) => FoundTerm::Sum(Lookup::of(schema, col)),
             Term::Min(col) => FoundTerm::Min(Lookup::of(schema, col)),
             Term::Max(col) => FoundTerm::Max(Lookup::of(schema, col)),
+        }
+    }
+
+    /// Whether it is the same of a row in every version.
+    pub(crate) fn is_of_row(self) -> bool
+        ensures { IsTrue result → IsTermOfRow self }
+    {
+        match self {
+            FoundTerm::CountAll => true,
+            FoundTerm::Plain(found)
+            | FoundTerm::Count(found)
+            | FoundTerm::Sum(found)
+            | FoundTerm::Min(found)
+            | FoundTerm::Max(found) => found.is_of_row(),
         }
     }
 }

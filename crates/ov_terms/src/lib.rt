@@ -12,6 +12,7 @@ mod found_operand;
 mod found_term;
 mod lineages;
 mod lookup;
+mod of_rows;
 mod order;
 mod rows;
 mod seen;

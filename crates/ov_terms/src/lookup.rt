@@ -1,9 +1,9 @@
 //! Where the value of a column is found.
 
-ghost use Rattle.std.specs.Prelude.{◌≡◌};
+ghost use Rattle.std.specs.Prelude.{◌≡◌, IsTrue};
 ghost use Rattle.std.specs.List.{position_or_len};
 ghost use Rattle.std.specs.Str.{bytes_eq};
-ghost use Rattle.ov_terms.specs.Finding.{IsLookup};
+ghost use Rattle.ov_terms.specs.Finding.{IsLookup, IsLookupOfRow};
 
 use ov_model::Col;
 use ov_value::{Column, Schema, Txt};
@@ -28,6 +28,16 @@ impl Lookup {
             Col::Vid => Lookup::Vid,
             Col::Name(name) => Lookup::Column(column_at(schema.columns(), name)),
             Col::Left(_) | Col::Right(_) => Lookup::Nowhere,
+        }
+    }
+
+    /// Whether the row alone has the value.
+    pub(crate) fn is_of_row(self) -> bool
+        ensures { IsTrue result → IsLookupOfRow self }
+    {
+        match self {
+            Lookup::Vid => false,
+            Lookup::Column(_) | Lookup::Nowhere => true,
         }
     }
 }

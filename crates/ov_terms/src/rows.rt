@@ -1,13 +1,15 @@
 //! From a scan to the spots that WHERE takes, and from a group to a row of an answer.
 
 ghost use Rattle.std.specs.Prelude.{◌≡◌, ◌++◌, ◌∷◌, [], if◌then◌else◌, IfOk, OnOk, filter, length, map};
+ghost use Rattle.ov_fetch.specs.Scans.{rows_of};
 ghost use Rattle.ov_model.specs.Answers.{row_cells, row_of};
-ghost use Rattle.ov_terms.specs.Finding.{found_term, is_taken, shown_by};
-ghost use Rattle.ov_terms.specs.Standing.{pairs_at, pairs_in, spots_in};
+ghost use Rattle.ov_terms.specs.Finding.{IsGuardOfRow, found_term, is_taken, shown_by, verdicts};
+ghost use Rattle.ov_terms.specs.Standing.{pair_at, pairs_at, pairs_in, spots_in};
 
 use crate::found_cond::FoundCond;
 use crate::found_items::FoundItems;
 use crate::found_term::FoundTerm;
+use crate::of_rows::is_guard_of_row;
 use crate::seen::value_of;
 use crate::spot::Spot;
 use crate::table::Table;
@@ -27,9 +29,69 @@ fn push_if(taken: bool, spot: Spot, kept: &mut Vec<Spot>) -> Result<(), AllocErr
 }
 
 impl<'a> Table<'a> {
+    // Whether WHERE takes each record, where it says the same of it in every version.
+    fn verdicts(&self, alloc: Global, guard: &'a Option<FoundCond>) -> Result<Vec<bool>, AllocError>
+        ensures { IfOk result (λ made. made.items ≡ verdicts guard.now (rows_of self.now.records.now)) }
+    {
+        let mut made = Vec::with_capacity(alloc, self.records.len())?;
+        for place in 0..self.records.len() {
+            let spot = Spot { vid: 0, place };
+            made.push(self.holds(slice::from_ref(&spot), guard))?;
+        }
+        Ok(made)
+    }
+
     /// The spots that WHERE takes, of versions whose rows stand at these positions: version by version, in this order. What
     /// WHERE drops takes no memory.
+    ///
+    /// Where WHERE doesn't name the version, it is asked once for each record, which takes a byte.
     pub fn kept(
+        &self,
+        alloc: Global,
+        vids: &[u32],
+        picks: &[Pick],
+        guard: &'a Option<FoundCond>,
+    ) -> Result<Vec<Spot>, AllocError>
+        requires { length vids.now ≡ length picks.now }
+        ensures { IfOk result (λ kept. pairs_at self.now.records.now kept.items
+            ≡ filter (is_taken guard.now) (pairs_in self.now.records.now vids.now picks.now)) }
+    {
+        if is_guard_of_row(guard) {
+            self.kept_by_record(alloc, vids, picks, guard)
+        } else {
+            self.kept_by_spot(alloc, vids, picks, guard)
+        }
+    }
+
+    // The spots that a WHERE takes which says the same of a row in every version.
+    fn kept_by_record(
+        &self,
+        alloc: Global,
+        vids: &[u32],
+        picks: &[Pick],
+        guard: &'a Option<FoundCond>,
+    ) -> Result<Vec<Spot>, AllocError>
+        requires paired { length vids.now ≡ length picks.now }
+        requires same { IsGuardOfRow guard.now }
+        ensures { IfOk result (λ kept. pairs_at self.now.records.now kept.items
+            ≡ filter (is_taken guard.now) (pairs_in self.now.records.now vids.now picks.now)) }
+    {
+        let verdicts = self.verdicts(alloc, guard)?;
+        let mut kept = Vec::new(alloc);
+        for (i, pick) in picks.iter().enumerate() {
+            self.keep_by_record(
+                vids[i],
+                pick.as_slice(),
+                guard,
+                verdicts.as_slice(),
+                &mut kept,
+            )?;
+        }
+        Ok(kept)
+    }
+
+    // The spots that WHERE takes.
+    fn kept_by_spot(
         &self,
         alloc: Global,
         vids: &[u32],
@@ -42,13 +104,47 @@ impl<'a> Table<'a> {
     {
         let mut kept = Vec::new(alloc);
         for (i, pick) in picks.iter().enumerate() {
-            self.keep(vids[i], pick.as_slice(), guard, &mut kept)?;
+            self.keep_by_spot(vids[i], pick.as_slice(), guard, &mut kept)?;
         }
         Ok(kept)
     }
 
+    // Whether WHERE takes a spot, by what it says of the records.
+    fn is_taken(&self, spot: Spot, guard: &'a Option<FoundCond>, said: &[bool]) -> bool
+        requires same { IsGuardOfRow guard.now }
+        requires said { said.now ≡ verdicts guard.now (rows_of self.now.records.now) }
+        ensures { result ≡ is_taken guard.now (pair_at self.now.records.now spot) }
+    {
+        match said.get(spot.place) {
+            Some(taken) => *taken,
+            None => self.holds(slice::from_ref(&spot), guard),
+        }
+    }
+
+    // Adds a version's spots that a WHERE takes which says the same of a row in every version.
+    fn keep_by_record(
+        &self,
+        vid: u32,
+        places: &[usize],
+        guard: &'a Option<FoundCond>,
+        said: &[bool],
+        kept: &mut Vec<Spot>,
+    ) -> Result<(), AllocError>
+        requires same { IsGuardOfRow guard.now }
+        requires said { said.now ≡ verdicts guard.now (rows_of self.now.records.now) }
+        ensures { OnOk result (pairs_at self.now.records.now kept.new.items
+            ≡ pairs_at self.now.records.now kept.old.items ++ filter (is_taken guard.now) (pairs_at self.now.records.now (spots_in vid places.now))) }
+    {
+        for place in places {
+            let spot = Spot { vid, place: *place };
+            let taken = self.is_taken(spot, guard, said);
+            push_if(taken, spot, kept)?;
+        }
+        Ok(())
+    }
+
     // Adds a version's spots that WHERE takes.
-    fn keep(
+    fn keep_by_spot(
         &self,
         vid: u32,
         places: &[usize],

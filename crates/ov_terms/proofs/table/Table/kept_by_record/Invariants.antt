@@ -2,7 +2,7 @@ use Rattle.std.proofs.Common.{◌≡◌, ◌++◌, drop}
 use Rattle.std.specs.Prelude.{filter}
 use Rattle.ov_terms.specs.Finding.{is_taken}
 use Rattle.ov_terms.specs.Standing.{pairs_at, pairs_in}
-use Rattle.ov_terms.proofs.table.Table.kept.Given as goal
+use Rattle.ov_terms.proofs.table.Table.kept_by_record.Given as goal
 
 -- those that were taken, and behind them those of the versions that are left
 abbrev pub invariant-loop-i : goal.invariant-loop-i

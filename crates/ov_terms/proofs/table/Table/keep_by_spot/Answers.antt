@@ -1,7 +1,7 @@
 -- Each place is taken where the guard holds of it alone.
 use Rattle.ov_terms.specs.Finding.{is_taken}
 use Rattle.ov_terms.proofs.Spots.{kept-all, kept-more}
-use Rattle.ov_terms.proofs.table.Table.keep.Goals as goal
+use Rattle.ov_terms.proofs.table.Table.keep_by_spot.Goals as goal
 
 pub loop-place-preserved : goal.loop-place-preserved
 loop-place-preserved c =

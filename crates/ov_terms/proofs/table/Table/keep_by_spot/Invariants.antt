@@ -2,7 +2,7 @@ use Rattle.std.proofs.Common.{◌≡◌, ◌++◌, drop}
 use Rattle.std.specs.Prelude.{filter}
 use Rattle.ov_terms.specs.Finding.{is_taken}
 use Rattle.ov_terms.specs.Standing.{pairs_at, spots_in}
-use Rattle.ov_terms.proofs.table.Table.keep.Given as goal
+use Rattle.ov_terms.proofs.table.Table.keep_by_spot.Given as goal
 
 -- those that were taken, and behind them those of the places that are left
 abbrev pub invariant-loop-place : goal.invariant-loop-place
