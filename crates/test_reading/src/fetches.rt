@@ -4,7 +4,7 @@ use crate::schemas::schema;
 use ov_fetch::{FetchErr, Pick, Picks, Scan, Vids, list_of, rids_of, rows_of};
 use ov_host::{Extent, NullHost};
 use ov_member::Members;
-use ov_segment::Records;
+use ov_segment::{RecordTable, Table};
 use ov_value::{Kind, Schema};
 use std::alloc::Global;
 use std::test::Fail;
@@ -46,7 +46,7 @@ fn rows(
     segments: &[Extent],
 ) -> Result<usize, FetchErr> {
     let found = rows_of(alloc, &mut NullHost::new(fails), schema, segments, &[], &[])?;
-    Ok(found.as_slice().len())
+    Ok(found.len())
 }
 
 // Whether the host fails, an extent of its area that has no bytes, and what is refused.
@@ -87,13 +87,14 @@ fn a_member_of_no_segment_names_its_list(rt: HostRuntime) -> Result<(), Fail> {
 #[test]
 fn the_lists_of_a_scan_are_given_back(rt: HostRuntime) -> Result<(), Fail> {
     let alloc = rt.alloc();
+    let schema = schema(alloc, COLUMNS)?;
     let mut vids = Vec::new(alloc);
     vids.push(2)?;
     let mut picks = Vec::new(alloc);
     picks.push(Pick::new(Vec::from_slice(alloc, &[4, 0])?))?;
     let scan = Scan {
         vids: Vids::new(vids),
-        records: Records::new(Vec::new(alloc)),
+        records: RecordTable::new(Table::new(alloc, &schema)?),
         picks: Picks::new(picks),
     };
     assert_eq!(rt; scan.vids.as_slice(), [2].as_slice());
@@ -104,7 +105,7 @@ fn the_lists_of_a_scan_are_given_back(rt: HostRuntime) -> Result<(), Fail> {
         picks,
     } = scan;
     assert_eq!(rt; vids.into_vec().len(), 1);
-    assert!(rt; records.as_slice().is_empty());
+    assert_eq!(rt; records.len(), 0);
     for pick in picks.into_vec() {
         assert_eq!(rt; pick.as_slice(), [4, 0].as_slice());
         assert_eq!(rt; pick.into_vec().len(), 2);

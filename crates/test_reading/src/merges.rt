@@ -1,16 +1,16 @@
 //! Merges of small scans, worked out by hand, and the time of a large one.
 
-ghost use Rattle.std.specs.Prelude.{◌≡◌, ◌<◌, length};
+ghost use Rattle.std.specs.Prelude.{IfOk};
 ghost use Rattle.std.specs.Bool.{OnTrue};
 ghost use Rattle.std.specs.List.{All};
-ghost use Rattle.ov_fetch.specs.Scans.{IsSound, AllFit, AllStand, InKeyOrder, row_at as row_at_place, rows_at};
+ghost use Rattle.ov_fetch.specs.Scans.{AllFit, AllStand, InKeyOrder, rows_at};
 
-use crate::pairs::{COLUMNS, row_of};
+use crate::pairs::{COLUMNS, push};
 use crate::schemas::schema;
 use ov_fetch::{Pick, Picks, Scan, Vids};
 use ov_merge::merge;
-use ov_segment::{Record, Records};
-use ov_value::{Row, Schema};
+use ov_segment::{RecordTable, Table};
+use ov_value::Schema;
 use std::alloc::{AllocError, Global};
 use std::cmp::Ordering;
 use std::test::Fail;
@@ -27,18 +27,7 @@ fn pick_of(alloc: Global, version: u32, listed: &[(u32, usize)]) -> Result<Pick,
     Ok(Pick::new(places))
 }
 
-fn all_fit(schema: &Schema, records: &[Record]) -> bool
-    ensures { OnTrue result (AllFit schema.now records.now) }
-{
-    for one in records {
-        if !schema.fits(&one.row) {
-            return false;
-        }
-    }
-    true
-}
-
-fn all_stand(records: &[Record], places: &[usize]) -> bool
+fn all_stand(records: &RecordTable, places: &[usize]) -> bool
     ensures { OnTrue result (AllStand records.now places.now) }
 {
     for place in places {
@@ -49,27 +38,20 @@ fn all_stand(records: &[Record], places: &[usize]) -> bool
     true
 }
 
-fn row_at(records: &[Record], place: usize) -> &Row
-    requires { place < length records.now }
-    ensures { result.now ≡ row_at_place records.now place }
-{
-    &records[place].row
-}
-
-fn is_in_order(schema: &Schema, records: &[Record], places: &[usize]) -> bool
+fn is_in_order(schema: &Schema, records: &RecordTable, places: &[usize]) -> bool
     requires { AllStand records.now places.now }
     ensures { OnTrue result (InKeyOrder schema.now (rows_at records.now places.now)) }
 {
     for i in 1..places.len() {
-        let before = row_at(records, places[i - 1]);
-        if schema.cmp_key(row_at(records, places[i]), before) == Ordering::Less {
+        let before = records.row(places[i - 1]);
+        if records.row(places[i]).cmp_key(schema, &before) == Ordering::Less {
             return false;
         }
     }
     true
 }
 
-fn are_picks(schema: &Schema, records: &[Record], picks: &[Pick]) -> bool
+fn are_picks(schema: &Schema, records: &RecordTable, picks: &[Pick]) -> bool
     ensures stand { OnTrue result (All (AllStand records.now) picks.now) }
     ensures ordered { OnTrue result (All (λ pick. InKeyOrder schema.now (rows_at records.now pick)) picks.now) }
 {
@@ -82,10 +64,11 @@ fn are_picks(schema: &Schema, records: &[Record], picks: &[Pick]) -> bool
 }
 
 // The merge of a scan, where it is sound.
-fn merge_if_sound(alloc: Global, schema: &Schema, scan: &Scan) -> Result<Option<Pick>, AllocError> {
+fn merge_if_sound(alloc: Global, schema: &Schema, scan: &Scan) -> Result<Option<Pick>, AllocError>
+    requires { AllFit schema.now scan.now.records }
+{
     let paired = scan.vids.as_slice().len() == scan.picks.as_slice().len();
-    let records = scan.records.as_slice();
-    if paired && all_fit(schema, records) && are_picks(schema, records, scan.picks.as_slice()) {
+    if paired && are_picks(schema, &scan.records, scan.picks.as_slice()) {
         Ok(Some(merge(alloc, schema, scan)?))
     } else {
         Ok(None)
@@ -101,18 +84,19 @@ struct Case<'a> {
 }
 
 // Records whose rids are nothing to a merge.
-fn records_of(alloc: Global, pairs: &[(i64, &str)]) -> Result<Records, AllocError> {
-    let mut records = Vec::new(alloc);
+fn records_of(alloc: Global, schema: &Schema, pairs: &[(i64, &str)]) -> Result<RecordTable, Fail>
+    ensures { IfOk result (AllFit schema.now) }
+{
+    let mut table = Table::new(alloc, schema)?;
     for (k, x) in pairs {
-        let row = row_of(alloc, *k, x)?;
-        records.push(Record { rid: 1, row })?;
+        push(alloc, schema, &mut table, 1, *k, x)?;
     }
-    Ok(Records::new(records))
+    Ok(RecordTable::new(table))
 }
 
 fn merge_of(alloc: Global, case: &Case) -> Result<Pick, Fail> {
     let schema = schema(alloc, COLUMNS)?;
-    let records = records_of(alloc, case.records)?;
+    let records = records_of(alloc, &schema, case.records)?;
     let mut vids = Vec::new(alloc);
     let mut picks = Vec::new(alloc);
     for version in 0..case.versions {
@@ -180,11 +164,12 @@ fn the_first_listed_version_wins(rt: HostRuntime) -> Result<(), Fail> {
 }
 
 // Four versions of 100,000 rows, half of each one's keys also in the next one.
-fn large_scan(alloc: Global) -> Result<Scan, AllocError> {
-    let mut records = Vec::new(alloc);
+fn large_scan(alloc: Global, schema: &Schema) -> Result<Scan, Fail>
+    ensures { IfOk result (λ scan. AllFit schema.now scan.records) }
+{
+    let mut table = Table::new(alloc, schema)?;
     for k in 0..250_000i64 {
-        let row = row_of(alloc, k, "x")?;
-        records.push(Record { rid: 1, row })?;
+        push(alloc, schema, &mut table, 1, k, "x")?;
     }
     let mut vids = Vec::new(alloc);
     let mut picks = Vec::new(alloc);
@@ -198,7 +183,7 @@ fn large_scan(alloc: Global) -> Result<Scan, AllocError> {
     }
     Ok(Scan {
         vids: Vids::new(vids),
-        records: Records::new(records),
+        records: RecordTable::new(table),
         picks: Picks::new(picks),
     })
 }
@@ -206,7 +191,7 @@ fn large_scan(alloc: Global) -> Result<Scan, AllocError> {
 #[test]
 fn four_versions_of_100000_rows(rt: HostRuntime) -> Result<(), Fail> {
     let schema = schema(rt.alloc(), COLUMNS)?;
-    let scan = large_scan(rt.alloc())?;
+    let scan = large_scan(rt.alloc(), &schema)?;
     let start = Instant::now(&rt)?;
     let merge = merge_if_sound(rt.alloc(), &schema, &scan)?.ok_or("a sound scan")?;
     let taken = start.elapsed(&rt)?.as_millis();

@@ -1,7 +1,7 @@
 //! Pages in memory, and the rids that are found there.
 
 use ov_memhost::MemHost;
-use ov_segment::Record;
+use ov_segment::RecordTable;
 use std::alloc::{AllocError, Global};
 
 /// The bytes of an area where each part stands at the front of a page, in this order, and then these bytes are others.
@@ -30,10 +30,10 @@ pub fn host_of(alloc: Global, pages: Vec<u8>) -> MemHost {
     MemHost::new(alloc, pages, Vec::new(alloc), Vec::new(alloc))
 }
 
-pub fn rids(alloc: Global, records: &[Record]) -> Result<Vec<u32>, AllocError> {
+pub fn rids(alloc: Global, records: &RecordTable) -> Result<Vec<u32>, AllocError> {
     let mut rids = Vec::new(alloc);
-    for record in records {
-        rids.push(record.rid)?;
+    for i in 0..records.len() {
+        rids.push(records.rid(i))?;
     }
     Ok(rids)
 }

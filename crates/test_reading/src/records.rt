@@ -7,14 +7,14 @@ use ov_fetch::{FetchErr, list_of, rids_of, rows_of};
 use ov_host::Extent;
 use ov_member::Members;
 use ov_memhost::MemHost;
-use ov_segment::{Record, Records};
-use ov_value::{Schema, Value};
+use ov_segment::RecordTable;
+use ov_value::{CellRef, Schema};
 use std::alloc::Global;
 use std::test::Fail;
 use std::time::Instant;
 
 // The records of both versions.
-fn fetched(alloc: Global, host: &mut MemHost, schema: &Schema) -> Result<Records, FetchErr> {
+fn fetched(alloc: Global, host: &mut MemHost, schema: &Schema) -> Result<RecordTable, FetchErr> {
     let members = [
         list_of(alloc, host, LISTS[0])?,
         list_of(alloc, host, LISTS[1])?,
@@ -28,10 +28,7 @@ fn people_are_fetched_once_in_the_order_of_their_rids(rt: HostRuntime) -> Result
     let schema = schema(alloc, COLUMNS)?;
     let mut host = host_of(alloc, area(alloc, &PARTS, &[])?);
     let records = fetched(alloc, &mut host, &schema)?;
-    assert_eq!(rt;
-        rids(alloc, records.as_slice())?.as_slice(),
-        [1, 2, 3, 4].as_slice()
-    );
+    assert_eq!(rt; rids(alloc, &records)?.as_slice(), [1, 2, 3, 4].as_slice());
     assert_eq!(rt; host.calls(), 4);
     Ok(())
 }
@@ -110,12 +107,17 @@ fn a_member_without_a_record_names_its_list(rt: HostRuntime) -> Result<(), Fail>
     Ok(())
 }
 
-// Whether it is the record 2 with this score.
-fn is_bob(record: &Record, score: i64) -> bool {
-    match record.row.values() {
-        [_, _, Value::Int(found)] => record.rid == 2 && *found == score,
-        _ => false,
+// Whether the record 2 has this score.
+fn has_bob(records: &RecordTable, score: i64) -> bool {
+    for i in 0..records.len() {
+        if records.rid(i) == 2 {
+            return match records.row(i).at(2) {
+                CellRef::Int(found) => found == score,
+                _ => false,
+            };
+        }
     }
+    false
 }
 
 // The same rid in two segments: (1, ann, 10) first or (1, bob, 20) first.
@@ -128,11 +130,8 @@ fn the_first_segment_gives_the_record(rt: HostRuntime) -> Result<(), Fail> {
     for (segments, score) in [([first, second], 20), ([second, first], 25)] {
         let members = [list_of(alloc, &mut host, LISTS[0])?];
         let records = rows_of(alloc, &mut host, &schema, &segments, &LISTS[..1], &members)?;
-        assert_eq!(rt;
-            rids(alloc, records.as_slice())?.as_slice(),
-            [1, 2].as_slice()
-        );
-        assert!(rt; records.as_slice().iter().any(|one| is_bob(one, score)));
+        assert_eq!(rt; rids(alloc, &records)?.as_slice(), [1, 2].as_slice());
+        assert!(rt; has_bob(&records, score));
     }
     Ok(())
 }
@@ -161,7 +160,7 @@ fn a_hundred_thousand_rows_of_a_partition(rt: HostRuntime) -> Result<(), Fail> {
     let start = Instant::now(&rt)?;
     let records = rows_of(alloc, &mut host, &schema, &[segment], &[list], &members)?;
     let spent = start.elapsed(&rt)?.as_millis();
-    assert!(rt; rids(alloc, records.as_slice())?.as_slice() == odd.as_slice());
+    assert!(rt; rids(alloc, &records)?.as_slice() == odd.as_slice());
     println!(rt; "100,000 rows out of 200,000 in {spent} ms")?;
     Ok(())
 }

@@ -29,12 +29,11 @@ fn scanned(
 
 // The rids of the rows of the version at a place, in order.
 fn rids_at(alloc: Global, scan: &Scan, place: usize) -> Result<Vec<u32>, Fail> {
-    let records = scan.records.as_slice();
     let mut rids = Vec::new(alloc);
     if let Some(pick) = scan.picks.as_slice().get(place) {
         for at in pick.as_slice() {
-            if let Some(record) = records.get(*at) {
-                rids.push(record.rid)?;
+            if *at < scan.records.len() {
+                rids.push(scan.records.rid(*at))?;
             }
         }
     }
@@ -48,7 +47,7 @@ fn rows_come_in_key_order_and_each_extent_is_read_once(rt: HostRuntime) -> Resul
     let mut host = host_of(alloc, area(alloc, &TURNED, &[])?);
     let scan = scanned(alloc, &mut host, &d, 2, 1)?;
     assert_eq!(rt; scan.vids.as_slice(), [2, 1].as_slice());
-    assert_eq!(rt; scan.records.as_slice().len(), 4);
+    assert_eq!(rt; scan.records.len(), 4);
     assert_eq!(rt; rids_at(alloc, &scan, 0)?.as_slice(), [1, 4, 3].as_slice());
     assert_eq!(rt; rids_at(alloc, &scan, 1)?.as_slice(), [1, 2].as_slice());
     assert_eq!(rt; host.calls(), 4);
