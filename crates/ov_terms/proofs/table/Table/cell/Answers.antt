@@ -8,4 +8,4 @@ pub returns-then-at-len : goal.returns-then-at-len
 returns-then-at-len c =
     c.at.ensures
     ∙ ap (λ row. slice_index_or row c.args.place Null)
-    (c.row.ensures (record { rid = 0; row = [] }) ∙ row-at c.args.self.now.records.now c.args.at (record { rid = 0; row = [] }) (rw c.len.ensures at c.if-at-len.true))
+    (c.row.ensures (record { rid = 0; row = [] }) ∙ row-at c.args.self.now.records.now c.args.at (record { rid = 0; row = [] }) (rw c.len.ensures.count at c.if-at-len.true))
