@@ -1,9 +1,9 @@
 // Rows as they are read back: whether they are those of a version that was generated.
 
-ghost use Rattle.std.specs.Prelude.{◌≡◌, ◌≤◌, ◌<◌, ◌+◌, ◌^◌, ◌↔◌, ℕ, IsTrue, IfOk, MatchOption, pos};
+ghost use Rattle.std.specs.Prelude.{◌≡◌, ◌≤◌, ◌<◌, ◌+◌, ◌^◌, ◌↔◌, ℕ, IsTrue, IfOk, MatchOption, pos, length};
 ghost use Rattle.ov_value.specs.declared.value.Value.TheVariants.{Int};
 ghost use Rattle.ov_value.specs.Cells.{value_of};
-ghost use Rattle.ov_fetch.specs.Scans.{AllStand, rows_at};
+ghost use Rattle.ov_fetch.specs.Scans.{AllStand, row_at, rows_at};
 ghost use Rattle.ov_gen.specs.Versions.{IsGrown};
 ghost use Rattle.ov_generate.specs.Rows.{IsLabel, IsLabelled, IsNextRow};
 
@@ -116,6 +116,15 @@ fn own_row(alloc: Global, cells: Cells<'_>) -> Result<Row, AllocError>
     Ok(Row::new(values))
 }
 
+// The row at a position, with values of its own.
+fn row_from(alloc: Global, records: &RecordTable, place: usize) -> Result<Row, AllocError>
+    requires { place < length records.now }
+    ensures { IfOk result (λ row. row ≡ row_at records.now place) }
+{
+    let row = own_row(alloc, records.cells(place))?;
+    Ok(row)
+}
+
 /// Copies of the rows at these positions.
 pub(crate) fn copied_rows(
     alloc: Global,
@@ -127,7 +136,7 @@ pub(crate) fn copied_rows(
 {
     let mut rows = Vec::with_capacity(alloc, pick.len())?;
     for place in pick {
-        rows.push(own_row(alloc, records.cells(*place))?)?;
+        rows.push(row_from(alloc, records, *place)?)?;
     }
     Ok(rows)
 }
