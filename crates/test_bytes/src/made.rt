@@ -1,7 +1,11 @@
 //! Columns, schemas and rows, made from what stands in tables.
 
-use ov_value::{Column, Kind, Row, Schema, SchemaErr, Txt, Value};
+ghost use Rattle.std.specs.Prelude.{◌≡◌};
+
+use ov_segment::{RowTable, Table};
+use ov_value::{CellRef, Column, Kind, Row, Schema, SchemaErr, Txt, Value, append_row, spells_row};
 use std::alloc::{AllocError, Global};
+use std::test::Fail;
 
 /// A column's name and kind.
 pub type Named = (&'static str, Kind);
@@ -70,10 +74,69 @@ pub fn row(alloc: Global, cells: &[Cell]) -> Result<Row, AllocError> {
     Ok(Row::new(values))
 }
 
+/// Appends a row, where these bytes are those of one.
+pub fn put(schema: &Schema, table: &mut Table, marked: bool, bytes: &[u8]) -> Result<(), Fail>
+    requires { table.old.columns ≡ schema.now.columns }
+    ensures { table.new.columns ≡ schema.now.columns }
+{
+    if !spells_row(schema, marked, bytes) {
+        return Err("they spell a row".into());
+    }
+    table.push(0, marked, bytes)?;
+    Ok(())
+}
+
+fn push(alloc: Global, schema: &Schema, table: &mut Table, row: &Row) -> Result<(), Fail>
+    requires { table.old.columns ≡ schema.now.columns }
+    ensures { table.new.columns ≡ schema.now.columns }
+{
+    if !schema.fits(row) || !row.has_short_texts() {
+        return Err("the row fits".into());
+    }
+    let mut bytes = Vec::new(alloc);
+    let marked = append_row(&mut bytes, schema, row)?;
+    put(schema, table, marked, &bytes)
+}
+
 pub fn rows(alloc: Global, lines: &[&[Cell]]) -> Result<Vec<Row>, AllocError> {
     let mut rows = Vec::new(alloc);
     for line in lines {
         rows.push(row(alloc, line)?)?;
     }
     Ok(rows)
+}
+
+/// The rows of lines, which fit the schema, as a table.
+pub fn table(alloc: Global, schema: &Schema, lines: &[&[Cell]]) -> Result<RowTable, Fail> {
+    let mut table = Table::new(alloc, schema)?;
+    for line in lines {
+        push(alloc, schema, &mut table, &row(alloc, line)?)?;
+    }
+    Ok(RowTable::new(table))
+}
+
+fn is_cell(got: CellRef<'_>, want: Cell) -> bool {
+    match (got, want) {
+        (CellRef::Int(x), Cell::Int(y)) => x == y,
+        (CellRef::Flag(x), Cell::Flag(y)) => x == y,
+        (CellRef::Text(x), Cell::Text(y)) => x == y,
+        (CellRef::Null, Cell::Null) => true,
+        _ => false,
+    }
+}
+
+/// Whether the rows have these cells.
+pub fn are_rows(rows: &RowTable, lines: &[&[Cell]]) -> bool {
+    if rows.len() != lines.len() {
+        return false;
+    }
+    for (i, line) in lines.iter().enumerate() {
+        let row = rows.row(i);
+        for (place, cell) in line.iter().enumerate() {
+            if !is_cell(row.at(place), *cell) {
+                return false;
+            }
+        }
+    }
+    true
 }

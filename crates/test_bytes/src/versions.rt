@@ -1,10 +1,11 @@
 //! Files of rows as versions: small ones with what is worked out by hand for each, and the largest ones.
 
 use crate::made::Cell::{Int, Null};
-use crate::made::{Cell, Named, rows, schema};
+use crate::made::{Cell, Named, are_rows, put, schema, table};
 use ov_rows::*;
-use ov_value::{Kind, Row, Value};
-use std::alloc::{AllocError, Global};
+use ov_segment::{RowTable, Table};
+use ov_value::{Kind, Schema};
+use std::alloc::Global;
 use std::test::*;
 use std::time::Instant;
 
@@ -65,15 +66,11 @@ const FILES: [Case; 12] = [
 ];
 
 // Whether the answer is those rows, or that refusal.
-fn is_answer(
-    alloc: Global,
-    made: &Result<Vec<Row>, RowsErr>,
-    want: Result<Lines, RowsErr>,
-) -> Result<bool, AllocError> {
+fn is_answer(made: &Result<RowTable, RowsErr>, want: Result<Lines, RowsErr>) -> bool {
     match (made, want) {
-        (Ok(made), Ok(want)) => Ok(*made == rows(alloc, want)?),
-        (Err(why), Err(want)) => Ok(*why == want),
-        _ => Ok(false),
+        (Ok(made), Ok(want)) => are_rows(made, want),
+        (Err(why), Err(want)) => *why == want,
+        _ => false,
     }
 }
 
@@ -82,34 +79,27 @@ fn small_files_are_ordered_or_refused(rt: HostRuntime) -> Result<(), Fail> {
     let alloc = rt.alloc();
     let schema = schema(alloc, COLUMNS, &["b", "a"])?;
     for (nth, (format, adds, file, want)) in FILES.iter().enumerate() {
-        let made = version_rows(alloc, &schema, *format, *adds, rows(alloc, file)?);
-        assert!(rt; is_answer(alloc, &made, *want)?, "case {nth}");
+        let made = version_rows(alloc, &schema, *format, *adds, table(alloc, &schema, file)?);
+        assert!(rt; is_answer(&made, *want), "case {nth}");
     }
     Ok(())
 }
 
-// Where a row has no value at a key column, it is read as having NULL there.
-#[test]
-fn rows_without_values_have_one_key(rt: HostRuntime) -> Result<(), Fail> {
-    let alloc = rt.alloc();
-    let schema = schema(alloc, &[("a", Kind::Int), ("b", Kind::Int)], &["b", "a"])?;
-    let got = version_rows(alloc, &schema, 1, true, rows(alloc, &[&[], &[]])?);
-    assert!(rt; matches!(got, Err(RowsErr::DuplicateKey { row: 2 })));
-    Ok(())
-}
-
-// Rows of one column, whose keys differ and stand in no order, and behind them one with the first one's key.
-fn large_file(alloc: Global, count: u32) -> Result<Vec<Row>, AllocError> {
-    let mut rows = Vec::with_capacity(alloc, count as usize + 1)?;
+// Rows of one column, whose keys differ and stand in no order; behind them, where asked, one with the first one's key.
+fn large_file(alloc: Global, schema: &Schema, count: u32, twice: bool) -> Result<RowTable, Fail> {
+    let mut table = Table::new(alloc, schema)?;
     for i in 0..count {
-        let mut values = Vec::with_capacity(alloc, 1)?;
-        values.push(Value::Int((i ^ 0xAAAAA) as i64))?;
-        rows.push(Row::new(values))?;
+        put(
+            schema,
+            &mut table,
+            false,
+            &u64::from(i ^ 0xAAAAA).to_be_bytes(),
+        )?;
     }
-    let mut values = Vec::with_capacity(alloc, 1)?;
-    values.push(Value::Int(0xAAAAA))?;
-    rows.push(Row::new(values))?;
-    Ok(rows)
+    if twice {
+        put(schema, &mut table, false, &0xAAAAAu64.to_be_bytes())?;
+    }
+    Ok(RowTable::new(table))
 }
 
 #[test]
@@ -117,13 +107,14 @@ fn a_million_rows_are_a_version(rt: HostRuntime) -> Result<(), Fail> {
     let alloc = rt.alloc();
     let schema = schema(alloc, &[("k", Kind::Int)], &["k"])?;
     let begun = Instant::now(&rt)?;
-    let mut rows = large_file(alloc, 1_000_000)?;
-    rows.pop();
+    let rows = large_file(alloc, &schema, 1_000_000, false)?;
     let made = version_rows(alloc, &schema, 2, false, rows)?;
     assert_eq!(rt; made.len(), 1_000_000);
-    let twice = version_rows(alloc, &schema, 2, false, large_file(alloc, 999_999)?);
+    let rows = large_file(alloc, &schema, 999_999, true)?;
+    let twice = version_rows(alloc, &schema, 2, false, rows);
     assert!(rt; matches!(twice, Err(RowsErr::DuplicateKey { row: 1_000_000 })));
-    let many = version_rows(alloc, &schema, 1, true, large_file(alloc, 1_000_000)?);
+    let rows = large_file(alloc, &schema, 1_000_000, true)?;
+    let many = version_rows(alloc, &schema, 1, true, rows);
     assert!(rt; matches!(many, Err(RowsErr::TooManyRows)));
     assert!(rt; begun.elapsed(&rt)?.as_secs() < 30);
     rows_are_refused_as_in_the_model();

@@ -5,7 +5,7 @@ ghost use Rattle.std.specs.List.{All};
 ghost use Rattle.law_commits.specs.Agreeing.{ParentsAgree};
 ghost use Rattle.ov_catalog.specs.Ready.{IsSet};
 ghost use Rattle.ov_catalog.specs.Sets.{set_in};
-ghost use Rattle.ov_records.specs.Records.{InKeyOrder};
+ghost use Rattle.ov_records.specs.Records.{InKeyOrder, RowsFit};
 ghost use Rattle.ov_read.specs.Agreement.{IsThere};
 
 use crate::people::{JOURNAL, RAISED, RAISED_LIST, RAISED_SEGMENT, pages_of_people, rows_in};
@@ -17,7 +17,7 @@ use ov_new_version::{Commit, CommitErr, Wanted, commit_of};
 use ov_open::open;
 use ov_parents::parents_of;
 use ov_read::{PartRids, has_version};
-use ov_segment::Records;
+use ov_segment::RecordTable;
 use ov_value::Txt;
 use std::alloc::Global;
 use std::test::Fail;
@@ -43,12 +43,13 @@ fn held_of(alloc: Global, rids: &[u32]) -> Result<Vec<PartRids>, Fail> {
 fn commit_upon_first(
     alloc: Global,
     d: &Cvd,
-    parents: &[Records],
+    parents: &[RecordTable],
     rids: &[u32],
 ) -> Result<Result<Commit, CommitErr>, Fail>
     requires set { IsSet d.now }
     requires there { IsThere (set_in d.now) 1 }
     requires order { All (InKeyOrder d.now.schema) parents.now }
+    requires fit { All (RowsFit d.now.schema) parents.now }
     requires agree { ParentsAgree (set_in d.now) (1 ∷ []) parents.now }
 {
     let rows = rows_in(alloc, &d.schema, RAISED)?;

@@ -5,7 +5,8 @@ ghost use Rattle.ov_catalog.specs.Reached.{AreRows};
 
 use ov_csv::read_csv;
 use ov_rows::version_rows;
-use ov_value::{Column, Kind, Row, Schema, Txt};
+use ov_segment::RowTable;
+use ov_value::{Column, Kind, Schema, Txt};
 use std::alloc::Global;
 use std::test::Fail;
 
@@ -72,8 +73,8 @@ pub fn schema_of(alloc: Global) -> Result<Schema, Fail> {
 }
 
 /// The rows of a file as a version has them.
-pub fn rows_in(alloc: Global, schema: &Schema, file: &[u8]) -> Result<Vec<Row>, Fail>
-    ensures { IfOk result (λ rows. AreRows schema.now rows.items) }
+pub fn rows_in(alloc: Global, schema: &Schema, file: &[u8]) -> Result<RowTable, Fail>
+    ensures { IfOk result (AreRows schema.now) }
 {
     let rows = read_csv(alloc, schema, file)?;
     Ok(version_rows(alloc, schema, 2, false, rows)?)

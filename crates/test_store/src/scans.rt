@@ -9,13 +9,13 @@ use std::test::Fail;
 
 // Each version with the rids of its rows.
 fn said(alloc: Global, scan: &Scan) -> Result<String, AllocError> {
-    let records = scan.records.as_slice();
+    let records = &scan.records;
     let mut text = String::new(alloc);
     for (vid, pick) in scan.vids.as_slice().iter().zip(scan.picks.as_slice()) {
         text.push_str(format!(in alloc; "{vid}:")?.as_str())?;
         for place in pick.as_slice() {
-            if let Some(record) = records.get(*place) {
-                text.push_str(format!(in alloc; " {}", record.rid)?.as_str())?;
+            if *place < records.len() {
+                text.push_str(format!(in alloc; " {}", records.rid(*place))?.as_str())?;
             }
         }
         text.push_str("; ")?;

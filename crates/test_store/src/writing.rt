@@ -19,7 +19,7 @@ fn first(alloc: Global, schema: &Schema, name: &str, file: &[u8]) -> Result<Brou
     if !is_name(name.as_str()) {
         return Err("it is a name".into());
     }
-    Ok(first_version(alloc, &name, schema, rows)?)
+    Ok(first_version(alloc, &name, schema, &rows)?)
 }
 
 // What a version 2 of one parent brings, with the records 1, 3 and 4.
@@ -36,7 +36,7 @@ fn second(alloc: Global, schema: &Schema, place: Place, held: &[u32]) -> Result<
         vid: 2,
         message: &message,
         parents: &[1],
-        rows,
+        rows: &rows,
         made: Assigned {
             rids: Numbers::new(rids),
             weights: Numbers::new(Vec::from_slice(alloc, &[1])?),
@@ -45,7 +45,7 @@ fn second(alloc: Global, schema: &Schema, place: Place, held: &[u32]) -> Result<
         place,
         held: &held,
     };
-    Ok(next_version(alloc, schema, next)?)
+    Ok(next_version(alloc, next)?)
 }
 
 #[test]
