@@ -41,7 +41,7 @@ fn stage_of(alloc: Global, name: &str, bytes: Vec<u8>, fails: u64) -> Result<Mem
 fn said(alloc: Global, stage: &mut MemStage, name: &str) -> Result<Vec<u8>, Fail> {
     let schema = schema(alloc)?;
     match rows_of_file(alloc, stage, &Txt::new(alloc, name)?, &schema)? {
-        FileRows::Rows(rows) => Ok(write_rows(alloc, &schema, rows.as_slice())?),
+        FileRows::Rows(rows) => Ok(write_rows(alloc, &schema, &rows)?),
         FileRows::Refused(why) => Ok(Vec::from_slice(alloc, text_of(&why))?),
     }
 }

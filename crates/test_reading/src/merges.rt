@@ -1,15 +1,16 @@
 //! Merges of small scans, worked out by hand, and the time of a large one.
 
-ghost use Rattle.std.specs.Prelude.{IfOk};
+ghost use Rattle.std.specs.Prelude.{◌≡◌, ◌<◌, IfOk, length};
+ghost use Rattle.ov_merge.specs.Places.{place_cmp};
 ghost use Rattle.std.specs.Bool.{OnTrue};
 ghost use Rattle.std.specs.List.{All};
-ghost use Rattle.ov_fetch.specs.Scans.{AllFit, AllStand, InKeyOrder, rows_at};
+ghost use Rattle.ov_fetch.specs.Scans.{AllFit, AllStand, InKeyOrder, row_at as row_at_place, rows_at};
 
 use crate::pairs::{COLUMNS, push};
 use crate::schemas::schema;
 use ov_fetch::{Pick, Picks, Scan, Vids};
 use ov_merge::merge;
-use ov_segment::{RecordTable, Table};
+use ov_segment::{RecordTable, RowRef, Table};
 use ov_value::Schema;
 use std::alloc::{AllocError, Global};
 use std::cmp::Ordering;
@@ -38,13 +39,27 @@ fn all_stand(records: &RecordTable, places: &[usize]) -> bool
     true
 }
 
+fn row_at(records: &RecordTable, place: usize) -> RowRef<'_>
+    requires { place < length records.now }
+    ensures { result ≡ row_at_place records.now place }
+{
+    records.row(place)
+}
+
+fn cmp_places(schema: &Schema, records: &RecordTable, a: usize, b: usize) -> Ordering
+    requires first { a < length records.now }
+    requires second { b < length records.now }
+    ensures { result ≡ place_cmp schema.now records.now a b }
+{
+    row_at(records, a).cmp_key(schema, &row_at(records, b))
+}
+
 fn is_in_order(schema: &Schema, records: &RecordTable, places: &[usize]) -> bool
     requires { AllStand records.now places.now }
     ensures { OnTrue result (InKeyOrder schema.now (rows_at records.now places.now)) }
 {
     for i in 1..places.len() {
-        let before = records.row(places[i - 1]);
-        if records.row(places[i]).cmp_key(schema, &before) == Ordering::Less {
+        if cmp_places(schema, records, places[i], places[i - 1]) == Ordering::Less {
             return false;
         }
     }
@@ -88,8 +103,8 @@ fn records_of(alloc: Global, schema: &Schema, pairs: &[(i64, &str)]) -> Result<R
     ensures { IfOk result (AllFit schema.now) }
 {
     let mut table = Table::new(alloc, schema)?;
-    for (k, x) in pairs {
-        push(alloc, schema, &mut table, 1, *k, x)?;
+    for pair in pairs {
+        push(alloc, schema, &mut table, 1, pair.0, pair.1)?;
     }
     Ok(RecordTable::new(table))
 }

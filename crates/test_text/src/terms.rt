@@ -4,40 +4,26 @@ ghost use Rattle.std.specs.Prelude.{◌≡◌, IfOk, length};
 
 use crate::asked::query;
 use crate::schemas::people_with_flags;
+use crate::tables::table_of;
 use ov_fetch::{Pick, Picks, Scan, Vids};
 use ov_model::{Cell, Cond, Items, Term};
-use ov_segment::{Record, Records};
-use ov_terms::{Seen, Spot, Table, cmp_seen, is_guard_free, spots_of};
-use ov_value::{Row, Schema, Txt, Value};
+use ov_segment::{RecordTable, read_segment};
+use ov_terms::{FoundItems, FoundTerm, Seen, Spot, Table, cmp_seen, find_guard, is_guard_free};
+use ov_value::{CellRef, Schema, Value};
 use std::alloc::{AllocError, Global};
 use std::cmp::Ordering;
 use std::test::Fail;
 
-// Rids, names, scores and flags.
-const PEOPLE: [(u32, &str, Option<i64>, Option<bool>); 3] = [
-    (1, "ann", Some(10), Some(true)),
-    (2, "bob", None, Some(false)),
-    (3, "cy", Some(30), None),
-];
+// The records 1 to 3: (1, ann, 10, true), (2, bob, NULL, false), which is marked, and (3, cy, 30, NULL).
+const SEGMENT: &[u8] = b"\0\0\0\x01\0\0\0\x18\0\0\0\0\0\0\0\x01\0\0\0\x03ann\0\0\0\0\0\0\0\x0a\x01\
+\0\0\0\x02\x80\0\0\x12\x04\x04\0\0\0\0\0\0\0\x02\0\0\0\x03bob\0\
+\0\0\0\x03\0\0\0\x16\0\0\0\0\0\0\0\x03\0\0\0\x02cy\0\0\0\0\0\0\0\x1e";
 
-fn three(alloc: Global) -> Result<Vec<Record>, AllocError> {
-    let mut records = Vec::new(alloc);
-    for (rid, name, score, ok) in PEOPLE {
-        let mut values = Vec::new(alloc);
-        values.push(Value::Int(i64::from(rid)))?;
-        values.push(Value::Text(Txt::new(alloc, name)?))?;
-        values.push(match score {
-            Some(score) => Value::Int(score),
-            None => Value::Null,
-        })?;
-        values.push(match ok {
-            Some(ok) => Value::Flag(ok),
-            None => Value::Null,
-        })?;
-        let row = Row::new(values);
-        records.push(Record { rid, row })?;
-    }
-    Ok(records)
+fn three(alloc: Global, schema: &Schema) -> Result<RecordTable, Fail> {
+    let Some(records) = read_segment(alloc, schema, SEGMENT)? else {
+        return Err("no segment")?;
+    };
+    Ok(table_of(alloc, schema, records.as_slice())?)
 }
 
 // Two rows of version 1 and three of version 2.
@@ -51,11 +37,10 @@ fn spots(alloc: Global) -> Result<Vec<Spot>, AllocError> {
 
 fn shown(alloc: Global, seen: Seen<'_>) -> Result<String, Fail> {
     Ok(match seen {
-        Seen::Value(Value::Int(n)) => format!(in alloc; "{n}")?,
-        Seen::Value(Value::Text(text)) => format!(in alloc; "{}", text.as_str())?,
-        Seen::Value(Value::Flag(flag)) => format!(in alloc; "{flag}")?,
-        Seen::Value(Value::Null) | Seen::Null => format!(in alloc; "null")?,
-        Seen::Vid(vid) => format!(in alloc; "version {vid}")?,
+        Seen::Cell(CellRef::Int(n)) => format!(in alloc; "{n}")?,
+        Seen::Cell(CellRef::Text(text)) => format!(in alloc; "{text}")?,
+        Seen::Cell(CellRef::Flag(flag)) => format!(in alloc; "{flag}")?,
+        Seen::Cell(CellRef::Null) => format!(in alloc; "null")?,
         Seen::Sum(sum) => format!(in alloc; "sum {sum}")?,
         Seen::Nothing => format!(in alloc; "nothing")?,
     })
@@ -69,11 +54,17 @@ fn first_term(items: &Items) -> Option<&Term> {
 }
 
 // What the one term of this text is over a group.
-fn term_said(alloc: Global, table: &Table<'_>, group: &[Spot], text: &str) -> Result<String, Fail> {
+fn term_said(
+    alloc: Global,
+    schema: &Schema,
+    table: &Table<'_>,
+    group: &[Spot],
+    text: &str,
+) -> Result<String, Fail> {
     let text = format!(in alloc; "SELECT {text} FROM CVD people")?;
     let query = query(alloc, text.as_str())?;
     match first_term(&query.items) {
-        Some(term) => shown(alloc, table.term(group, term)),
+        Some(term) => shown(alloc, table.term(group, FoundTerm::of(schema, term))),
         None => Err("no term")?,
     }
 }
@@ -90,8 +81,8 @@ const TERMS: &[(&str, &str, &str)] = &[
     ("MIN(score)", "10", "nothing"),
     ("MAX(score)", "30", "nothing"),
     ("MIN(ok)", "false", "nothing"),
-    ("MAX(vid)", "version 2", "nothing"),
-    ("vid", "version 1", "nothing"),
+    ("MAX(vid)", "2", "nothing"),
+    ("vid", "1", "nothing"),
     ("name", "ann", "nothing"),
     ("nobody", "null", "nothing"),
 ];
@@ -100,36 +91,36 @@ const TERMS: &[(&str, &str, &str)] = &[
 fn terms_over_a_group(rt: HostRuntime) -> Result<(), Fail> {
     let alloc = rt.alloc();
     let schema = people_with_flags(alloc)?;
-    let records = three(alloc)?;
+    let records = three(alloc, &schema)?;
     let spots = spots(alloc)?;
-    let table = Table {
-        schema: &schema,
-        records: records.as_slice(),
-    };
+    let table = Table { records: &records };
     for (text, want, of_none) in TERMS {
-        let got = term_said(alloc, &table, spots.as_slice(), text)?;
+        let got = term_said(alloc, &schema, &table, spots.as_slice(), text)?;
         assert_eq!(rt; got.as_str(), *want);
-        let got = term_said(alloc, &table, &[], text)?;
+        let got = term_said(alloc, &schema, &table, &[], text)?;
         assert_eq!(rt; got.as_str(), *of_none);
     }
     Ok(())
 }
 
 // Which of the rows of version 2 a guard takes.
-fn guard_said<'a>(
+fn guard_said(
     alloc: Global,
-    table: &Table<'a>,
-    spots: &[Spot],
-    guard: &'a Option<Cond>,
+    schema: &Schema,
+    records: &RecordTable,
+    guard: &Option<Cond>,
 ) -> Result<String, AllocError> {
     let mut said = String::new(alloc);
     if !is_guard_free(guard) {
         said.push_str("a lineage")?;
         return Ok(said);
     }
+    let found = find_guard(alloc, schema, guard)?;
+    let spots = spots(alloc)?;
+    let table = Table { records };
     for place in 2..5 {
         let group = spots.get(place..place + 1).unwrap_or(&[]);
-        let taken = if table.holds(group, guard) { "+" } else { "-" };
+        let taken = if table.holds(group, &found) { "+" } else { "-" };
         said.push_str(taken)?;
     }
     Ok(said)
@@ -138,17 +129,12 @@ fn guard_said<'a>(
 fn where_said(
     alloc: Global,
     schema: &Schema,
-    records: &[Record],
+    records: &RecordTable,
     text: &str,
 ) -> Result<String, Fail> {
     let text = format!(in alloc; "SELECT * FROM CVD people WHERE {text}")?;
     let query = query(alloc, text.as_str())?;
-    let spots = spots(alloc)?;
-    let table = Table {
-        schema: &*schema,
-        records: &*records,
-    };
-    Ok(guard_said(alloc, &table, spots.as_slice(), &query.filter)?)
+    Ok(guard_said(alloc, schema, records, &query.filter)?)
 }
 
 const CONDITIONS: &[(&str, &str)] = &[
@@ -175,9 +161,9 @@ const CONDITIONS: &[(&str, &str)] = &[
 #[test]
 fn conditions_over_rows(rt: HostRuntime) -> Result<(), Fail> {
     let schema = people_with_flags(rt.alloc())?;
-    let records = three(rt.alloc())?;
+    let records = three(rt.alloc(), &schema)?;
     for (text, want) in CONDITIONS {
-        let got = where_said(rt.alloc(), &schema, records.as_slice(), text)?;
+        let got = where_said(rt.alloc(), &schema, &records, text)?;
         assert_eq!(rt; got.as_str(), *want);
     }
     Ok(())
@@ -185,11 +171,10 @@ fn conditions_over_rows(rt: HostRuntime) -> Result<(), Fail> {
 
 #[test]
 fn null_is_below_all(rt: HostRuntime) -> Result<(), Fail> {
-    let text = Value::Text(Txt::new(rt.alloc(), "a")?);
     let values = [
         Seen::Nothing,
-        Seen::Value(&Value::Int(-1)),
-        Seen::Vid(1),
+        Seen::Cell(CellRef::Int(-1)),
+        Seen::of(&Value::Int(1)),
         Seen::Sum(2),
     ];
     for (i, a) in values.iter().enumerate() {
@@ -197,13 +182,17 @@ fn null_is_below_all(rt: HostRuntime) -> Result<(), Fail> {
             assert_eq!(rt; cmp_seen(*a, *b), i.cmp(&j));
         }
     }
-    assert_eq!(rt; cmp_seen(Seen::Null, Seen::Nothing), Ordering::Equal);
-    assert_eq!(rt; cmp_seen(Seen::Null, Seen::Value(&text)), Ordering::Less);
+    let null = Seen::Cell(CellRef::Null);
+    assert_eq!(rt; cmp_seen(null, Seen::Nothing), Ordering::Equal);
+    assert_eq!(rt;
+        cmp_seen(null, Seen::Cell(CellRef::Text("a"))),
+        Ordering::Less
+    );
     Ok(())
 }
 
 // A scan of version 1 with two rows and version 2 with three.
-fn scan(alloc: Global) -> Result<Scan, AllocError>
+fn scan(alloc: Global, schema: &Schema) -> Result<Scan, Fail>
     ensures { IfOk result (λ made. length made.vids ≡ length made.picks) }
 {
     let mut picks = Vec::new(alloc);
@@ -211,7 +200,7 @@ fn scan(alloc: Global) -> Result<Scan, AllocError>
     picks.push(Pick::new(Vec::from_slice(alloc, &[0, 1, 2])?))?;
     Ok(Scan {
         vids: Vids::new(Vec::from_slice(alloc, &[1, 2])?),
-        records: Records::new(three(alloc)?),
+        records: three(alloc, schema)?,
         picks: Picks::new(picks),
     })
 }
@@ -220,7 +209,7 @@ fn row_said(alloc: Global, cells: &[Cell]) -> Result<String, Fail> {
     let mut said = String::new(alloc);
     for cell in cells {
         let text = match cell {
-            Cell::Value(value) => shown(alloc, Seen::Value(value))?,
+            Cell::Value(value) => shown(alloc, Seen::of(value))?,
             Cell::Sum(sum) => shown(alloc, Seen::Sum(*sum))?,
             Cell::Nothing => shown(alloc, Seen::Nothing)?,
         };
@@ -230,25 +219,60 @@ fn row_said(alloc: Global, cells: &[Cell]) -> Result<String, Fail> {
     Ok(said)
 }
 
-#[test]
-fn rows_of_a_scan(rt: HostRuntime) -> Result<(), Fail> {
-    let alloc = rt.alloc();
-    let schema = people_with_flags(alloc)?;
-    let scan = scan(alloc)?;
-    let table = Table {
-        schema: &schema,
-        records: scan.records.as_slice(),
-    };
-    let all = spots_of(alloc, &scan)?;
-    assert!(rt; all.as_slice() == spots(alloc)?.as_slice());
-    let query = query(alloc, "SELECT * FROM CVD people WHERE score IS NOT NULL")?;
+// The spots that a WHERE takes, each as its version and the position of its row, and the last one's row.
+fn kept_said(alloc: Global, schema: &Schema, scan: &Scan, text: &str) -> Result<String, Fail>
+    requires { length scan.now.vids ≡ length scan.now.picks }
+{
+    let query = query(alloc, text)?;
     if !is_guard_free(&query.filter) {
         return Err("a lineage")?;
     }
-    let kept = table.kept(alloc, all.as_slice(), &query.filter)?;
-    assert_eq!(rt; kept.len(), 3);
-    let last = kept.get(2..3).unwrap_or(&[]);
-    let row = table.shown(alloc, last, &query.items)?;
-    assert_eq!(rt; row_said(alloc, row.as_slice())?.as_str(), "3 cy 30 null ");
+    let filter = find_guard(alloc, schema, &query.filter)?;
+    let items = FoundItems::of(alloc, schema, &query.items)?;
+    let table = Table {
+        records: &scan.records,
+    };
+    let kept = table.kept(alloc, scan.vids.as_slice(), scan.picks.as_slice(), &filter)?;
+    let mut said = String::new(alloc);
+    for spot in &kept {
+        let text = format!(in alloc; "{}:{} ", spot.vid, spot.place)?;
+        said.push_str(text.as_str())?;
+    }
+    if !kept.is_empty() {
+        let last = kept.get(kept.len() - 1..).unwrap_or(&[]);
+        let row = table.shown(alloc, last, &items)?;
+        said.push_str(row_said(alloc, row.as_slice())?.as_str())?;
+    }
+    Ok(said)
+}
+
+const KEPT: &[(&str, &str)] = &[
+    (
+        "SELECT * FROM CVD people",
+        "1:0 1:1 2:0 2:1 2:2 3 cy 30 null ",
+    ),
+    (
+        "SELECT * FROM CVD people WHERE score IS NOT NULL",
+        "1:0 2:0 2:2 3 cy 30 null ",
+    ),
+    (
+        "SELECT name, vid FROM CVD people WHERE NOT (id = 1 OR vid = 2)",
+        "1:1 bob 1 ",
+    ),
+    (
+        "SELECT ok FROM CVD people WHERE vid = 2 AND ok = FALSE",
+        "2:1 false ",
+    ),
+    ("SELECT * FROM CVD people WHERE score = 7", ""),
+];
+
+#[test]
+fn rows_of_a_scan(rt: HostRuntime) -> Result<(), Fail> {
+    let schema = people_with_flags(rt.alloc())?;
+    let scan = scan(rt.alloc(), &schema)?;
+    for (text, want) in KEPT {
+        let got = kept_said(rt.alloc(), &schema, &scan, text)?;
+        assert_eq!(rt; got.as_str(), *want);
+    }
     Ok(())
 }
