@@ -154,7 +154,10 @@ built_are = (
           cvd_is (codes "log") asks.Log (λ cvd. tt),
           (
             cvd_is (codes "drop") asks.DropCvd (λ cvd. tt),
-            (alone_is (codes "ls") asks.Ls tt, tt),
+            (
+              alone_is (codes "ls") asks.Ls tt,
+              (generate_is, tt),
+            ),
           ),
         ),
       ),

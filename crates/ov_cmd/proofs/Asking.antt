@@ -1,5 +1,5 @@
 -- Each command that a line asks for, by the forms that the program has.
-use Rattle.std.proofs.Common.{◌≡◌, ◌≤◌, ℕ, Bool, true, false, ◌||◌, ◌==◌, List, [], ◌∷◌, ◌++◌, length, drop, refl, sym, ap, subst, arith}
+use Rattle.std.proofs.Common.{◌≡◌, ◌≤◌, ◌^◌, ℕ, Bool, true, false, ◌||◌, ◌==◌, List, [], ◌∷◌, ◌++◌, length, drop, refl, sym, ap, subst, arith}
 use Rattle.std.specs.Prelude.{◌≢◌, ◌&&◌, not, if◌then◌else◌, nat_lt, codes, Option, Some, None, Result, Ok, Err, IfOk}
 use Rattle.std.specs.List.{position_or_len}
 use Rattle.std.specs.Option.{option_map}
@@ -9,11 +9,13 @@ use Rattle.std.proofs.lemmas.List.{length-drop}
 use Rattle.ov_value.specs.Making.{schema_of}
 use Rattle.ov_value.specs.Naming.{is_name}
 use Rattle.ov_value.specs.Shapes.{Shape}
-use Rattle.ov_model.specs.Forms.{Values, Form, text_in, vids_in, columns_in, names_in, word_of, choice, or_schema_refusal, init_with, make_init, make_checkout, some_columns, commit_with, make_commit, alone, of_cvd, init_form, checkout_form, commit_form, run_form, may_have, built_forms}
+use Rattle.ov_model.specs.Forms.{Values, Form, text_in, vids_in, columns_in, names_in, before_in, own_in, generate_form, word_of, choice, or_schema_refusal, init_with, make_init, make_checkout, some_columns, commit_with, make_commit, alone, of_cvd, init_form, checkout_form, commit_form, run_form, may_have, built_forms}
 use Rattle.ov_model.specs.Line.{Line, Comment, Asks, Refused, Read, missing, unless_missing, made_by, answer, by_words, first_of, has_second, form_of, off_all, by_form, by_name, read_words, line_of}
 use Rattle.ov_model.specs.Words.{Next, NoWord, Word, Unclosed, next_word, words_of, without_blanks, is_blank, is_comment, is_no_blank, plain, quoted, word_at}
 use Rattle.ov_model.specs.declared.command.Command.{Command}
 use Rattle.ov_model.specs.declared.command.Command.TheVariants as asks
+use Rattle.ov_model.specs.Values.{number_from}
+use Rattle.ov_model.specs.declared.given.Given.{Given}
 use Rattle.ov_model.specs.declared.given.Given.TheVariants.{Text}
 use Rattle.ov_model.specs.declared.given.Reading.TheVariants.{FileName}
 use Rattle.ov_model.specs.declared.refusal.Refusal.{Refusal}
@@ -21,7 +23,7 @@ use Rattle.ov_model.specs.declared.refusal.Refusal.TheVariants as no
 use Rattle.ov_cmd.specs.Asked.{IsAsked, AsksBuilt}
 use Rattle.ov_cmd.specs.Said.{said}
 use Rattle.ov_cmd.specs.declared.line_err.LineErr.{LineErr}
-use Rattle.ov_cmd.proofs.FormValues.{AreGood, AllRead, words_good, no_table, no_added, versions_there, message_short}
+use Rattle.ov_cmd.proofs.FormValues.{AreBoth, AreGood, AllRead, WordsRead, four_read, words_good, words_read, no_table, no_added, versions_there, message_short}
 
 -- what is made is a command with what is known of it, or a refusal
 abbrev IsMade : Result Command Refusal → Type 0
@@ -40,7 +42,7 @@ whole_values text = record { words = Text text ∷ []; options = [] }
 -- a form whose commands are such
 record IsForm (f : Form) : Type 0 where
   reads : AllRead f.choices
-  makes : f.whole ≡ false → (v : Values) → missing f.choices v.options ≡ None → AreGood v.options → IsMade (f.make v)
+  makes : f.whole ≡ false → (v : Values) → missing f.choices v.options ≡ None → AreGood v.options → WordsRead f.params [] v.words → IsMade (f.make v)
   whole : f.whole ≡ true → (text : List ℕ) → length text ≤ 65536 → IsMade (f.make (whole_values text))
 
 abbrev AreForms : List Form → Type 0
@@ -80,7 +82,7 @@ init_is = record {
       (record { versions = λ e. off e; message = λ e. off e; written = refl; no_table = refl; no_added = refl }, tt),
     ),
   );
-  makes = λ plain v none good. init_made v;
+  makes = λ plain v none good words. init_made v;
   whole = λ e. off e;
 }
 
@@ -90,7 +92,7 @@ checkout_is = record {
     record { versions = λ e. refl; message = λ e. off e; written = refl; no_table = refl; no_added = refl },
     (record { versions = λ e. off e; message = λ e. off e; written = refl; no_table = refl; no_added = refl }, tt),
   );
-  makes = λ plain v none good. checkout_made v (versions_there v.options _ good none) (no_table v.options good);
+  makes = λ plain v none good words. checkout_made v (versions_there v.options _ good none) (no_table v.options good);
   whole = λ e. off e;
 }
 
@@ -103,7 +105,7 @@ commit_is = record {
       (record { versions = λ e. off e; message = λ e. refl; written = refl; no_table = refl; no_added = refl }, tt),
     ),
   );
-  makes = λ plain v none good.
+  makes = λ plain v none good words.
       commit_made v (versions_there v.options _ good none) (message_short v.options good) (no_added v.options good);
   whole = λ e. off e;
 }
@@ -112,10 +114,24 @@ run_is : IsForm run_form
 run_is = record { reads = tt; makes = λ plain. on plain; whole = λ e text short. short }
 
 cvd_is : (name : List ℕ) (ask : List ℕ → Command) → ((cvd : List ℕ) → IsAsked (ask cvd)) → IsForm (of_cvd name ask)
-cvd_is name ask is = record { reads = tt; makes = λ plain v none good. is (text_in (word_of v 0)); whole = λ e. off e }
+cvd_is name ask is = record { reads = tt; makes = λ plain v none good words. is (text_in (word_of v 0)); whole = λ e. off e }
 
 alone_is : (name : List ℕ) (ask : Command) → IsAsked ask → IsForm (alone name ask)
-alone_is name ask is = record { reads = tt; makes = λ plain v none good. is; whole = λ e. off e }
+alone_is name ask is = record { reads = tt; makes = λ plain v none good words. is; whole = λ e. off e }
+
+generate_if : (t : Bool) (cvd : List ℕ) (seed : ℕ) (given : Option Given) (refusal : Refusal) → is_name cvd ≡ t → AreBoth 65535 1000000 given
+    → IsMade (if t then Ok (asks.Generate cvd seed (before_in given) (own_in given)) else Err refusal)
+generate_if true cvd seed given refusal named both = (named, both.0, both.1, both.2, both.3)
+generate_if false cvd seed given refusal named both = tt
+
+generate_is : IsForm generate_form
+generate_is = record {
+  reads = tt;
+  makes = λ plain v none good words.
+      generate_if (is_name (text_in (word_of v 0))) (text_in (word_of v 0)) (number_from (word_of v 1)) (word_of v 3) (no.BadName (text_in (word_of v 0))) refl
+      (four_read 1 (10 ^ 18) 65535 1000000 _ _ _ _ v.words (omega arith) refl refl words);
+  whole = λ e. off e;
+}
 
 built_are : AreForms built_forms
 built_are = (
@@ -130,7 +146,10 @@ built_are = (
           cvd_is (codes "log") asks.Log (λ cvd. tt),
           (
             cvd_is (codes "drop") asks.DropCvd (λ cvd. tt),
-            (alone_is (codes "ls") asks.Ls tt, tt),
+            (
+              alone_is (codes "ls") asks.Ls tt,
+              (generate_is, tt),
+            ),
           ),
         ),
       ),
@@ -197,15 +216,16 @@ unless_made : (letter : Option (List ℕ)) (r : Result Command Refusal) → (let
 unless_made None r is = is refl
 unless_made (Some letter) r is = tt
 
-by_made : (f : Form) (r : Read) → f.whole ≡ false → IsForm f → ((v : Values) → r ≡ Ok v → AreGood v.options) → IsMade (made_by f r)
-by_made f (Ok v) plain is good = unless_made (missing f.choices v.options) (f.make v) (λ none. is.makes plain v none (good v refl))
-by_made f (Err refusal) plain is good = tt
+by_made : (f : Form) (r : Read) → f.whole ≡ false → IsForm f → ((v : Values) → r ≡ Ok v → AreGood v.options) → ((v : Values) → r ≡ Ok v → WordsRead f.params [] v.words) → IsMade (made_by f r)
+by_made f (Ok v) plain is good words = unless_made (missing f.choices v.options) (f.make v) (λ none. is.makes plain v none (good v refl) (words v refl))
+by_made f (Err refusal) plain is good words = tt
 
 words_well : (f : Form) (words : Option (List (List ℕ))) → f.whole ≡ false → IsForm f → AsksWell (by_words f words)
 words_well f None plain is = tt
 words_well f (Some words) plain is =
     answer_well (made_by f (read_words f.choices f.params [] 2 words))
-    (by_made f (read_words f.choices f.params [] 2 words) plain is (λ v e. words_good f.choices is.reads f.params [] 2 words v e))
+    (by_made f (read_words f.choices f.params [] 2 words) plain is (λ v e. words_good f.choices is.reads f.params [] 2 words v e)
+    (λ v e. words_read f.choices f.params [] 2 words v e))
 
 off_well : (words : Option (List (List ℕ))) → AsksWell (off_all words)
 off_well None = tt

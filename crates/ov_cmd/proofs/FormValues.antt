@@ -1,17 +1,17 @@
--- The values that a form's options give.
+-- The values that a form's options and words give.
 use Rattle.std.proofs.Common.{◌≡◌, ℕ, ◌+◌, ◌≤◌, ◌==◌, Bool, true, false, List, [], ◌∷◌, ◌++◌, length, refl, sym, ◌∙◌, ap, subst, arith}
-use Rattle.std.specs.Prelude.{◌≢◌, ◌||◌, not, if◌then◌else◌, nat_le, codes, is_some, Option, Some, None, Result, Ok, Err}
+use Rattle.std.specs.Prelude.{◌≢◌, ◌&&◌, ◌||◌, not, if◌then◌else◌, nat_le, codes, is_some, slice_get, Option, Some, None, Result, Ok, Err}
 use Rattle.std.specs.List.{slice_split}
 use Rattle.std.specs.Option.{option_map, option_and_then}
 use Rattle.std.specs.Str.{bytes_eq}
 use Rattle.std.proofs.lemmas.Bool.{leb-true}
 use Rattle.std.proofs.lemmas.List.Splits.{length-slice_split}
-use Rattle.ov_model.specs.Forms.{Param, Choice, Values, option_in, vids_in, text_in}
+use Rattle.ov_model.specs.Forms.{Param, Choice, Values, before_in, option_in, own_in, vids_in, text_in}
 use Rattle.ov_model.specs.Line.{has, choice_named, may_follow, and_then, accepted, option_at, with_option, one_option, read_options, read_words}
-use Rattle.ov_model.specs.Values.{number_of, all_some, vids_of, or_refused, when, read}
+use Rattle.ov_model.specs.Values.{number_of, number_in, number_from, number_with, last_number, all_some, vids_of, or_refused, when, read}
 use Rattle.ov_model.specs.declared.given.Given.{Given}
-use Rattle.ov_model.specs.declared.given.Given.TheVariants.{Text, Vids}
-use Rattle.ov_model.specs.declared.given.Reading.TheVariants.{ListOfVids, Message}
+use Rattle.ov_model.specs.declared.given.Given.TheVariants.{Both, Number, Text, Vids}
+use Rattle.ov_model.specs.declared.given.Reading.TheVariants.{ListOfVids, Message, NumberFrom, NumberWith}
 use Rattle.ov_model.specs.declared.refusal.Refusal.{Refusal}
 use Rattle.ov_model.specs.declared.refusal.Refusal.TheVariants as no
 
@@ -189,3 +189,85 @@ message_if false o rest here later = later
 pub message_short : (os : List (List ℕ × Given)) → AreGood os → length (text_in (option_in os (codes "-m"))) ≤ 1024
 message_short [] good = omega arith
 message_short (o ∷ os) good = message_if (bytes_eq o.0 (codes "-m")) o (option_in os (codes "-m")) good.0.message (message_short os good.1)
+
+-- ---- the words in order
+
+-- what a word gives, behind the values of those before it
+pub record WordRead (p : Param) (before : List Given) (given : Given) : Type 0 where
+  pub nth : ℕ
+  pub word : List ℕ
+  pub reads : read p.reads nth before word ≡ Ok given
+
+abbrev pub WordsRead : List Param → List Given → List Given → Type 0
+WordsRead [] before words = words ≡ before
+WordsRead (p ∷ ps) before words = (given : Given) × WordRead p before given × WordsRead ps (before ++ given ∷ []) words
+
+options_words : (choices : List Choice) (before : List Given) (options : List (List ℕ × Given)) (nth : ℕ) (words : List (List ℕ)) (v : Values) → read_options choices before options nth words ≡ Ok v
+    → v.words ≡ before
+options_words choices before options nth [] v e = sym (ap (λ x. x.words) (same_ok (record { words = before; options = options }) v e))
+options_words choices before options nth (letter ∷ []) v e =
+    let found = and_ok (λ c. Err (no.Missing c.letter)) (option_at choices options nth letter) v e
+    in absurd (err_ok (no.Missing found.0.letter) v found.2)
+options_words choices before options nth (letter ∷ value ∷ words) v e =
+    let found = and_ok (λ more. read_options choices before more (nth + 2) words) (one_option choices before options nth letter value) v e
+    in options_words choices before found.0 (nth + 2) words v found.2
+
+pub words_read : (choices : List Choice) (params : List Param) (before : List Given) (nth : ℕ) (words : List (List ℕ)) (v : Values) → read_words choices params before nth words ≡ Ok v
+    → WordsRead params before v.words
+words_read choices [] before nth words v e = options_words choices before [] nth words v e
+words_read choices (p ∷ ps) before nth [] v e = absurd (err_ok (no.Missing p.what) v e)
+words_read choices (p ∷ ps) before nth (word ∷ words) v e =
+    let found = and_ok (λ given. read_words choices ps (before ++ given ∷ []) (nth + 1) words) (read p.reads nth before word) v e
+    in (found.0, record { nth = nth; word = word; reads = found.1 }, words_read choices ps (before ++ found.0 ∷ []) (nth + 1) words v found.2)
+
+-- ---- numbers
+
+or_ok : {X : Type 0} (refusal : Refusal) (give : X → Given) (o : Option X) (given : Given) → or_refused refusal give o ≡ Ok given → (x : X) × (o ≡ Some x) × (give x ≡ given)
+or_ok refusal give None given e = absurd (err_ok refusal given e)
+or_ok refusal give (Some x) given e = (x, refl, same_ok (give x) given e)
+
+number_if : (least most n m : ℕ) (a b : Bool) → nat_le least n ≡ a → nat_le n most ≡ b → (if a && b then Some n else None) ≡ Some m → (least ≤ m) × (m ≤ most)
+number_if least most n m true true low high e =
+    let same : n ≡ m = some_same n m e in (subst (λ k. least ≤ k) same (leb-true least n low), subst (λ k. k ≤ most) same (leb-true n most high))
+number_if least most n m true false low high e = absurd (none_some m e)
+number_if least most n m false b low high e = absurd (none_some m e)
+
+number_in_ok : (least most : ℕ) (o : Option ℕ) (m : ℕ) → number_in least most o ≡ Some m → (least ≤ m) × (m ≤ most)
+number_in_ok least most None m e = absurd (none_some m e)
+number_in_ok least most (Some n) m e = number_if least most n m (nat_le least n) (nat_le n most) refl refl e
+
+together_if : (before most k n : ℕ) (t : Bool) → nat_le (before + k) most ≡ t → (if t then Some k else None) ≡ Some n → (k ≡ n) × (before + n ≤ most)
+together_if before most k n true le e = let same : k ≡ n = some_same k n e in (same, subst (λ x. before + x ≤ most) same (leb-true (before + k) most le))
+together_if before most k n false le e = absurd (none_some n e)
+
+number_with_ok : (before each most : ℕ) (o : Option ℕ) (n : ℕ) → number_with before each most o ≡ Some n → (1 ≤ n) × (n ≤ each) × (before + n ≤ most)
+number_with_ok before each most o n e = by (number_in 1 each o) refl e
+  where
+    by : (r : Option ℕ) → number_in 1 each o ≡ r → option_and_then (λ k. if nat_le (before + k) most then Some k else None) r ≡ Some n → (1 ≤ n) × (n ≤ each) × (before + n ≤ most)
+    by None is f = absurd (none_some n f)
+    by (Some k) is f =
+        let within = together_if before most k n (nat_le (before + k) most) refl f
+        in let own = number_in_ok 1 each o k is
+        in (subst (λ x. 1 ≤ x) within.0 own.0, subst (λ x. x ≤ each) within.0 own.1, within.1)
+
+-- the number of a word of at least 1, and that of the word behind it
+abbrev pub AreBoth : ℕ → ℕ → Option Given → Type 0
+AreBoth each most given = (1 ≤ before_in given) × (1 ≤ own_in given) × (own_in given ≤ each) × (before_in given + own_in given ≤ most)
+
+both_read : (least most each most_both : ℕ) (a b c d : Given) (first : Param) (second : Param) → 1 ≤ least → first.reads ≡ NumberFrom least most → second.reads ≡ NumberWith each most_both
+    → WordRead first (a ∷ b ∷ []) c → WordRead second (a ∷ b ∷ c ∷ []) d → AreBoth each most_both (Some d)
+both_read least most each most_both a b c d first second some from with_ one two =
+    let own = or_ok no.BadNumber Number (number_in least most (number_of one.word)) c (sym (ap (λ r. read r one.nth (a ∷ b ∷ []) one.word) from) ∙ one.reads)
+    in let both = or_ok no.BadNumber (λ n. Both (last_number (a ∷ b ∷ c ∷ [])) n) (number_with (last_number (a ∷ b ∷ c ∷ [])) each most_both (number_of two.word)) d
+    (sym (ap (λ r. read r two.nth (a ∷ b ∷ c ∷ []) two.word) with_) ∙ two.reads)
+    in let last : last_number (a ∷ b ∷ c ∷ []) ≡ own.0 = ap (λ g. number_from (Some g)) (sym own.2)
+    in let low = number_in_ok least most (number_of one.word) own.0 own.1
+    in let bounds = number_with_ok (last_number (a ∷ b ∷ c ∷ [])) each most_both (number_of two.word) both.0 both.1
+    in subst (λ g. AreBoth each most_both (Some g)) both.2 (omega (arith, last, low.0, some), bounds.0, bounds.1, bounds.2)
+
+-- of a form of four words, the third and the fourth of which are such
+pub four_read : (least most each most_both : ℕ) (p q first second : Param) (words : List Given) → 1 ≤ least → first.reads ≡ NumberFrom least most → second.reads ≡ NumberWith each most_both
+    → WordsRead (p ∷ q ∷ first ∷ second ∷ []) [] words → AreBoth each most_both (slice_get words 3)
+four_read least most each most_both p q first second words some from with_ r =
+    subst (λ w. AreBoth each most_both (slice_get w 3)) (sym r.2.2.2.2)
+    (both_read least most each most_both r.0 r.2.0 r.2.2.0 r.2.2.2.0 first second some from with_ r.2.2.1 r.2.2.2.1)

@@ -184,7 +184,8 @@ pub fn read_line(alloc: Global, line: &[u8]) -> Result<Option<Command>, LineErr>
 }
 
 /// The same, of the commands that the program has so far. A command has what its form reads: a name to begin under, at least
-/// one version, a message of up to 1,024 bytes, a query's text of up to 65,536, no staged table and no added column.
+/// one version, a message of up to 1,024 bytes, a query's text of up to 65,536, no staged table and no added column, and of a
+/// `generate` numbers within their bounds.
 pub fn read_built_line(alloc: Global, line: &[u8]) -> Result<Option<Command>, LineErr>
     ensures ok { IfOk result (λ c. line_of built_forms line.now ≡ said c) }
     ensures asked { IfOk result AsksBuilt }

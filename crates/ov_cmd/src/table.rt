@@ -25,6 +25,27 @@ const A_NUMBER: Reading = Reading::NumberFrom {
     most: NO_BOUND,
 };
 
+const SEED: Param = Param {
+    what: "seed",
+    reads: A_NUMBER,
+};
+
+const ROWS: Param = Param {
+    what: "rows",
+    reads: Reading::NumberFrom {
+        least: 1,
+        most: NO_BOUND,
+    },
+};
+
+const VERSIONS: Param = Param {
+    what: "versions",
+    reads: Reading::NumberWith {
+        each: 65_535,
+        most: 1_000_000,
+    },
+};
+
 const VIDS: Choice = Choice {
     letter: "-v",
     reads: Reading::ListOfVids,
@@ -252,27 +273,7 @@ static ALL: [Form; 19] = [
         name: "generate",
         second: None,
         whole: false,
-        params: &[
-            CVD,
-            Param {
-                what: "seed",
-                reads: A_NUMBER,
-            },
-            Param {
-                what: "rows",
-                reads: Reading::NumberFrom {
-                    least: 1,
-                    most: NO_BOUND,
-                },
-            },
-            Param {
-                what: "versions",
-                reads: Reading::NumberWith {
-                    each: 65_535,
-                    most: 1_000_000,
-                },
-            },
-        ],
+        params: &[CVD, SEED, ROWS, VERSIONS],
         choices: &[],
         maker: Maker::Generate,
     },
@@ -306,7 +307,7 @@ static ALL: [Form; 19] = [
 ];
 
 /// The commands that the program has so far.
-static BUILT: [Form; 7] = [
+static BUILT: [Form; 8] = [
     Form {
         name: "init",
         second: None,
@@ -362,6 +363,14 @@ static BUILT: [Form; 7] = [
         params: &[],
         choices: &[],
         maker: Maker::Ls,
+    },
+    Form {
+        name: "generate",
+        second: None,
+        whole: false,
+        params: &[CVD, SEED, ROWS, VERSIONS],
+        choices: &[],
+        maker: Maker::Generate,
     },
 ];
 

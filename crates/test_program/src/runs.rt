@@ -1,7 +1,7 @@
 //! Scripts with their files, and what they print.
 use crate::ends::{files, run_words};
 use crate::scripts::{
-    AGAIN, DROP, INIT, KEYS, Line, NOBODY, OFF_LINES, PEOPLE, QUERIES, READ_AND_WRITTEN,
+    AGAIN, DROP, GENERATED, INIT, KEYS, Line, NOBODY, OFF_LINES, PEOPLE, QUERIES, READ_AND_WRITTEN,
     THERE_AND_BACK,
 };
 use crate::{Trial, run_fresh};
@@ -35,7 +35,7 @@ fn prints(alloc: Global, lines: &[Line], status: Status) -> Result<bool, AllocEr
     Ok(t.status == status && t.host.printed() == printed.as_slice())
 }
 
-const SCRIPTS: [(&[Line], Status); 9] = [
+const SCRIPTS: [(&[Line], Status); 10] = [
     (&[], Status::Done),
     (&[INIT], Status::Done),
     (&PEOPLE, Status::Refused),
@@ -45,6 +45,7 @@ const SCRIPTS: [(&[Line], Status); 9] = [
     (&THERE_AND_BACK, Status::Done),
     (&KEYS, Status::Refused),
     (&QUERIES, Status::Refused),
+    (&GENERATED, Status::Refused),
 ];
 
 #[test]

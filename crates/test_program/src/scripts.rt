@@ -319,3 +319,40 @@ pub const QUERIES: [Line; 14] = [
     ),
     INIT,
 ];
+
+/// The least dataset that is generated, one of four versions from a seed, and numbers and names that aren't taken.
+pub const GENERATED: [Line; 15] = [
+    (
+        "generate tiny 0 1 1\n",
+        "tiny: 1 versions, 1 records, 1 members\n",
+    ),
+    ("generate tiny 0 1 1\n", "error 11: tiny exists\n"),
+    ("generate x 0 0 1\n", "error 54: bad number\n"),
+    ("generate x 0 1 0\n", "error 54: bad number\n"),
+    ("generate x 0 1 65536\n", "error 54: bad number\n"),
+    ("generate x 0 999999 2\n", "error 54: bad number\n"),
+    ("generate x 0 1\n", "error 52: missing versions\n"),
+    ("generate x 0 1 1 1\n", "error 53: unexpected word 6\n"),
+    ("generate 9x 0 1 1\n", "error 63: bad name 9x\n"),
+    ("generate orpheus_x 0 1 1\n", "error 71: denied by rule 4\n"),
+    (
+        "generate g 7 3 4\n",
+        "g: 4 versions, 9 records, 16 members\n",
+    ),
+    (
+        "log g\n",
+        "version 1: 3 rows, 3 new, parents none, init\nversion 2: 4 rows, 2 new, parents 1, gen\nversion 3: 4 rows, 2 new, parents 1, gen\nversion 4: 5 rows, 2 new, parents 3, gen\n",
+    ),
+    (
+        "checkout g -v 4\n",
+        "id,a,b\n1,962,t31\n2,793,t73\n3,545,t19\n6,405,t99\n7,654,t98\n",
+    ),
+    (
+        "run SELECT COUNT(*), MAX(id) FROM VERSION 2 OF CVD g\n",
+        "4,5\n(1 rows)\n",
+    ),
+    (
+        "ls\n",
+        "tiny: 1 versions, 1 records\ng: 4 versions, 9 records\n(2 datasets)\n",
+    ),
+];
