@@ -1,11 +1,7 @@
-//! The tests of `generate`: what is made, and what is there after a stop, a fault or want of room within it.
+//! The tests of `generate`: what is made, and what is there after a stop, a fault or a full journal within it.
 #![tactic(auto)]
 
-#[cfg(test)]
-mod far;
 #[cfg(test)]
 mod generating;
 #[cfg(test)]
 mod opened;
-#[cfg(test)]
-mod room;
