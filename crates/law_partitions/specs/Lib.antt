@@ -5,3 +5,4 @@ pub mod Pieces
 pub mod PlanBounds
 pub mod PlanEnds
 pub mod Sound
+pub mod Sources

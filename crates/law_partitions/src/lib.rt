@@ -9,6 +9,7 @@ mod courses;
 mod pieces;
 mod plans;
 mod sound;
+mod sources;
 
 pub use countdown::{
     a_running_plan_has_steps_left, each_step_is_one_step_less, numbers_of_datasets_are_given_once,
@@ -28,3 +29,4 @@ pub use sound::{
     commands_do_what_may_be_done, each_world_of_a_run_is_sound, steps_end_all_plans,
     worlds_stay_sound,
 };
+pub use sources::sources_go_with_their_flips;

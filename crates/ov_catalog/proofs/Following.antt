@@ -2,14 +2,13 @@
 -- all events and moves.
 use Rattle.std.proofs.Common.{◌≡◌, ℕ, Bool, true, false, List, [], ◌∷◌, refl, sym, subst, ◌∙◌}
 use Rattle.std.specs.Prelude.{None, Some}
-use Rattle.ov_catalog.specs.declared.field.Field.TheVariants as off
 use Rattle.ov_event.specs.declared.event.Event as raw
 use Rattle.ov_event.specs.declared.event.Event.TheVariants as says
 use Rattle.ov_host.specs.declared.area.Extent.{Extent}
 use Rattle.ov_model.specs.Built.{is_built, IfBuilt}
 use Rattle.ov_model.specs.Moves.{Move, Init, Commit, BeginPlan, Copy, Flip, Drop, Checkpoint, moved}
 use Rattle.ov_model.specs.World.{World, empty_world_of}
-use Rattle.ov_catalog.specs.Applying.{AllApply, AllFollow, Stage, first_off, is_built_event, off_at, stage_after, start_of, taken_off}
+use Rattle.ov_catalog.specs.Applying.{AllApply, AllFollow, Stage, first_off, is_built_event, off_at, stage_after, start_of}
 use Rattle.ov_catalog.specs.Events.{applied}
 use Rattle.ov_catalog.specs.Numbers.{Numbers, nothing_yet}
 use Rattle.ov_catalog.specs.Raw.{event_in}
@@ -19,44 +18,25 @@ use Rattle.ov_catalog.specs.Stands.{Readings, StandsFor, StandsForAll}
 pub one_follows : (stage : Stage) (e : raw.Event) (n : Numbers Extent Extent) → first_off e n ≡ None → off_at stage e n ≡ None
 one_follows stage (says.Init name schema rows list segment) n applies = applies
 one_follows stage (says.Commit cvd vid message parents rows fresh place added list segment) n applies = applies
-one_follows stage (says.Plan cvd p q targets) n applies = absurd cc
-one_follows stage (says.Copy cvd count segment) n applies = absurd cc
-one_follows stage (says.Flip cvd) n applies = absurd cc
+one_follows stage (says.Plan cvd p q targets) n applies = applies
+one_follows stage (says.Copy cvd count segment) n applies = applies
+one_follows stage (says.Flip cvd) n applies = applies
 one_follows stage (says.Drop cvd) n applies = applies
 one_follows stage (says.Base next) n applies = absurd cc
 one_follows stage (says.Whole said) n applies = absurd cc
 one_follows stage (says.Wide cvd vid message columns parents rows fresh place added list segment) n applies = absurd cc
 
--- a catalog takes what is built
-pub first_taken : {L S : Type 0} (e : raw.Event) (n : Numbers L S) → is_built_event e ≡ true → first_off e n ≡ taken_off e n
-first_taken (says.Init name schema rows list segment) n built = refl
-first_taken (says.Commit cvd vid message parents rows fresh place added list segment) n built = refl
-first_taken (says.Plan cvd p q targets) n built = absurd cc
-first_taken (says.Copy cvd count segment) n built = absurd cc
-first_taken (says.Flip cvd) n built = absurd cc
-first_taken (says.Drop cvd) n built = refl
-first_taken (says.Base next) n built = absurd cc
-first_taken (says.Whole said) n built = absurd cc
-first_taken (says.Wide cvd vid message columns parents rows fresh place added list segment) n built = absurd cc
-
--- and what isn't built is refused
-pub first_unbuilt : {L S : Type 0} (e : raw.Event) (n : Numbers L S) → is_built_event e ≡ false → first_off e n ≡ Some off.Number
-first_unbuilt e n out = rw out refl
-
 -- what applies is built
 pub applies_built : {L S : Type 0} (e : raw.Event) (n : Numbers L S) → first_off e n ≡ None → is_built_event e ≡ true
 applies_built (says.Init name schema rows list segment) n applies = refl
 applies_built (says.Commit cvd vid message parents rows fresh place added list segment) n applies = refl
-applies_built (says.Plan cvd p q targets) n applies = absurd cc
-applies_built (says.Copy cvd count segment) n applies = absurd cc
-applies_built (says.Flip cvd) n applies = absurd cc
+applies_built (says.Plan cvd p q targets) n applies = refl
+applies_built (says.Copy cvd count segment) n applies = refl
+applies_built (says.Flip cvd) n applies = refl
 applies_built (says.Drop cvd) n applies = refl
 applies_built (says.Base next) n applies = absurd cc
 applies_built (says.Whole said) n applies = absurd cc
 applies_built (says.Wide cvd vid message columns parents rows fresh place added list segment) n applies = absurd cc
-
-pub applies_taken : {L S : Type 0} (e : raw.Event) (n : Numbers L S) → first_off e n ≡ None → taken_off e n ≡ None
-applies_taken e n applies = sym (first_taken e n (applies_built e n applies)) ∙ applies
 
 pub all_follow : (events : List raw.Event) (stage : Stage) (n : Numbers Extent Extent) → AllApply events n → AllFollow stage events n
 all_follow [] stage n apply = tt
@@ -77,9 +57,9 @@ within_same : (m : Move) (w : World) → Fits m w → moved m w ≡ moved_within
 within_same (Init name schema rows) w fits = refl
 within_same (Commit cvd parents message [] rows) w fits = refl
 within_same (Commit cvd parents message (column ∷ added) rows) w fits = absurd fits
-within_same (BeginPlan cvd p q) w fits = absurd fits
-within_same (Copy cvd) w fits = absurd fits
-within_same (Flip cvd) w fits = absurd fits
+within_same (BeginPlan cvd p q) w fits = refl
+within_same (Copy cvd) w fits = refl
+within_same (Flip cvd) w fits = refl
 within_same (Drop cvd) w fits = refl
 within_same Checkpoint w fits = absurd fits
 

@@ -1,6 +1,5 @@
 -- When an event follows what the catalog has, and else the first part of it that doesn't.
 --     off_at stage e n      that part, where so much of the half came before; None where the event applies
---     taken_off e n      the same, of the events that a catalog takes so far
 --     first_off e n      the same, of the events that are built so far
 --     AllFollow stage events n      each event applies where those before it end
 --     AllApply events n      the same, of the events that are built so far
@@ -98,33 +97,15 @@ abbrev pub AllFollow : Stage → List raw.Event → Numbers Extent Extent → Ty
 AllFollow stage [] n = Unit {0}
 AllFollow stage (e ∷ es) n = (off_at stage e n ≡ None) × AllFollow (stage_after e stage) es (applied (event_in e) n)
 
--- ---- what a catalog takes so far
-
--- all but those of a snapshot and those that add columns
-abbrev pub is_taken : raw.Event → Bool
-is_taken (says.Init name schema rows list segment) = true
-is_taken (says.Commit cvd vid message parents rows fresh place added list segment) = true
-is_taken (says.Plan cvd p q targets) = true
-is_taken (says.Copy cvd count segment) = true
-is_taken (says.Flip cvd) = true
-is_taken (says.Drop cvd) = true
-is_taken (says.Base next) = false
-is_taken (says.Whole said) = false
-is_taken (says.Wide cvd vid message columns parents rows fresh place added list segment) = false
-
--- Whether such an event applies doesn't hang on the stage, so it is asked at any; the others are refused.
-abbrev pub taken_off : {L S : Type 0} → raw.Event → Numbers L S → Option Field
-taken_off e n = if is_taken e then off_at (record { format = 2; reach = Beyond }) e n else Some off.Number
-
 -- ---- what is built so far
 
--- those of the moves that are built
+-- those of the moves that are built: all but those of a snapshot and those that add columns
 abbrev pub is_built_event : raw.Event → Bool
 is_built_event (says.Init name schema rows list segment) = true
 is_built_event (says.Commit cvd vid message parents rows fresh place added list segment) = true
-is_built_event (says.Plan cvd p q targets) = false
-is_built_event (says.Copy cvd count segment) = false
-is_built_event (says.Flip cvd) = false
+is_built_event (says.Plan cvd p q targets) = true
+is_built_event (says.Copy cvd count segment) = true
+is_built_event (says.Flip cvd) = true
 is_built_event (says.Drop cvd) = true
 is_built_event (says.Base next) = false
 is_built_event (says.Whole said) = false

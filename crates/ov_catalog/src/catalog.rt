@@ -4,7 +4,7 @@ ghost use Rattle.std.specs.Prelude.{◌≡◌, ◌+◌, ◌-◌, ◌<◌, ◌≤
 ghost use Rattle.ov_layout.specs.Changes.{extents_of};
 ghost use Rattle.ov_value.specs.Shapes.{Shape};
 ghost use Rattle.ov_catalog.specs.Answers.{Answers};
-ghost use Rattle.ov_catalog.specs.Applying.{taken_off, init_off, is_named, of_live, set_numbered};
+ghost use Rattle.ov_catalog.specs.Applying.{first_off, init_off, is_named, of_live, set_numbered};
 ghost use Rattle.ov_catalog.specs.Arriving.{arrival_off};
 ghost use Rattle.ov_catalog.specs.Events.{Commit, Copy, Drop, Flip, Init, Plan, applied};
 ghost use Rattle.ov_catalog.specs.Extents.{given_up};
@@ -111,7 +111,7 @@ impl Catalog {
     /// Makes room for an event, so that applying it takes no memory: here, and behind `freed` for the extents that it
     /// gives up. `NotNext` with the first part of the event that is off. It changes nothing else.
     pub fn room_for(&mut self, event: &Event, freed: &mut Vec<Extent>) -> Result<(), ApplyErr>
-        ensures answer { Answers result (taken_off event.now self.old.numbers) }
+        ensures answer { Answers result (first_off event.now self.old.numbers) }
         ensures numbers { self.new.numbers ≡ self.old.numbers }
         ensures ready { OnOk result (HasRoom event.now self.new.ready) }
         ensures freed { freed.new.items ≡ freed.old.items }
@@ -253,7 +253,7 @@ impl Catalog {
     /// Applies an event that there is room for. Takes no memory: the extents that the event gives up are put behind
     /// `freed`. Uses the room up.
     pub fn apply_reserved(&mut self, event: Event, freed: &mut Vec<Extent>)
-        requires applies { taken_off event self.old.numbers ≡ None }
+        requires applies { first_off event self.old.numbers ≡ None }
         requires ready { HasRoom event self.old.ready }
         requires room { length freed.old.items + length (given_up (event_in event) self.old.numbers) ≤ vec_capacity freed.old }
         ensures applied { self.new.numbers ≡ applied (event_in event) self.old.numbers }
@@ -367,7 +367,7 @@ impl Catalog {
 
     /// Makes room for an event and applies it. The extents that it gives up are forgotten.
     pub fn apply(&mut self, event: Event) -> Result<(), ApplyErr>
-        ensures answer { Answers result (taken_off event self.old.numbers) }
+        ensures answer { Answers result (first_off event self.old.numbers) }
         ensures applied { OnOk result (self.new.numbers ≡ applied (event_in event) self.old.numbers) }
         ensures err { OnErr result (self.new.numbers ≡ self.old.numbers) }
     {

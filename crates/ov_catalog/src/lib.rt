@@ -2,7 +2,6 @@
 #![tactic(auto)]
 
 mod arrival;
-mod built;
 mod catalog;
 mod commit;
 mod copies;
@@ -26,7 +25,6 @@ mod targets;
 mod telling;
 mod worked;
 
-pub use built::is_built;
 pub use catalog::Catalog;
 pub use commit::next_place;
 pub use cvd::{Cvd, Plan, Target, Version};

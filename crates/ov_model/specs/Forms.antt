@@ -267,5 +267,5 @@ all_forms =
 
 abbrev pub built_forms : List Form
 built_forms =
-    init_form ∷ checkout_form (may_have (codes "-f") FileName ∷ []) ∷ commit_form [] ∷ run_form ∷ of_cvd (codes "log") asks.Log
-    ∷ of_cvd (codes "drop") asks.DropCvd ∷ alone (codes "ls") asks.Ls ∷ generate_form ∷ []
+    init_form ∷ checkout_form (may_have (codes "-f") FileName ∷ []) ∷ commit_form [] ∷ run_form ∷ of_cvd (codes "layout") asks.Layout
+    ∷ of_cvd (codes "log") asks.Log ∷ of_cvd (codes "drop") asks.DropCvd ∷ alone (codes "ls") asks.Ls ∷ generate_form ∷ []

@@ -1,15 +1,11 @@
 //! The payloads of a journal, one after another.
 
-ghost use Rattle.std.specs.Prelude.{◌≡◌, MatchResult, OnOk, OnErr};
-ghost use Rattle.ov_catalog.specs.Answers.{Answers};
-ghost use Rattle.ov_catalog.specs.Applying.{first_off};
-ghost use Rattle.ov_catalog.specs.Events.{applied};
-ghost use Rattle.ov_catalog.specs.Raw.{event_in};
+ghost use Rattle.std.specs.Prelude.{◌≡◌, MatchResult};
 ghost use Rattle.ov_core.specs.Held.{IsReplay};
 ghost use Rattle.ov_open.specs.Replaying.{IsTaken, IsLeft, RefusesPayloads};
 
-use ov_catalog::{ApplyErr, Catalog, Field, is_built};
-use ov_event::{Event, read_event};
+use ov_catalog::{ApplyErr, Catalog};
+use ov_event::read_event;
 use ov_journal::Payload;
 use std::alloc::{AllocError, Global};
 
@@ -59,24 +55,9 @@ fn take_in(
     let Some(event) = read_event(alloc, payload)? else {
         return Err(ReplayErr::Damaged { nth });
     };
-    match apply_built(catalog, event) {
+    match catalog.apply(event) {
         Ok(()) => Ok(()),
         Err(ApplyErr::Memory) => Err(ReplayErr::Memory),
         Err(ApplyErr::NotNext { .. }) => Err(ReplayErr::Damaged { nth }),
-    }
-}
-
-// The event is applied, if it is one of those that are built.
-fn apply_built(catalog: &mut Catalog, event: Event) -> Result<(), ApplyErr>
-    ensures answer { Answers result (first_off event catalog.old.numbers) }
-    ensures applied { OnOk result (catalog.new.numbers ≡ applied (event_in event) catalog.old.numbers) }
-    ensures err { OnErr result (catalog.new.numbers ≡ catalog.old.numbers) }
-{
-    if is_built(&event) {
-        catalog.apply(event)
-    } else {
-        Err(ApplyErr::NotNext {
-            field: Field::Number,
-        })
     }
 }

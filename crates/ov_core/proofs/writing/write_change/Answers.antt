@@ -5,11 +5,10 @@ use Rattle.ov_journal.specs.Held.{kept_by}
 use Rattle.ov_journal.specs.Journal.{and_one}
 use Rattle.ov_publish.specs.Steps.{IsStored, with_runs}
 use Rattle.ov_publish.proofs.Adding.{none_stops}
-use Rattle.ov_catalog.proofs.Following.{applies_taken}
 use Rattle.ov_core.proofs.writing.write_change.Goals as goal
 
 pub apply_reserved-requires-clause-applies : goal.apply_reserved-requires-clause-applies
-apply_reserved-requires-clause-applies g c = rw c.in_ok-framed.ensures.numbers (applies_taken c.args.event c.args.catalog.now.numbers c.requires.applies)
+apply_reserved-requires-clause-applies g c = rw c.in_ok-framed.ensures.numbers c.requires.applies
 
 pub returns-in_err-framed-clause-stops : goal.returns-in_err-framed-clause-stops
 returns-in_err-framed-clause-stops g c payloads live at free =
