@@ -36,7 +36,7 @@ drop_same : (cvd : ℕ) (n : Numbers Extent Extent) → IsReplayed n → first_o
 drop_same cvd n replayed applies w none =
     omega (
       arith,
-      live_total w (says.Drop cvd) n applies (served n replayed),
+      live_total w (says.Drop cvd) n tt applies (served n replayed),
       total-append w (given_up (event_in (says.Drop cvd)) n) (live (applied (event_in (says.Drop cvd)) n)),
     )
 
