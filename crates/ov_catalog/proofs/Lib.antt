@@ -18,6 +18,7 @@ pub mod Following
 pub mod WorkedLemmas
 pub mod Ascending
 pub mod WorkedChains
+pub mod FlipCounts
 pub mod FlipLemmas
 pub mod RunLemmas
 pub mod GraphLemmas
