@@ -405,7 +405,7 @@ module _ (d : Dataset) (plan : Plan) (placed : IsPlaced d) (old : IsOldOrNew d) 
   running : IsRunning plan
   running = subst Runs e old.runs
 
-  own_sourced : IsSourced d (current plan) (targets_from (suc plan.at) plan.targets)
+  pub own_sourced : IsSourced d (current plan) (targets_from (suc plan.at) plan.targets)
   own_sourced = (subst (AllSourced d) (from_at plan.at plan.targets running.waits) (subst (PlanIsSourced d) e is)).0
 
   own_serves : (current plan).kept ≢ [] → meets (current plan).versions (versions_of d.parts (current plan).source) ≡ true

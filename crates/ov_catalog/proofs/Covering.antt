@@ -29,6 +29,17 @@ abbrev pub IsApart : raw.Event → Numbers Extent Extent → Type 0
 IsApart (says.Flip cvd) n = FlipFits cvd n.sets
 IsApart _ n = Unit {0}
 
+pub apart_events : (e : raw.Event) (n : Numbers Extent Extent) → ((cvd : ℕ) → FlipFits cvd n.sets) → IsApart e n
+apart_events (says.Flip cvd) n fits = fits cvd
+apart_events (says.Init name schema rows list segment) n fits = tt
+apart_events (says.Commit cvd vid message parents rows fresh place added list segment) n fits = tt
+apart_events (says.Plan cvd p q targets) n fits = tt
+apart_events (says.Copy cvd count segment) n fits = tt
+apart_events (says.Drop cvd) n fits = tt
+apart_events (says.Base next) n fits = tt
+apart_events (says.Whole said) n fits = tt
+apart_events (says.Wide cvd vid message columns parents rows fresh place added list segment) n fits = tt
+
 module _ (page : ℕ) where
   over : List (PartNumbers Extent) → ℕ
   over parts = covers (flat_map (λ part. part.segments) parts) page

@@ -5,6 +5,7 @@ pub mod Good
 pub mod Migrating
 pub mod Moving
 pub mod Covering
+pub mod Emptying
 pub mod Standing
 pub mod Members
 pub mod Rising
