@@ -128,10 +128,10 @@ module _ (page : ℕ) where
   copy_covers count segments d = omega (arith, set_covers d, set_covers (copied_more count segments d), copied_covers count segments d.plan)
 
   -- pages are counted as extents by a weight
-  abbrev weighed : Extent → ℕ
+  abbrev pub weighed : Extent → ℕ
   weighed e = if has_page e page then 1 else 0
 
-  covers_total : (es : List Extent) → covers es page ≡ total weighed es
+  pub covers_total : (es : List Extent) → covers es page ≡ total weighed es
   covers_total [] = refl
   covers_total (e ∷ es) = ap (λ n. (if has_page e page then 1 else 0) + n) (covers_total es)
 

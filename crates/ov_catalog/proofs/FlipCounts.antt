@@ -11,7 +11,7 @@ use Rattle.ov_event.specs.declared.event.PlanTarget.{PlanTarget}
 use Rattle.law_partitions.specs.Pieces.{AreBelow}
 use Rattle.law_partitions.specs.Sources.{AscendFrom}
 use Rattle.ov_catalog.specs.Numbers.{PartNumbers, TargetNumbers, PlanNumbers, SetNumbers}
-use Rattle.ov_catalog.specs.Events.{planned, copied_for, copied_more, leaving, is_empty, left_parts, is_one, segments_at, one_at, chosen, current, target_part, next_target, flipped_by, flipped, numbered, change}
+use Rattle.ov_catalog.specs.Events.{planned, copied_for, copied_more, leaving, is_empty, left_parts, is_one, segments_at, one_at, chosen, current, target_part, flipped_by, flipped, numbered, change}
 use Rattle.ov_catalog.specs.Extents.{of_plan, of_set, others, parted_with, emptied, given_by}
 
 -- ---- what a flip asks

@@ -28,3 +28,5 @@ pub mod TargetLemmas
 pub mod SplitLemmas
 pub mod TurnLemmas
 pub mod SeenLemmas
+pub mod Serving
+pub mod Weighing
