@@ -22,6 +22,7 @@ use Rattle.law_partitions.specs.Sound.{IsSound, MayMove}
 use Rattle.law_partitions.specs.Sources.{PlanIsSourced, AreSourced}
 use Rattle.law_partitions.proofs.OldMoves.{moved_old}
 use Rattle.law_partitions.proofs.SoundMoves.{empty_sound, moved_sound}
+use Rattle.law_partitions.proofs.SourceMoves.{moved_sourced}
 use Rattle.ov_catalog.specs.Reached.{Fits, IfThere, IfRunning, CommitFits, PlanFits, MissesSome, MissesNone, Leads, Reached}
 use Rattle.ov_catalog.specs.Told.{IsRowed, AreRowed, IsTold, BringsTo, AllBringTo, BringsRows}
 use Rattle.ov_catalog.proofs.Ranking.{order_known}
@@ -280,9 +281,6 @@ fits_brings (Drop cvd) w fits is = tt
 fits_brings Checkpoint w fits is = absurd fits
 
 -- ---- moves
-
-moved_sourced : (m : Move) (w : World) → IsDue m w → IsSound w → AreOldOrNew w.sets → AreSourced w.sets → AreSourced (moved m w).sets
-moved_sourced m w due sound old sourced = ?sourced
 
 pub good_moved : (m : Move) (w : World) → Fits m w → IsGood w → IsGood (moved m w)
 good_moved m w fits is =

@@ -2,6 +2,7 @@ pub mod Filling
 pub mod Showing
 pub mod ToldMoves
 pub mod Good
+pub mod Migrating
 pub mod Moving
 pub mod Covering
 pub mod Standing
