@@ -4,5 +4,6 @@ pub mod Schemas
 pub mod Beginning
 pub mod Counts
 pub mod Seeing
+pub mod Lacks
 pub mod Committing
 pub mod Asking
