@@ -1,4 +1,4 @@
--- The event of a Commit applies where the move fits.
+-- The event of a Commit applies where the move fits; and so does that of any move.
 use Rattle.std.proofs.Common.{◌≡◌, ◌<◌, ◌≤◌, ◌+◌, ◌^◌, ◌==◌, ◌&&◌, ℕ, suc, Bool, true, false, not, List, [], ◌∷◌, ◌++◌, length, map, refl, sym, ◌∙◌, ap, subst, inl, inr, arith}
 use Rattle.std.specs.Prelude.{◌≢◌, Option, Some, None, nat_le, IsTrue, if◌then◌else◌}
 use Rattle.std.specs.List.{list_all}
@@ -20,7 +20,7 @@ use Rattle.ov_model.specs.Records.{Rec, recs, record_of, records_of, of_version,
 use Rattle.ov_model.specs.World.{Part, Dataset, World, first_set, held}
 use Rattle.ov_model.proofs.Growing.{recs_more, order_of_more}
 use Rattle.ov_model.proofs.Origins.{all_known, in_left, in_filter}
-use Rattle.law_partitions.specs.Pieces.{NoTwice, PartsArePieces, HasPieces, ArePieces}
+use Rattle.law_partitions.specs.Pieces.{NoTwice, PartsArePieces, HasPieces}
 use Rattle.law_partitions.proofs.PieceLists.{among_in, in_either, in_filtered}
 use Rattle.law_partitions.proofs.PieceTimes.{times-filter, once-lacking}
 use Rattle.law_partitions.proofs.PlanNodes.{filter_most}
@@ -39,7 +39,9 @@ use Rattle.ov_catalog.proofs.Showing.{PiecesAreIn}
 use Rattle.law_events.specs.Fitting.{IsSoundEvent}
 use Rattle.law_events.proofs.Beginning.{off_none, off_last, applies_there, live_shown, init_applies, drop_applies}
 use Rattle.law_events.proofs.Counts.{no_more, are_at, joined_at, last_are, order_low, ours_once, weight_own, weight_other, all_distinct}
+use Rattle.law_events.proofs.Planning.{plan_applies}
 use Rattle.law_events.proofs.Seeing.{versions_long, rows_shown, records_shown, place_shown}
+use Rattle.law_events.proofs.Stepping.{copy_applies, flip_applies}
 
 -- ---- parents
 
@@ -279,9 +281,9 @@ pub move_applies : (events : List raw.Event) (r : Readings) (w : World) (e : raw
 move_applies events r w e (Init name schema rows) stands fits sound spells = init_applies events r w e name schema rows stands fits sound spells
 move_applies events r w e (Commit cvd parents message [] rows) stands fits sound spells = commit_applies events r w e cvd parents message rows stands fits sound spells
 move_applies events r w e (Commit cvd parents message (column ∷ added) rows) stands fits sound spells = absurd fits
-move_applies events r w e (BeginPlan cvd p q) stands fits sound spells = absurd fits
-move_applies events r w e (Copy cvd) stands fits sound spells = absurd fits
-move_applies events r w e (Flip cvd) stands fits sound spells = absurd fits
+move_applies events r w e (BeginPlan cvd p q) stands fits sound spells = plan_applies events r w e cvd p q stands fits spells
+move_applies events r w e (Copy cvd) stands fits sound spells = copy_applies events r w e cvd stands fits sound spells
+move_applies events r w e (Flip cvd) stands fits sound spells = flip_applies events r w e cvd stands fits spells
 move_applies events r w e (Drop cvd) stands fits sound spells = drop_applies events r w e cvd stands fits spells
 move_applies events r w e Checkpoint stands fits sound spells = absurd fits
 

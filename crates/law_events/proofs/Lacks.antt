@@ -1,5 +1,5 @@
 -- How many records the targets of a plan have, keep and lack, in the World and in its numbers.
-use Rattle.std.proofs.Common.{◌≡◌, ◌≤◌, ◌<◌, ◌⊎◌, ℕ, suc, ◌+◌, ◌-◌, Bool, true, false, List, [], ◌∷◌, ◌++◌, length, map, filter, refl, sym, ◌∙◌, ap, subst, inl, inr, arith}
+use Rattle.std.proofs.Common.{◌≡◌, ◌⊎◌, ℕ, suc, ◌+◌, ◌-◌, true, List, [], ◌∷◌, ◌++◌, length, map, filter, refl, sym, ◌∙◌, ap, subst, inl, inr, arith}
 use Rattle.std.specs.Prelude.{Option, Some, None, nat_lt, not, slice_index_or}
 use Rattle.std.specs.List.{list_any}
 use Rattle.std.proofs.lemmas.Bool.{cases_Bool, ltb-true, ltb-false, or_left, or_right}
@@ -12,7 +12,7 @@ use Rattle.ov_model.specs.World.{Target, Plan, Dataset}
 use Rattle.ov_model.specs.World as world
 use Rattle.ov_model.proofs.Holds.{at_known}
 use Rattle.ov_model.proofs.Origins.{all_known, in_filter}
-use Rattle.law_partitions.specs.Pieces.{NoTwice, IsOfOne, AreOf, IsKept, AllKept, IsUnderWay, PlanIsUnderWay, HasPieces, HaveNoRowTwice}
+use Rattle.law_partitions.specs.Pieces.{NoTwice, IsOfOne, AreOf, IsKept, AllKept, IsUnderWay, PlanIsUnderWay, HaveNoRowTwice}
 use Rattle.law_partitions.proofs.CountRuns.{from_at, none_from}
 use Rattle.law_partitions.proofs.PieceLists.{among_in, in_either, in_filtered, is_of}
 use Rattle.law_partitions.proofs.PieceMore.{current_kept}

@@ -5,5 +5,8 @@ pub mod Beginning
 pub mod Counts
 pub mod Seeing
 pub mod Lacks
+pub mod Left
+pub mod Planning
+pub mod Stepping
 pub mod Committing
 pub mod Asking
