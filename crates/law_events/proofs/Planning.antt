@@ -14,6 +14,7 @@ use Rattle.ov_model.specs.Placed.{id_times, IsPlaced}
 use Rattle.ov_model.specs.Plans.{parts_at, records_in, cheapest, source_of, pieces_of, places_within, pieces_at, target_of, targets_of}
 use Rattle.ov_model.specs.Records.{Rec, recs, of_version, order_of}
 use Rattle.ov_model.specs.World.{Part, Target, Dataset, World, first_set}
+use Rattle.ov_model.proofs.Counting.{one_same}
 use Rattle.law_partitions.specs.Pieces.{NoTwice, AllFull, IsOfOne, AreBelow, IsKept, HasPieces}
 use Rattle.law_partitions.specs.Sources.{AscendFrom}
 use Rattle.law_partitions.proofs.OldParts.{some_id}
@@ -21,7 +22,6 @@ use Rattle.law_partitions.proofs.PiecePlan.{no_pieces, target_kept}
 use Rattle.law_partitions.proofs.PieceTimes.{AllOnce, recs_once}
 use Rattle.law_partitions.proofs.PlanNodes.{filter_most}
 use Rattle.law_partitions.proofs.SourceMoves.{Goes, cheapest_goes, places_ascend}
-use Rattle.ov_model.proofs.Counting.{one_same}
 use Rattle.ov_catalog.specs.declared.field.Field.TheVariants as off
 use Rattle.ov_catalog.specs.Applying.{rows_at, part_numbered, is_same, of_live, set_numbered, first_off}
 use Rattle.ov_catalog.specs.Events as events
@@ -30,7 +30,7 @@ use Rattle.ov_catalog.specs.Numbers.{PartNumbers, TargetNumbers}
 use Rattle.ov_catalog.specs.Planning.{is_threshold, ascend_from, are_below, empties, is_kept, is_source, is_size, are_targets, plan_off}
 use Rattle.ov_catalog.specs.Raw.{numbers_in}
 use Rattle.ov_catalog.specs.Reached.{PlanFits, Fits, IfThere}
-use Rattle.ov_catalog.specs.Shown.{Records, shown, shown_versions, shown_part, shown_target, shown_plan, shown_set, said_of, plan_event, in_set}
+use Rattle.ov_catalog.specs.Shown.{Records, segment_of, shown, shown_versions, shown_part, shown_target, shown_plan, shown_set, said_of, plan_event, in_set}
 use Rattle.ov_catalog.specs.Stands.{Readings, StandsFor, seen_event, asked_as, asked_event}
 use Rattle.ov_catalog.proofs.Good.{IsGood, found_pieces, found_placed, good}
 use Rattle.ov_catalog.proofs.Migrating.{split_shown, targets_shown}
@@ -134,35 +134,39 @@ module _ (d : Dataset) (is : HasPieces d) (placed : IsPlaced d) (versions : List
   abbrev parts : List (PartNumbers Records)
   parts = map (shown_part (order_of d.cvd.versions)) d.parts
 
-  own_kept : IsKept d (target_of d versions later)
+  own_kept : IsKept d target
   own_kept = target_kept d is placed versions later
 
-  nothing_kept : (target_of d versions later).source ≡ 0 → (length (target_of d versions later).kept == 0 && (target_of d versions later).kept_records == 0) ≡ true
+  nothing_kept : target.source ≡ 0 → (length target.kept == 0 && target.kept_records == 0) ≡ true
   nothing_kept none =
       let no_places : target.kept ≡ [] = ap (λ n. places_within 0 wanted (pieces_of d.parts n)) none ∙ ap (places_within 0 wanted) (no_pieces d.parts is.no_zero)
       in λ i. length (no_places i) == 0 && length (joined (pieces_at (pieces_of d.parts target.source) (no_places i))) == 0
 
-  goes_kept : Goes (records_in d.cvd versions) versions later d.parts (target_of d versions later).source
-      → is_kept (shown_target d (target_of d versions later)) later (part_numbered (map (shown_part (order_of d.cvd.versions)) d.parts) (target_of d versions later).source) ≡ true
-  goes_kept goes =
-      let part : Part = goes.0
-      in let here : Found (order_of d.cvd.versions) d.parts part = found (order_of d.cvd.versions) d.parts part (placed.ids_once part.id) goes.1
-      in let pieces : pieces_of d.parts target.source ≡ part.pieces = ap (pieces_of d.parts) (sym goes.2) ∙ here.1
-      in let count : ℕ = length (shown_part (order_of d.cvd.versions) part).segments
-      in let long : length (pieces_of d.parts target.source) ≡ count = ap length pieces ∙ sym (length-map part.pieces _)
-      in ap (is_kept (shown_target d target) later) (ap (part_numbered parts) (sym goes.2) ∙ here.0)
-      ∙ and_from (empties versions later (shown_part (order_of d.cvd.versions) part))
-      ((ascend_from 0 target.kept && are_below count target.kept) && (is_same (length target.kept == 0) (target.kept_records == 0) && nat_le target.kept_records (length wanted)))
-      goes.3
-      (and_from (ascend_from 0 target.kept && are_below count target.kept) (is_same (length target.kept == 0) (target.kept_records == 0) && nat_le target.kept_records (length wanted))
+  abbrev keeps_well : ℕ → Bool
+  keeps_well count =
+      (ascend_from 0 target.kept && are_below count target.kept) && (is_same (length target.kept == 0) (target.kept_records == 0) && nat_le target.kept_records (length wanted))
+
+  -- of as many pieces as the source has
+  kept_well : (count : ℕ) → length (pieces_of d.parts target.source) ≡ count → keeps_well count ≡ true
+  kept_well count long =
+      and_from (ascend_from 0 target.kept && are_below count target.kept) (is_same (length target.kept == 0) (target.kept_records == 0) && nat_le target.kept_records (length wanted))
       (and_from (ascend_from 0 target.kept) (are_below count target.kept)
       (ascends 0 target.kept (places_ascend wanted 0 (pieces_of d.parts target.source)))
       (below count target.kept (subst (λ n. AreBelow n target.kept) long own_kept.there)))
       (and_from (is_same (length target.kept == 0) (target.kept_records == 0)) (nat_le target.kept_records (length wanted))
       (kept_both (pieces_of d.parts target.source) target.kept own_kept.full)
-      (le-leb target.kept_records (length wanted) (omega (arith, new_lacks d is.rows target own_kept)))))
+      (le-leb target.kept_records (length wanted) (omega (arith, new_lacks d is.rows target own_kept))))
 
-  source_fits : is_source (map (shown_part (order_of d.cvd.versions)) d.parts) (shown_target d (target_of d versions later)) later ≡ true
+  goes_kept : Goes wanted versions later d.parts target.source → is_kept (shown_target d target) later (part_numbered parts target.source) ≡ true
+  goes_kept goes =
+      let part : PartNumbers Records = shown_part (order_of d.cvd.versions) goes.0
+      in let here : Found (order_of d.cvd.versions) d.parts goes.0 = found (order_of d.cvd.versions) d.parts goes.0 (placed.ids_once goes.0.id) goes.1
+      in let pieces : pieces_of d.parts target.source ≡ goes.0.pieces = ap (pieces_of d.parts) (sym goes.2) ∙ here.1
+      in ap (is_kept (shown_target d target) later) (ap (part_numbered parts) (sym goes.2) ∙ here.0)
+      ∙ and_from (empties versions later part) (keeps_well (length part.segments)) goes.3
+      (kept_well (length part.segments) (ap length pieces ∙ sym (length-map goes.0.pieces (segment_of (order_of d.cvd.versions)))))
+
+  source_fits : is_source parts (shown_target d target) later ≡ true
   source_fits =
       elim (cases_Bool (target.source == 0)) [
         | inl none ↦

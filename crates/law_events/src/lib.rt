@@ -1,4 +1,4 @@
-//! Laws of events that are written for moves, the event of a move that fits applies; and of the numbers of plans.
+//! Laws of events that are written for moves: the event of a move that fits applies, and a plan is shown by its numbers.
 //!
 //! There is no code here. Each law is the contract of a function that does nothing, over the definitions of `ov_model`,
 //! `law_partitions` and `ov_catalog`.
