@@ -39,7 +39,8 @@ fn named(alloc: Global, name: &str) -> Result<Txt, Fail>
     Ok(name)
 }
 
-fn four(alloc: Global) -> Result<Wanted, Fail>
+/// The dataset of these versions.
+pub fn four(alloc: Global) -> Result<Wanted, Fail>
     ensures name { IfOk result (λ made. IsTrue (is_name_of made.cvd)) }
     ensures wanted { IfOk result IsWanted }
 {
