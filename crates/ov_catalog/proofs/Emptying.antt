@@ -1,5 +1,5 @@
 -- Where numbers are those of a World, a flip's target keeps segments of one partition, which goes with it.
-use Rattle.std.proofs.Common.{◌≡◌, ◌≤◌, ◌⊎◌, ℕ, ◌+◌, Bool, true, false, ◌==◌, List, [], ◌∷◌, length, map, filter, refl, sym, ◌∙◌, ap, subst, inl, inr, arith}
+use Rattle.std.proofs.Common.{◌≡◌, ◌≤◌, ◌⊎◌, ℕ, Bool, true, false, ◌==◌, List, [], ◌∷◌, length, map, filter, refl, sym, ◌∙◌, ap, subst, inl, inr, arith}
 use Rattle.std.specs.Prelude.{◌≢◌, not, if◌then◌else◌, Option, Some, None}
 use Rattle.std.proofs.lemmas.List.{length-map}
 use Rattle.ov_host.specs.declared.area.Extent.{Extent}
@@ -9,22 +9,22 @@ use Rattle.ov_model.specs.Plans as plans
 use Rattle.ov_model.specs.Plans.{pieces_of}
 use Rattle.ov_model.specs.Records.{Rec, order_of}
 use Rattle.ov_model.specs.World.{Part, Target, Plan, Dataset, World}
-use Rattle.ov_model.proofs.Counting.{one_if, one_same}
+use Rattle.ov_model.proofs.Counting.{one_same}
 use Rattle.law_partitions.specs.OldOrNew.{IsOldOrNew, AreOldOrNew}
 use Rattle.law_partitions.specs.Pieces.{AreBelow, PlanIsUnderWay, HasPieces, ArePieces}
-use Rattle.law_partitions.specs.Sources.{AscendFrom, PlanIsSourced, AreSourced}
+use Rattle.law_partitions.specs.Sources.{PlanIsSourced, AreSourced}
 use Rattle.law_partitions.proofs.PieceFlip.{is_listed}
 use Rattle.law_partitions.proofs.PieceMore.{current_kept}
 use Rattle.law_partitions.proofs.SourceMoves.{own_sourced, emptied}
 use Rattle.ov_catalog.specs.Numbers.{PartNumbers, TargetNumbers, PlanNumbers, SetNumbers, Numbers, each_part, each_plan, each_set}
 use Rattle.ov_catalog.specs.Events as events
 use Rattle.ov_catalog.specs.Events.{leaving, is_empty, is_one, segments_at}
-use Rattle.ov_catalog.specs.Shown.{Records, shown_part, shown_target, shown_plan, shown_set, shown}
+use Rattle.ov_catalog.specs.Shown.{shown_part, shown_target, shown_plan, shown_set}
 use Rattle.ov_catalog.specs.Stands.{Readings, seen, asked}
 use Rattle.ov_catalog.proofs.Filling.{segments_each}
 use Rattle.ov_catalog.proofs.FlipCounts.{NoPart, GoesWith, KeepsOfOne, MayFlip, NoSet, FlipFits}
 use Rattle.ov_catalog.proofs.Good.{NoneNumbered, Distinct, IsGood}
-use Rattle.ov_catalog.proofs.Migrating.{plan_numbers, current_shown, segments_shown}
+use Rattle.ov_catalog.proofs.Migrating.{current_shown, segments_shown}
 
 -- ---- whatever fills the holes
 

@@ -12,11 +12,11 @@ use Rattle.ov_model.specs.Plans as plans
 use Rattle.ov_model.specs.Plans.{graph_of, parts_at, target_of, targets_of, records_in, pieces_of, pieces_at, kept_pieces, no_target, current, missing, leaving, left_parts, target_part, copied_for}
 use Rattle.ov_model.specs.Records.{Rec, records_of, order_of}
 use Rattle.ov_model.specs.World.{Part, Target, Plan, Dataset, held}
-use Rattle.law_partitions.specs.Pieces.{AreBelow, IsKept, IsUnderWay, PlanIsUnderWay}
+use Rattle.law_partitions.specs.Pieces.{AreBelow, IsKept, PlanIsUnderWay}
 use Rattle.law_partitions.proofs.PieceMore.{current_kept}
 use Rattle.ov_catalog.specs.Events as events
 use Rattle.ov_catalog.specs.Events.{one_at, chosen, segments_at}
-use Rattle.ov_catalog.specs.Numbers.{PartNumbers, TargetNumbers, PlanNumbers}
+use Rattle.ov_catalog.specs.Numbers.{TargetNumbers, PlanNumbers}
 use Rattle.ov_catalog.specs.Shown.{Records, segment_of, shown_versions, shown_part, shown_target, shown_plan, shown_set, said_of}
 use Rattle.ov_catalog.proofs.Showing.{joined_long}
 
