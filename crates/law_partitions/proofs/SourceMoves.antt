@@ -1,5 +1,5 @@
 -- What a waiting target keeps stands in a partition that goes with its flip, and each move keeps that.
-use Rattle.std.proofs.Common.{◌≡◌, ◌≤◌, ◌<◌, ◌⊎◌, ℕ, suc, ◌+◌, Bool, true, false, ◌==◌, List, [], ◌∷◌, ◌++◌, length, map, filter, refl, sym, ◌∙◌, ap, subst, inl, inr, arith}
+use Rattle.std.proofs.Common.{◌≡◌, ◌≤◌, ◌⊎◌, ℕ, suc, ◌+◌, Bool, true, false, ◌==◌, List, [], ◌∷◌, ◌++◌, length, map, filter, refl, sym, ◌∙◌, ap, subst, inl, inr, arith}
 use Rattle.std.specs.Prelude.{◌≢◌, ◌||◌, not, nat_lt, nat_le, if◌then◌else◌, Option, Some, None}
 use Rattle.std.specs.List.{list_all, list_any}
 use Rattle.std.proofs.lemmas.Bool.{cases_Bool, cond-true, cond-false, eq-eqb, eqb-true, ne_eqb}
@@ -9,17 +9,17 @@ use Rattle.ov_value.specs.declared.column.Column.{Column}
 use Rattle.ov_model.specs.Book.{Row, Version}
 use Rattle.ov_model.specs.Lists.{IsIn}
 use Rattle.ov_model.specs.Moves.{Move, Init, Commit, BeginPlan, Copy, Flip, Drop, Checkpoint, moved, change, numbered, committed, with_version, version_of, wide, wide_part, wide_plan, placed_at, parts_with, with_joined, own_part, new_set}
-use Rattle.ov_model.specs.Placed.{times, id_times, PlanIs, IsPlaced, ArePlaced}
-use Rattle.ov_model.specs.Plans.{parts_at, meets, empties, modification, cheaper, cheapest, source_of, pieces_of, places_within, records_in, target_of, targets_of, planned, copied_for, copied_more, current, leaving, left_parts, target_part, next_target, flipped_by, flipped}
+use Rattle.ov_model.specs.Placed.{times, id_times, IsPlaced, ArePlaced}
+use Rattle.ov_model.specs.Plans.{parts_at, meets, empties, modification, cheaper, cheapest, source_of, pieces_of, places_within, records_in, target_of, targets_of, planned, copied_for, copied_more, current, leaving, left_parts, target_part, flipped_by, flipped}
 use Rattle.ov_model.specs.Records.{Rec, is_among, ordered_records}
 use Rattle.ov_model.specs.World.{Part, Target, Plan, Dataset, World, is_one, is_unmoved, targets_from}
-use Rattle.ov_model.proofs.Counting.{one_same, filter_times, listed, times-append}
+use Rattle.ov_model.proofs.Counting.{one_same, filter_times, listed}
 use Rattle.law_partitions.specs.Courses.{IsDue}
 use Rattle.law_partitions.specs.OldOrNew.{IsRunning, Runs, IsOld, IsOldOrNew, AreOldOrNew}
-use Rattle.law_partitions.specs.Pieces.{versions_of, target_times, IsUnderWay, IsKept, PlanIsUnderWay, HasPieces, ArePieces}
+use Rattle.law_partitions.specs.Pieces.{versions_of, target_times, PlanIsUnderWay, HasPieces, ArePieces}
 use Rattle.law_partitions.specs.Sound.{IsSound}
 use Rattle.law_partitions.specs.Sources.{AscendFrom, IsSourced, AllSourced, PlanIsSourced, AreSourced}
-use Rattle.law_partitions.proofs.CountRuns.{all_from, from_at, none_from}
+use Rattle.law_partitions.proofs.CountRuns.{all_from, from_at}
 use Rattle.law_partitions.proofs.OldMoves.{wide_placed}
 use Rattle.law_partitions.proofs.OldParts.{Waits, in_append, in_map, in_filter, moved_past, some_id, waits_not, from_fewer}
 use Rattle.law_partitions.proofs.PieceFlip.{is_listed, met, meeting}
@@ -405,7 +405,7 @@ module _ (d : Dataset) (plan : Plan) (placed : IsPlaced d) (old : IsOldOrNew d) 
   running : IsRunning plan
   running = subst Runs e old.runs
 
-  own_sourced : IsSourced d (current plan) (targets_from (suc plan.at) plan.targets)
+  pub own_sourced : IsSourced d (current plan) (targets_from (suc plan.at) plan.targets)
   own_sourced = (subst (AllSourced d) (from_at plan.at plan.targets running.waits) (subst (PlanIsSourced d) e is)).0
 
   own_serves : (current plan).kept ≢ [] → meets (current plan).versions (versions_of d.parts (current plan).source) ≡ true

@@ -5,6 +5,7 @@ use Rattle.std.proofs.Common.{◌≡◌, ◌<◌, ◌≤◌, ℕ, ◌+◌, Bool,
 use Rattle.std.specs.Prelude.{◌≢◌, nat_lt, if◌then◌else◌, Option, Some, None, unwrap_or}
 use Rattle.std.proofs.lemmas.Bool.{cases_Bool, eqb-true, eq-eqb, ltb-true, ltb-false}
 use Rattle.ov_value.specs.Rows.{key_cmp}
+use Rattle.ov_model.specs.Book.{Row}
 use Rattle.ov_model.specs.Holding.{IsHeld, AreHeld, HasAll, AllHaveAll}
 use Rattle.ov_model.specs.Lists.{AllAreIn, Rises}
 use Rattle.ov_model.specs.Moves.{Move, Init, Commit, BeginPlan, Copy, Flip, Drop, Checkpoint, moved, numbered, version_of}
@@ -192,7 +193,7 @@ good_of w rowed sound old sourced = record {
 
 -- ---- what a move that fits has
 
--- What is asked of each dataset of a number, as `All` says, is had where the only one of this number has it.
+-- What a move asks of each dataset of a number, as `All` says, is had where the one that is found has what follows it.
 all_of : (P : Dataset → Type 0) (All : List Dataset → Type 0) (cvd : ℕ) → All []
     → ((d : Dataset) (sets : List Dataset) → (d.cvd.number ≡ cvd → P d) → All sets → All (d ∷ sets))
     → (found : Dataset) (sets : List Dataset) → IsOnly cvd found sets → P found → All sets
@@ -200,85 +201,84 @@ all_of P All cvd none more found [] only has = none
 all_of P All cvd none more found (d ∷ sets) only has =
     more d sets (λ same. subst P (sym (only.0 same)) has) (all_of P All cvd none more found sets only.1 has)
 
+all_if : (Q P : Dataset → Type 0) (All : List Dataset → Type 0) (cvd : ℕ) → All []
+    → ((d : Dataset) (sets : List Dataset) → (d.cvd.number ≡ cvd → P d) → All sets → All (d ∷ sets))
+    → ((d : Dataset) → Q d → P d) → (sets : List Dataset) (found : Option Dataset) → first_set (numbered cvd) sets ≡ found
+    → Distinct sets → IfThere Q found → All sets
+all_if Q P All cvd none more follows sets None e distinct fits = absurd fits
+all_if Q P All cvd none more follows sets (Some d) e distinct fits =
+    all_of P All cvd none more d sets (found_only cvd d sets distinct e) (follows d fits)
+
 module _ (w : World) (distinct : Distinct w.sets) (cvd : ℕ) where
-  commit_may : (parents message : List ℕ) (rows : List _) (found : Option Dataset) → first_set (numbered cvd) w.sets ≡ found
-      → IfThere (λ d. CommitFits w d (version_of parents message rows)) found → MayMove (Commit cvd parents message [] rows) w
-  commit_may parents message rows None e fits = absurd fits
-  commit_may parents message rows (Some d) e fits =
-      let only : IsOnly cvd d w.sets = found_only cvd d w.sets distinct e
-      in record {
-        parents = all_of (HasParents parents) (AllHaveParents cvd parents) cvd tt (λ x sets has rest. (has, rest)) d w.sets only
-            (fits.parents.some, fits.parents.there);
-        rows = all_of (λ x. Rises (key_cmp x.cvd.schema) rows) (AllRiseWith cvd [] rows) cvd tt (λ x sets has rest. (has, rest)) d w.sets only fits.rows.rise;
-        copy = tt;
-        flip = tt;
-      }
+  abbrev there : Option Dataset
+  there = first_set (numbered cvd) w.sets
 
-  commit_brings : (parents message : List ℕ) (rows : List _) (found : Option Dataset) → first_set (numbered cvd) w.sets ≡ found
-      → IfThere (λ d. CommitFits w d (version_of parents message rows)) found → AllBringTo cvd [] rows w.sets
-  commit_brings parents message rows None e fits = absurd fits
-  commit_brings parents message rows (Some d) e fits =
-      all_of (λ x. BringsTo x [] rows) (AllBringTo cvd [] rows) cvd tt (λ x sets has rest. (has, rest)) d w.sets
-      (found_only cvd d w.sets distinct e) (record { accepted = tt; fit = (fits.rows.rise, fits.rows.fit) })
+  module _ (parents message : List ℕ) (rows : List Row) (fits : IfThere (λ d. CommitFits w d (version_of parents message rows)) there) where
+    commit_may : MayMove (Commit cvd parents message [] rows) w
+    commit_may = record {
+      parents = all_if (λ d. CommitFits w d (version_of parents message rows)) (HasParents parents) (AllHaveParents cvd parents) cvd tt
+          (λ d sets has rest. (has, rest)) (λ d is. (is.parents.some, is.parents.there)) w.sets there refl distinct fits;
+      rows = all_if (λ d. CommitFits w d (version_of parents message rows)) (λ d. Rises (key_cmp d.cvd.schema) rows) (AllRiseWith cvd [] rows) cvd tt
+          (λ d sets has rest. (has, rest)) (λ d is. is.rows.rise) w.sets there refl distinct fits;
+      copy = tt;
+      flip = tt;
+    }
 
-  plan_begins : (p q : ℕ) (found : Option Dataset) → first_set (numbered cvd) w.sets ≡ found → IfThere (PlanFits p q) found → MayBegin (BeginPlan cvd p q) w
-  plan_begins p q None e fits = absurd fits
-  plan_begins p q (Some d) e fits = (
-    (fits.some, fits.at_most),
-    all_of (λ x. x.plan ≡ None) (AllIdle cvd) cvd tt (λ x sets has rest. (has, rest)) d w.sets (found_only cvd d w.sets distinct e) fits.idle,
+    commit_brings : AllBringTo cvd [] rows w.sets
+    commit_brings =
+        all_if (λ d. CommitFits w d (version_of parents message rows)) (λ d. BringsTo d [] rows) (AllBringTo cvd [] rows) cvd tt
+        (λ d sets has rest. (has, rest)) (λ d is. record { accepted = tt; fit = (is.rows.rise, is.rows.fit) }) w.sets there refl distinct fits
+
+  up_to_one : (p q : ℕ) (found : Option Dataset) → IfThere (PlanFits p q) found → (1 ≤ p) × (p ≤ q)
+  up_to_one p q None fits = absurd fits
+  up_to_one p q (Some d) fits = (fits.some, fits.at_most)
+
+  plan_begins : (p q : ℕ) → IfThere (PlanFits p q) there → MayBegin (BeginPlan cvd p q) w
+  plan_begins p q fits = (
+    up_to_one p q there fits,
+    all_if (PlanFits p q) (λ d. d.plan ≡ None) (AllIdle cvd) cvd tt (λ d sets has rest. (has, rest)) (λ d is. is.idle) w.sets there refl distinct fits,
   )
 
   lacks_some : (d : Dataset) (plan : Option Plan) → IfRunning (λ p. 0 < length (missing d p)) plan → LacksSome d plan
   lacks_some d None runs = absurd runs
   lacks_some d (Some plan) runs = runs
 
-  copy_may : (found : Option Dataset) → first_set (numbered cvd) w.sets ≡ found → IfThere MissesSome found → AllLackSome cvd w.sets
-  copy_may None e fits = absurd fits
-  copy_may (Some d) e fits =
-      all_of (λ x. LacksSome x x.plan) (AllLackSome cvd) cvd tt (λ x sets has rest. (has, rest)) d w.sets
-      (found_only cvd d w.sets distinct e) (lacks_some d d.plan fits)
+  copy_may : IfThere MissesSome there → AllLackSome cvd w.sets
+  copy_may fits =
+      all_if MissesSome (λ d. LacksSome d d.plan) (AllLackSome cvd) cvd tt (λ d sets has rest. (has, rest)) (λ d runs. lacks_some d d.plan runs)
+      w.sets there refl distinct fits
 
   has_all : (d : Dataset) (plan : Option Plan) → IfRunning (λ p. missing d p ≡ []) plan → HasAll d plan
   has_all d None runs = absurd runs
   has_all d (Some plan) runs = runs
 
-  flip_may : (found : Option Dataset) → first_set (numbered cvd) w.sets ≡ found → IfThere MissesNone found → AllHaveAll cvd w.sets
-  flip_may None e fits = absurd fits
-  flip_may (Some d) e fits =
-      all_of (λ x. HasAll x x.plan) (AllHaveAll cvd) cvd tt (λ x sets has rest. (has, rest)) d w.sets
-      (found_only cvd d w.sets distinct e) (has_all d d.plan fits)
+  flip_may : IfThere MissesNone there → AllHaveAll cvd w.sets
+  flip_may fits =
+      all_if MissesNone (λ d. HasAll d d.plan) (AllHaveAll cvd) cvd tt (λ d sets has rest. (has, rest)) (λ d runs. has_all d d.plan runs)
+      w.sets there refl distinct fits
 
 pub fits_may : (m : Move) (w : World) → Fits m w → IsGood w → MayMove m w
 fits_may (Init name schema rows) w fits is = record { parents = tt; rows = fits.sorted.rise; copy = tt; flip = tt }
-fits_may (Commit cvd parents message [] rows) w fits is = commit_may w is.distinct cvd parents message rows (first_set (numbered cvd) w.sets) refl fits
+fits_may (Commit cvd parents message [] rows) w fits is = commit_may w is.distinct cvd parents message rows fits
 fits_may (Commit cvd parents message (column ∷ added) rows) w fits is = absurd fits
 fits_may (BeginPlan cvd p q) w fits is = record { parents = tt; rows = tt; copy = tt; flip = tt }
-fits_may (Copy cvd) w fits is = record { parents = tt; rows = tt; copy = copy_may w is.distinct cvd (first_set (numbered cvd) w.sets) refl fits; flip = tt }
-fits_may (Flip cvd) w fits is = record { parents = tt; rows = tt; copy = tt; flip = flip_may w is.distinct cvd (first_set (numbered cvd) w.sets) refl fits }
+fits_may (Copy cvd) w fits is = record { parents = tt; rows = tt; copy = copy_may w is.distinct cvd fits; flip = tt }
+fits_may (Flip cvd) w fits is = record { parents = tt; rows = tt; copy = tt; flip = flip_may w is.distinct cvd fits }
 fits_may (Drop cvd) w fits is = record { parents = tt; rows = tt; copy = tt; flip = tt }
 fits_may Checkpoint w fits is = absurd fits
 
 fits_begins : (m : Move) (w : World) → Fits m w → IsGood w → MayBegin m w
-fits_begins (Init name schema rows) w fits is = tt
-fits_begins (Commit cvd parents message added rows) w fits is = tt
-fits_begins (BeginPlan cvd p q) w fits is = plan_begins w is.distinct cvd p q (first_set (numbered cvd) w.sets) refl fits
-fits_begins (Copy cvd) w fits is = tt
-fits_begins (Flip cvd) w fits is = tt
-fits_begins (Drop cvd) w fits is = tt
-fits_begins Checkpoint w fits is = tt
+fits_begins (BeginPlan cvd p q) w fits is = plan_begins w is.distinct cvd p q fits
+fits_begins _ w fits is = tt
 
 pub fits_due : (m : Move) (w : World) → Fits m w → IsGood w → IsDue m w
 fits_due m w fits is = record { may = fits_may m w fits is; begins = fits_begins m w fits is }
 
 fits_brings : (m : Move) (w : World) → Fits m w → IsGood w → BringsRows m w
 fits_brings (Init name schema rows) w fits is = (fits.sorted.rise, fits.sorted.fit)
-fits_brings (Commit cvd parents message [] rows) w fits is = commit_brings w is.distinct cvd parents message rows (first_set (numbered cvd) w.sets) refl fits
+fits_brings (Commit cvd parents message [] rows) w fits is = commit_brings w is.distinct cvd parents message rows fits
 fits_brings (Commit cvd parents message (column ∷ added) rows) w fits is = absurd fits
-fits_brings (BeginPlan cvd p q) w fits is = tt
-fits_brings (Copy cvd) w fits is = tt
-fits_brings (Flip cvd) w fits is = tt
-fits_brings (Drop cvd) w fits is = tt
-fits_brings Checkpoint w fits is = absurd fits
+fits_brings _ w fits is = tt
 
 -- ---- moves
 

@@ -130,7 +130,7 @@ left_shown all versions (part ∷ parts) = by (not (length (leaving versions par
     by true rest = ap (λ ps. shown_part all (leaving versions part) ∷ ps) rest
     by false rest = rest
 
-segments_shown : (all : List Rec) (id : ℕ) (parts : List Part) → map (segment_of all) (pieces_of parts id) ≡ segments_at id (map (shown_part all) parts)
+pub segments_shown : (all : List Rec) (id : ℕ) (parts : List Part) → map (segment_of all) (pieces_of parts id) ≡ segments_at id (map (shown_part all) parts)
 segments_shown all id [] = refl
 segments_shown all id (part ∷ parts) = by (part.id == id) (segments_shown all id parts)
   where
