@@ -1,33 +1,30 @@
 -- How many records the targets of a plan have, keep and lack, in the World and in its numbers.
-use Rattle.std.proofs.Common.{◌≡◌, ◌⊎◌, ℕ, suc, ◌+◌, ◌-◌, true, List, [], ◌∷◌, ◌++◌, length, map, filter, refl, sym, ◌∙◌, ap, subst, inl, inr, arith}
+use Rattle.std.proofs.Common.{◌≡◌, ◌⊎◌, ℕ, suc, ◌+◌, ◌-◌, List, [], ◌∷◌, ◌++◌, length, map, filter, refl, sym, ◌∙◌, ap, subst, inl, inr, arith}
 use Rattle.std.specs.Prelude.{Option, Some, None, nat_lt, not, slice_index_or}
 use Rattle.std.specs.List.{list_any}
-use Rattle.std.proofs.lemmas.Bool.{cases_Bool, ltb-true, ltb-false, or_left, or_right}
+use Rattle.std.proofs.lemmas.Bool.{cases_Bool, ltb-true, ltb-false}
 use Rattle.std.proofs.lemmas.List.{append-nil, length-append}
 use Rattle.std.proofs.lemmas.List.Filters.{length-filter_both}
-use Rattle.ov_model.specs.Lists.{IsIn, AllAreIn, joined}
+use Rattle.ov_model.specs.Lists.{IsIn, joined}
 use Rattle.ov_model.specs.Plans.{records_in, kept_pieces, missing_of, missing, current, no_target, target_steps, plan_steps_of}
 use Rattle.ov_model.specs.Records.{Rec, recs, of_version, order_of, is_among, lacking}
 use Rattle.ov_model.specs.World.{Target, Plan, Dataset}
 use Rattle.ov_model.specs.World as world
-use Rattle.ov_model.proofs.Holds.{at_known}
 use Rattle.ov_model.proofs.Origins.{all_known, in_filter}
 use Rattle.law_partitions.specs.Pieces.{NoTwice, IsOfOne, AreOf, IsKept, AllKept, IsUnderWay, PlanIsUnderWay, HaveNoRowTwice}
 use Rattle.law_partitions.proofs.CountRuns.{from_at, none_from}
 use Rattle.law_partitions.proofs.PieceLists.{among_in, in_either, in_filtered, is_of}
 use Rattle.law_partitions.proofs.PieceMore.{current_kept}
-use Rattle.law_partitions.proofs.PieceTimes.{in_times, is_times, times-filter, all_once}
+use Rattle.law_partitions.proofs.PieceTimes.{times-filter, all_once}
+use Rattle.law_partitions.proofs.PlanExact.{in_among, of_one, known_one}
 use Rattle.ov_catalog.specs.Events as numbers
 use Rattle.ov_catalog.specs.Numbers.{TargetNumbers}
 use Rattle.ov_catalog.specs.Planning as lacked
 use Rattle.ov_catalog.specs.Shown.{shown_target, shown_plan}
 use Rattle.ov_catalog.specs.Steps as counted
 use Rattle.ov_catalog.proofs.Migrating.{plan_numbers, current_shown}
-use Rattle.law_events.proofs.Counts.{no_more, are_at}
+use Rattle.law_events.proofs.Counts.{no_more}
 use Rattle.law_events.proofs.Seeing.{from_shown}
-
-pub in_among : (rs : List Rec) (r : Rec) → IsIn rs r → is_among rs r ≡ true
-in_among rs r is = is_times rs r (in_times rs r is)
 
 -- where none stands twice, and those that are there are among those that are wanted, the others lack
 those_lacking : (wanted there : List Rec) → NoTwice wanted → NoTwice there → ((r : Rec) → IsIn there r → IsIn wanted r) → length (lacking wanted there) + length there ≡ length wanted
@@ -42,23 +39,11 @@ those_lacking wanted there once more within =
 
 -- ---- the records of versions together
 
-some_of_them : (done : List (List Rec)) (vids : List ℕ) (r : Rec) → IsOfOne done vids r → list_any (λ vid. is_among (of_version done vid) r) vids ≡ true
-some_of_them done [] r is = absurd is
-some_of_them done (vid ∷ vids) r (inl here) =
-    or_left (is_among (of_version done vid) r) (list_any (λ v. is_among (of_version done v) r) vids) (in_among (of_version done vid) r here)
-some_of_them done (vid ∷ vids) r (inr later) =
-    or_right (is_among (of_version done vid) r) (list_any (λ v. is_among (of_version done v) r) vids) (some_of_them done vids r later)
-
-known_of_one : (done : List (List Rec)) (vids : List ℕ) (all : List Rec) (r : Rec) → AllAreIn done all → IsOfOne done vids r → IsIn all r
-known_of_one done [] all r are is = absurd is
-known_of_one done (vid ∷ vids) all r are (inl here) = are_at (of_version done vid) all r (at_known done (vid - 1) all are) here
-known_of_one done (vid ∷ vids) all r are (inr later) = known_of_one done vids all r are later
-
 pub together : (d : Dataset) (vids : List ℕ) (r : Rec) → IsOfOne (recs d.cvd.versions []) vids r → IsIn (records_in d.cvd vids) r
 together d vids r is =
     in_filter (λ x. list_any (λ vid. is_among (of_version (recs d.cvd.versions []) vid) x) vids) (order_of d.cvd.versions) r
-    (some_of_them (recs d.cvd.versions []) vids r is)
-    (known_of_one (recs d.cvd.versions []) vids (order_of d.cvd.versions) r (all_known d.cvd.versions) is)
+    (of_one (recs d.cvd.versions []) vids r is)
+    (known_one (recs d.cvd.versions []) vids (order_of d.cvd.versions) r (all_known d.cvd.versions) is)
 
 together_once : (d : Dataset) (vids : List ℕ) → HaveNoRowTwice d.cvd.versions → NoTwice (records_in d.cvd vids)
 together_once d vids rows r =
