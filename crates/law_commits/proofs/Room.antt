@@ -16,8 +16,8 @@ use Rattle.ov_records.specs.Records.{WouldPass}
 use Rattle.ov_catalog.specs.declared.field.Field.{Field}
 use Rattle.ov_catalog.specs.declared.field.Field.TheVariants as off
 use Rattle.ov_catalog.specs.Applying.{off_unless, is_named, is_schema, init_off, are_parents, commit_off, of_live, first_off, AllApply}
-use Rattle.ov_catalog.specs.Events.{numbered, version_of, with_version, change, applied, replayed}
-use Rattle.ov_catalog.specs.Numbers.{SetNumbers, Numbers, nothing_yet}
+use Rattle.ov_catalog.specs.Events.{copied_more, flipped, flipped_by, numbered, planned, version_of, with_version, change, applied, replayed}
+use Rattle.ov_catalog.specs.Numbers.{PlanNumbers, SetNumbers, Numbers, nothing_yet}
 use Rattle.ov_catalog.specs.Raw.{place_in, event_in, numbers_in}
 
 rest_none : (b : Bool) (f : Field) (rest : Option Field) → option_or (off_unless b f) rest ≡ None → rest ≡ None
@@ -89,6 +89,20 @@ few_change cvd f test (d ∷ sets) tested e all = by (numbered cvd d) e (few_cha
     by true here rest = (tested d here, all.1)
     by false later rest = (all.0, rest later all.1)
 
+-- a change that keeps the number of records
+few_kept : (cvd : ℕ) (f : SetNumbers Extent Extent → SetNumbers Extent Extent) (sets : List (SetNumbers Extent Extent)) → ((d : SetNumbers Extent Extent) → (f d).records ≡ d.records)
+    → AllFew sets → AllFew (change cvd f sets)
+few_kept cvd f [] keeps all = tt
+few_kept cvd f (d ∷ sets) keeps all = by (numbered cvd d) (few_kept cvd f sets keeps all.1)
+  where
+    by : (t : Bool) → AllFew (change cvd f sets) → AllFew (if t then f d ∷ sets else d ∷ change cvd f sets)
+    by true rest = (omega (arith, keeps d, all.0), all.1)
+    by false rest = (all.0, rest)
+
+flipped_few : (d : SetNumbers Extent Extent) (plan : Option (PlanNumbers Extent)) → (flipped_by plan d).records ≡ d.records
+flipped_few d None = refl
+flipped_few d (Some plan) = refl
+
 -- ---- events
 
 event_few : (e : raw.Event) (n : Numbers Extent Extent) → first_off e n ≡ None → AllFew n.sets → AllFew (applied (event_in e) n).sets
@@ -97,9 +111,9 @@ event_few (says.Commit cvd vid message parents rows fresh place added list segme
     few_change cvd (with_version (version_of parents message rows fresh list) (place_in place) added (extents_of segment)) (commit_off vid message parents rows fresh (place_in place) added list segment) n.sets
     (λ d ok. commit_few vid message parents rows fresh (place_in place) added list segment d ok) e all
 event_few (says.Drop cvd) n e all = few_filter (λ d. not (numbered cvd d)) n.sets all
-event_few (says.Plan cvd p q targets) n e all = absurd cc
-event_few (says.Copy cvd count segment) n e all = absurd cc
-event_few (says.Flip cvd) n e all = absurd cc
+event_few (says.Plan cvd p q targets) n e all = few_kept cvd (planned p q targets) n.sets (λ d. refl) all
+event_few (says.Copy cvd count segment) n e all = few_kept cvd (copied_more count (extents_of segment)) n.sets (λ d. refl) all
+event_few (says.Flip cvd) n e all = few_kept cvd flipped n.sets (λ d. flipped_few d d.plan) all
 event_few (says.Base next) n e all = absurd cc
 event_few (says.Whole said) n e all = absurd cc
 event_few (says.Wide cvd vid message columns parents rows fresh place added list segment) n e all = absurd cc

@@ -206,9 +206,9 @@ pub counted : (m : Move) (w : World) → Fits m w → ((moved m w).epoch ≡ w.e
 counted (Init name schema rows) w fits = (refl, refl, refl)
 counted (Commit cvd parents message [] rows) w fits = (refl, refl, refl)
 counted (Commit cvd parents message (c ∷ cs) rows) w fits = absurd fits
-counted (BeginPlan cvd p q) w fits = absurd fits
-counted (Copy cvd) w fits = absurd fits
-counted (Flip cvd) w fits = absurd fits
+counted (BeginPlan cvd p q) w fits = (refl, refl, refl)
+counted (Copy cvd) w fits = (refl, refl, refl)
+counted (Flip cvd) w fits = (refl, refl, refl)
 counted (Drop cvd) w fits = (refl, refl, refl)
 counted Checkpoint w fits = absurd fits
 

@@ -10,7 +10,6 @@ use Rattle.ov_member.specs.Rids.{has}
 use Rattle.ov_fetch.specs.Extents.{rids_of}
 use Rattle.ov_fetch.specs.Rows.{AreSegments}
 use Rattle.law_events.proofs.Counts.{joined_at}
-use Rattle.law_events.proofs.Reaching.{reached_sound}
 use Rattle.law_image.specs.Pages.{readings_of}
 use Rattle.law_partitions.specs.Pieces.{NoTwice, IsPieces, PartsArePieces, HasPieces, ArePieces}
 use Rattle.ov_model.specs.Holding.{VersionsAreIn, PartsHold, IsHeld, AreHeld}
@@ -56,7 +55,7 @@ facts_in (x ∷ ds) d (inr later) known placed hold rowed pieces = facts_in ds d
 pub facts : (w : World) (area : List ℕ) (s : Numbers) (d : Dataset) → IsSetOf w d area s → Facts d
 facts w area s d of_world =
     let is : IsGood w = good w of_world.reached
-    in facts_in w.sets d (first_in (numbered s.number) w.sets d of_world.among) is.known is.placed is.held is.rowed (reached_sound w of_world.reached).pieces
+    in facts_in w.sets d (first_in (numbered s.number) w.sets d of_world.among) is.known is.sound.placed is.sound.held is.rowed is.sound.pieces
 
 -- ---- its partition of a number
 

@@ -7,6 +7,7 @@ use Rattle.ov_event.specs.declared.event.Event as raw
 use Rattle.ov_event.specs.declared.event.Event.TheVariants as says
 use Rattle.ov_event.specs.declared.event.Placed.{Placed}
 use Rattle.ov_event.specs.declared.event.Placed.TheVariants as at
+use Rattle.ov_event.specs.declared.event.PlanTarget.{PlanTarget}
 use Rattle.ov_event.specs.declared.event.RawSchema.{RawSchema}
 use Rattle.ov_member.specs.Lists.{Spells, bytes_of, ranges_of}
 use Rattle.ov_member.proofs.RangeLemmas.{ranges_of-rids_of}
@@ -15,11 +16,12 @@ use Rattle.ov_place.specs.declared.place_facts.Place.TheVariants.{Own, Join}
 use Rattle.ov_value.specs.Shapes.{Shape}
 use Rattle.ov_model.specs.Book.{Row}
 use Rattle.ov_model.specs.Moves.{Move, Init as InitMove, Commit as CommitMove, BeginPlan, Copy as CopyMove, Flip as FlipMove, Drop as DropMove, Checkpoint, numbered, version_of}
+use Rattle.ov_model.specs.World as worlds
 use Rattle.ov_model.specs.World.{Dataset, World, first_set}
 use Rattle.ov_catalog.specs.Events.{Event, Init, Commit, Plan, Copy, Flip, Drop, Base, Whole, Wide}
 use Rattle.ov_catalog.specs.Raw.{event_in, place_in, shape_in}
 use Rattle.ov_catalog.specs.Reached.{CommitFits, Fits, IfThere}
-use Rattle.ov_catalog.specs.Shown.{Records, Rids, init_event, commit_event, commit_in, event_of}
+use Rattle.ov_catalog.specs.Shown.{Records, Rids, init_event, commit_event, commit_in, copy_event, copy_for, event_of, in_set, plan_event}
 use Rattle.ov_catalog.specs.Stands.{asked_as}
 use Rattle.ov_catalog.proofs.Moving.{some_same}
 use Rattle.law_image.specs.Lists.{list_in}
@@ -98,15 +100,15 @@ said_by (Wide cvd vid message columns parents rows fresh place added list segmen
 abbrev IsOwn : Event Rids Records → Type 0
 IsOwn (Init name schema rows list segments) = Unit {0}
 IsOwn (Commit cvd vid message parents rows fresh place added list segments) = Unit {0}
-IsOwn (Plan cvd p q targets) = ⊥
-IsOwn (Copy cvd count segments) = ⊥
-IsOwn (Flip cvd) = ⊥
+IsOwn (Plan cvd p q targets) = Unit {0}
+IsOwn (Copy cvd count segments) = Unit {0}
+IsOwn (Flip cvd) = Unit {0}
 IsOwn (Drop cvd) = Unit {0}
 IsOwn (Base next) = ⊥
 IsOwn (Whole d) = ⊥
 IsOwn (Wide cvd vid message columns parents rows fresh place added list segments) = ⊥
 
--- what the bytes have is what the event asks for; a drop has none
+-- what the bytes have is what the event asks for; a plan, a flip and a drop have none, and a copy has a segment alone
 abbrev Have : Event Rids Records → List ℕ → List ℕ → Type 0
 Have (Init name schema rows list segments) xs ys = (list_in xs ≡ Some list) × (segments_in ys ≡ map Some segments)
 Have (Commit cvd vid message parents rows fresh place added list segments) xs ys = (list_in xs ≡ Some list) × (segments_in ys ≡ map Some segments)
@@ -184,15 +186,61 @@ said_drop cvd (says.Base next) list segment is runs = absurd cc
 said_drop cvd (says.Whole set) list segment is runs = absurd cc
 said_drop cvd (says.Wide c v m columns ps r f p a l s) list segment is runs = absurd cc
 
+said_plan : (cvd p q : ℕ) (targets : List PlanTarget) (e : raw.Event) (list segment : List ℕ) → content (event_in e) list segment ≡ Plan cvd p q targets → HasRuns e list segment
+    → IsSaid (Plan cvd p q targets) e list segment
+said_plan cvd p q targets (says.Init n s r l t) list segment is runs = absurd cc
+said_plan cvd p q targets (says.Commit c v m ps r f place a l s) list segment is runs = absurd cc
+said_plan cvd p q targets (says.Plan c a b ts) list segment is runs =
+    let cvd_is : c ≡ cvd = cc
+    in let p_is : a ≡ p = cc
+    in let q_is : b ≡ q = cc
+    in let targets_are : ts ≡ targets = cc
+    in record { event = λ i. says.Plan (cvd_is i) (p_is i) (q_is i) (targets_are i); have = runs }
+said_plan cvd p q targets (says.Copy c count run) list segment is runs = absurd cc
+said_plan cvd p q targets (says.Flip c) list segment is runs = absurd cc
+said_plan cvd p q targets (says.Drop c) list segment is runs = absurd cc
+said_plan cvd p q targets (says.Base next) list segment is runs = absurd cc
+said_plan cvd p q targets (says.Whole set) list segment is runs = absurd cc
+said_plan cvd p q targets (says.Wide c v m columns ps r f place a l s) list segment is runs = absurd cc
+
+said_copy : (cvd count : ℕ) (segments : List Records) (e : raw.Event) (list segment : List ℕ) → content (event_in e) list segment ≡ asked_as (Copy cvd count segments)
+    → IsSized e list segment → HasRuns e list segment → IsSaid (Copy cvd count segments) e list segment
+said_copy cvd count segments (says.Init n s r l t) list segment is sized runs = absurd cc
+said_copy cvd count segments (says.Commit c v m ps r f place a l s) list segment is sized runs = absurd cc
+said_copy cvd count segments (says.Plan c p q targets) list segment is sized runs = absurd cc
+said_copy cvd count segments (says.Copy c n run) list segment is sized runs =
+    let cvd_is : c ≡ cvd = cc
+    in let count_is : n ≡ count = cc
+    in let segment_has : segments_in segment ≡ map Some segments = cc
+    in record { event = sym sized ∙ (λ i. says.Copy (cvd_is i) (count_is i) (extent_at 0 segment)); have = (runs, segment_has) }
+said_copy cvd count segments (says.Flip c) list segment is sized runs = absurd cc
+said_copy cvd count segments (says.Drop c) list segment is sized runs = absurd cc
+said_copy cvd count segments (says.Base next) list segment is sized runs = absurd cc
+said_copy cvd count segments (says.Whole set) list segment is sized runs = absurd cc
+said_copy cvd count segments (says.Wide c v m columns ps r f place a l s) list segment is sized runs = absurd cc
+
+said_flip : (cvd : ℕ) (e : raw.Event) (list segment : List ℕ) → content (event_in e) list segment ≡ Flip cvd → HasRuns e list segment → IsSaid (Flip cvd) e list segment
+said_flip cvd (says.Init n s r l t) list segment is runs = absurd cc
+said_flip cvd (says.Commit c v m ps r f p a l s) list segment is runs = absurd cc
+said_flip cvd (says.Plan c p q targets) list segment is runs = absurd cc
+said_flip cvd (says.Copy c count run) list segment is runs = absurd cc
+said_flip cvd (says.Flip c) list segment is runs =
+    let cvd_is : c ≡ cvd = cc
+    in record { event = λ i. says.Flip (cvd_is i); have = runs }
+said_flip cvd (says.Drop c) list segment is runs = absurd cc
+said_flip cvd (says.Base next) list segment is runs = absurd cc
+said_flip cvd (says.Whole set) list segment is runs = absurd cc
+said_flip cvd (says.Wide c v m columns ps r f p a l s) list segment is runs = absurd cc
+
 said : (x : Event Rids Records) → IsOwn x → (e : raw.Event) (list segment : List ℕ) → content (event_in e) list segment ≡ asked_as x → IsSized e list segment
     → HasRuns e list segment → IsSaid x e list segment
 said (Init name schema rows rids segments) own e list segment is sized runs = said_init name schema rows rids segments e list segment is sized
 said (Commit cvd vid message parents rows fresh place added rids segments) own e list segment is sized runs =
     said_commit cvd vid message parents rows fresh place added rids segments e list segment is sized
 said (Drop cvd) own e list segment is sized runs = said_drop cvd e list segment is runs
-said (Plan cvd p q targets) own e list segment is sized runs = absurd own
-said (Copy cvd count segments) own e list segment is sized runs = absurd own
-said (Flip cvd) own e list segment is sized runs = absurd own
+said (Plan cvd p q targets) own e list segment is sized runs = said_plan cvd p q targets e list segment is runs
+said (Copy cvd count segments) own e list segment is sized runs = said_copy cvd count segments e list segment is sized runs
+said (Flip cvd) own e list segment is sized runs = said_flip cvd e list segment is runs
 said (Base next) own e list segment is sized runs = absurd own
 said (Whole d) own e list segment is sized runs = absurd own
 said (Wide cvd vid message columns parents rows fresh place added rids segments) own e list segment is sized runs = absurd own
@@ -219,13 +267,23 @@ own_commit : (w : World) (cvd : ℕ) (parents message : List ℕ) (rows : List R
 own_commit w cvd parents message rows None fits x is = absurd fits
 own_commit w cvd parents message rows (Some d) fits x is = subst IsOwn (some_same (commit_event cvd d (version_of parents message rows)) x is) tt
 
+own_in : (f : Dataset → Option (Event Rids Records)) (found : Option Dataset) → ((d : Dataset) (x : Event Rids Records) → f d ≡ Some x → IsOwn x)
+    → (x : Event Rids Records) → in_set f found ≡ Some x → IsOwn x
+own_in f None own x is = absurd cc
+own_in f (Some d) own x is = own d x is
+
+own_copy : (cvd : ℕ) (d : Dataset) (plan : Option worlds.Plan) (x : Event Rids Records) → copy_for cvd d plan ≡ Some x → IsOwn x
+own_copy cvd d None x is = absurd cc
+own_copy cvd d (Some plan) x is = subst IsOwn (some_same (copy_event cvd d plan) x is) tt
+
 own_event : (m : Move) (w : World) → Fits m w → (x : Event Rids Records) → event_of m w ≡ Some x → IsOwn x
 own_event (InitMove name schema rows) w fits x is = subst IsOwn (some_same (init_event name (version_of [] (codes "init") rows) schema) x is) tt
 own_event (CommitMove cvd parents message [] rows) w fits x is = own_commit w cvd parents message rows (first_set (numbered cvd) w.sets) fits x is
 own_event (CommitMove cvd parents message (column ∷ added) rows) w fits x is = absurd fits
-own_event (BeginPlan cvd p q) w fits x is = absurd fits
-own_event (CopyMove cvd) w fits x is = absurd fits
-own_event (FlipMove cvd) w fits x is = absurd fits
+own_event (BeginPlan cvd p q) w fits x is =
+    own_in (λ d. Some (plan_event cvd p q d)) (first_set (numbered cvd) w.sets) (λ d y said_. subst IsOwn (some_same (plan_event cvd p q d) y said_) tt) x is
+own_event (CopyMove cvd) w fits x is = own_in (λ d. copy_for cvd d d.plan) (first_set (numbered cvd) w.sets) (λ d y said_. own_copy cvd d d.plan y said_) x is
+own_event (FlipMove cvd) w fits x is = subst IsOwn (some_same (Flip cvd) x is) tt
 own_event (DropMove cvd) w fits x is = subst IsOwn (some_same (Drop cvd) x is) tt
 own_event Checkpoint w fits x is = absurd fits
 

@@ -1,4 +1,7 @@
 pub mod Found
+pub mod IdleMoves
+pub mod IdleDeeds
+pub mod IdleForms
 pub mod Steps
 pub mod Doing
 pub mod Lines

@@ -1,39 +1,27 @@
--- Where moves that fit lead to a World, no plan runs, and so no step follows a reply.
-use Rattle.std.proofs.Common.{◌≡◌, ℕ, zero, suc, List, [], ◌∷◌, ◌++◌, None, refl, ◌∙◌, ap, subst, sym, append-nil}
+-- Where no step is taken, none follows a reply.
+use Rattle.std.proofs.Common.{◌≡◌, inl, inr, ℕ, zero, suc, List, ◌++◌, None, refl, ◌∙◌, ap, subst, sym, append-nil}
 use Rattle.std.specs.Prelude.{Option}
-use Rattle.ov_host.specs.Host.{State}
-use Rattle.ov_model.specs.Act.{Session}
-use Rattle.ov_model.specs.Course.{Served, Space, and_steps, nothing, step_by, steps}
+use Rattle.ov_model.specs.Course.{Served, Space, and_steps, nothing, steps}
 use Rattle.ov_model.specs.Moves.{Move}
-use Rattle.ov_model.specs.Steps.{first_step, next_step, step_or}
-use Rattle.ov_model.specs.World.{Dataset, Plan, World}
-use Rattle.ov_catalog.proofs.Good.{AreKnown, good}
-use Rattle.ov_core.specs.AtWorld.{IsAtWorld}
-use Rattle.ov_core.specs.Held.{Held}
+use Rattle.ov_model.specs.Steps.{next_step}
+use Rattle.ov_model.specs.World.{World}
+use Rattle.law_runs.specs.Idle.{TakesNone}
+use Rattle.law_runs.proofs.IdleForms.{none_taken}
 use Rattle.law_room.specs.Room.{Entry, Made}
 use Rattle.law_runs.specs.Licence.{LicensedStep, LicensedSteps}
 
-no_step : (sets : List Dataset) → AreKnown sets → first_step sets ≡ None
-no_step [] known = refl
-no_step (d ∷ sets) known = ap (λ (plan : Option Plan). step_or d plan (first_step sets)) known.0.plan ∙ no_step sets known.1
+idle_is_licensed : (n : ℕ) (entry : Entry) (before : List Made) (w : World) (space : Space) → next_step w ≡ None → LicensedSteps n entry before w space
+idle_is_licensed zero entry before w space none = tt
+idle_is_licensed (suc n) entry before w space none =
+    subst (λ (next : Option Move). LicensedStep (LicensedSteps n entry) entry before w space next) (sym none) tt
 
--- no plan runs in a World that a store is at
-pub no_plan : (w : World) (held : Held) (s : State) → IsAtWorld w held s → next_step w ≡ None
-no_plan w held s at = no_step w.sets (good w at.stands.stands.reached).known
-
-module _ (w : World) (none : next_step w ≡ None) where
-  pub no_steps : (n : ℕ) (s : Session) (space : Space) → steps n s w space ≡ nothing w s space
-  no_steps zero s space = refl
-  no_steps (suc n) s space = ap (λ (next : Option Move). step_by (steps n s) w s space next) none
-
-  -- whatever room there is
-  pub steps_are_licensed : (n : ℕ) (entry : Entry) (before : List Made) (space : Space) → LicensedSteps n entry before w space
-  steps_are_licensed zero entry before space = tt
-  steps_are_licensed (suc n) entry before space =
-      subst (λ (next : Option Move). LicensedStep (LicensedSteps n entry) entry before w space next) (sym none) tt
+-- whatever room there is
+pub steps_are_licensed : (n : ℕ) (entry : Entry) (before : List Made) (w : World) (space : Space) → TakesNone n w → LicensedSteps n entry before w space
+steps_are_licensed n entry before w space (inl zero_is) = subst (λ k. LicensedSteps k entry before w space) (sym zero_is) tt
+steps_are_licensed n entry before w space (inr none) = idle_is_licensed n entry before w space none
 
 -- what was served is all
-pub and_no_steps : (n : ℕ) (done : Served) → next_step done.world ≡ None → and_steps n done ≡ done
+pub and_no_steps : (n : ℕ) (done : Served) → TakesNone n done.world → and_steps n done ≡ done
 and_no_steps n done none =
-    ap (λ (more : Served). record more { items = done.items ++ more.items }) (no_steps done.world none n done.session done.left)
+    ap (λ (more : Served). record more { items = done.items ++ more.items }) (none_taken n done.world done.session done.left none)
     ∙ (λ i. record done { items = append-nil done.items i })

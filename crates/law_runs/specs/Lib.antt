@@ -1,3 +1,4 @@
 pub mod Licence
 pub mod Stops
+pub mod Idle
 pub mod Serving

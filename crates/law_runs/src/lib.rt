@@ -5,6 +5,8 @@
 //! which the program's parts are put together.
 #![tactic(auto)]
 
+mod idle;
 mod laws;
 
+pub use idle::a_plan_begins_by_optimize_alone;
 pub use laws::{a_stop_is_found_between_due_replies, any_stop_of_a_run_leaves_what_is_due};

@@ -171,7 +171,6 @@ module _ (a : Asked) (w : World) (ds : Dataset) (area : List ℕ) (asked : IsAsk
     place_asked =
         let shows = asked.of_world.shows
         in let edge : ℕ × ℕ = moves.tree_edge_of ds (version_in a)
-        in let none : ds.plan ≡ None = (found_known a.set.number ds w.sets (good w asked.of_world.reached).known asked.of_world.among).plan
         in let facts : facts_of a.set edge ≡ facts_of (shown_set ds) edge =
         sym (facts_each (readings_of area).list (readings_of area).segment a.set edge)
         ∙ ap (λ s. facts_of s edge) shows
@@ -179,7 +178,7 @@ module _ (a : Asked) (w : World) (ds : Dataset) (area : List ℕ) (asked : IsAsk
         in is.place_is
         ∙ ap (λ e. placed (facts_of a.set e)) tree_edge
         ∙ ap placed facts
-        ∙ sym (same_place (moves.placed_at ds (version_in a)) (placed (facts_of (shown_set ds) edge)) (place_shown ds (version_in a) none))
+        ∙ sym (same_place (moves.placed_at ds (version_in a)) (placed (facts_of (shown_set ds) edge)) (place_shown ds (version_in a)))
 
     pub is_next : (vid : ℕ) (held : List ℕ) → vid ≡ length a.set.versions + 1 → IsPlaceThere a.set place → IsReadOf a.set area (part_at a.set place) held
         → IsNext ds (version_in a) vid made place held

@@ -8,7 +8,7 @@ use Rattle.ov_host.specs.declared.area.Extent.{Extent}
 use Rattle.ov_layout.specs.Changes.{extents_of}
 use Rattle.ov_pages.specs.Live.{is_too_high, too_high_page}
 use Rattle.ov_catalog.specs.Applying.{AllApply, is_built_event, is_extent, is_list, is_same, is_segment}
-use Rattle.ov_catalog.specs.Events.{Init, Commit, each_event, applied, replayed}
+use Rattle.ov_catalog.specs.Events.{Init, Commit, Copy, each_event, applied, replayed}
 use Rattle.ov_catalog.specs.Extents.{of_plan, of_set, live}
 use Rattle.ov_catalog.specs.Numbers.{VersionNumbers, PartNumbers, PlanNumbers, SetNumbers, Numbers, each_version, each_part, each_plan, each_set, each, nothing_yet}
 use Rattle.ov_catalog.specs.Raw.{event_in, place_in, shape_in}
@@ -104,9 +104,9 @@ event_same (says.Init name schema rows list segment) built sound = λ i.
 event_same (says.Commit cvd vid message parents rows fresh place added list segment) built sound = λ i.
     Commit cvd vid message parents rows fresh (place_in place) added (lowered_same list (list_low rows list sound.0) i) (segments_same segment (segment_low added segment sound.1) i)
 event_same (says.Drop cvd) built sound = refl
-event_same (says.Plan cvd p q targets) built sound = absurd cc
-event_same (says.Copy cvd count segment) built sound = absurd cc
-event_same (says.Flip cvd) built sound = absurd cc
+event_same (says.Plan cvd p q targets) built sound = refl
+event_same (says.Copy cvd count segment) built sound = ap (Copy cvd count) (segments_same segment (extent_low segment sound.1))
+event_same (says.Flip cvd) built sound = refl
 event_same (says.Base next) built sound = absurd cc
 event_same (says.Whole said) built sound = absurd cc
 event_same (says.Wide cvd vid message columns parents rows fresh place added list segment) built sound = absurd cc

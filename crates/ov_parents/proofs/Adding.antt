@@ -1,6 +1,6 @@
 -- A dataset's number of records is the sum of what its versions brought.
 use Rattle.std.proofs.Common.{◌≡◌, ◌+◌, ℕ, Bool, true, false, List, [], ◌∷◌, ◌++◌, map, filter, sym, ◌∙◌, ap, inl, inr, arith}
-use Rattle.std.specs.Prelude.{None, not, if◌then◌else◌}
+use Rattle.std.specs.Prelude.{Option, None, Some, not, if◌then◌else◌}
 use Rattle.std.specs.List.{sum_by}
 use Rattle.std.proofs.lemmas.List.Sums.{sum_by_push, sum_by-take-le}
 use Rattle.ov_event.specs.declared.event.Event as raw
@@ -10,8 +10,8 @@ use Rattle.ov_layout.specs.Changes.{extents_of}
 use Rattle.ov_place.specs.declared.place_facts.Place.{Place}
 use Rattle.ov_model.specs.Lists.{IsIn}
 use Rattle.ov_catalog.specs.Applying.{AllApply, first_off}
-use Rattle.ov_catalog.specs.Events.{numbered, version_of, with_version, change, applied, replayed}
-use Rattle.ov_catalog.specs.Numbers.{VersionNumbers, nothing_yet}
+use Rattle.ov_catalog.specs.Events.{copied_more, flipped, flipped_by, numbered, planned, version_of, with_version, change, applied, replayed}
+use Rattle.ov_catalog.specs.Numbers.{PlanNumbers, VersionNumbers, nothing_yet}
 use Rattle.ov_catalog.specs.Numbers.{Numbers as Catalog}
 use Rattle.ov_catalog.specs.Raw.{place_in, event_in, numbers_in}
 use Rattle.ov_read.specs.Agreement.{Numbers}
@@ -47,15 +47,19 @@ sums_changed cvd f keeps (s ∷ sets) all = by (numbered cvd s) (sums_changed cv
     by true rest = (keeps s all.0, all.1)
     by false rest = (all.0, rest)
 
+flipped_sum : (s : Numbers) (plan : Option (PlanNumbers Extent)) → IsSum s → IsSum (flipped_by plan s)
+flipped_sum s None is = is
+flipped_sum s (Some plan) is = is
+
 event_sums : (e : raw.Event) (n : Catalog Extent Extent) → first_off e n ≡ None → AreSums n.sets → AreSums (applied (event_in e) n).sets
 event_sums (says.Init name s rows list segment) n applies all = sums_last n.sets _ all (omega arith)
 event_sums (says.Commit cvd vid message parents rows fresh place added list segment) n applies all =
     sums_changed cvd (with_version (version_of parents message rows fresh list) (place_in place) added (extents_of segment))
     (sum_more (version_of parents message rows fresh list) (place_in place) added (extents_of segment)) n.sets all
 event_sums (says.Drop cvd) n applies all = sums_left (λ s. not (numbered cvd s)) n.sets all
-event_sums (says.Plan cvd p q targets) n applies all = absurd cc
-event_sums (says.Copy cvd count segment) n applies all = absurd cc
-event_sums (says.Flip cvd) n applies all = absurd cc
+event_sums (says.Plan cvd p q targets) n applies all = sums_changed cvd (planned p q targets) (λ s is. is) n.sets all
+event_sums (says.Copy cvd count segment) n applies all = sums_changed cvd (copied_more count (extents_of segment)) (λ s is. is) n.sets all
+event_sums (says.Flip cvd) n applies all = sums_changed cvd flipped (λ s is. flipped_sum s s.plan is) n.sets all
 event_sums (says.Base next) n applies all = absurd cc
 event_sums (says.Whole said) n applies all = absurd cc
 event_sums (says.Wide cvd vid message columns parents rows fresh place added list segment) n applies all = absurd cc

@@ -13,6 +13,7 @@ ghost use Rattle.ov_model.specs.World.{World};
 ghost use Rattle.ov_value.specs.Naming.{is_name};
 ghost use Rattle.ov_core.specs.AtWorld.{IsAtWorld};
 ghost use Rattle.ov_core.specs.Held.{IsByJournal};
+ghost use Rattle.law_runs.specs.Idle.{TakesNone};
 ghost use Rattle.law_runs.specs.Serving.{Serves, is_error as is_error_of, session_of};
 ghost use Rattle.ov_store.specs.Kept.{Kept, MayCall};
 ghost use Rattle.ov_session.specs.Asking.{line_asked};
@@ -161,8 +162,8 @@ fn say<H: Host>(alloc: Global, host: &mut H, reply: Reply) -> Result<Served, End
 
 /// Serves a line: does what it asks, and prints its one reply; a comment has none.
 ///
-/// Migration steps are taken after a command where a plan runs. No plan can run yet, so there are none to take, whatever their
-/// number. The user is the one that the line acts as.
+/// Migration steps after a command aren't taken yet, and no command begins a plan. So what the line does and says is promised
+/// where none is asked for, or where no plan runs. The user is the one that the line acts as.
 pub fn serve<H: Host, T: Stage>(
     alloc: Global,
     store: &mut Store,
@@ -199,11 +200,11 @@ pub fn serve<H: Host, T: Stage>(
     ensures comment { IfOk result (λ served. is_comment_of served ≡ is_comment_in (line_asked user.old line.now)) }
     ensures replied { IfOk result (λ served. IsReplied (line_asked user.old line.now) served store.old.held
         (T.staged stage.old) (T.staged stage.new) (H.state host.old) (H.state host.new)) }
-    ensures serves { (w : World) → (T.staged stage.old).tells ≡ true → IsAtWorld w store.old.held (H.state host.old)
+    ensures serves { (w : World) → TakesNone steps w → (T.staged stage.old).tells ≡ true → IsAtWorld w store.old.held (H.state host.old)
         → Serves steps w (session_of (T.staged stage.old).files user.old) (session_of (T.staged stage.new).files user.new) line.now
         (is_ok result) (is_refused result) store.old.held store.new.held (H.state host.old) (H.state host.new) }
 {
-    // No plan can run yet, so no step is taken, and the user stays.
+    // No step is taken yet, and the user stays.
     let _ = steps;
     match asked(alloc, line, user) {
         Ok(None) => Ok(Served::Comment),

@@ -1,6 +1,6 @@
 -- The datasets of numbers that events make have different numbers.
 use Rattle.std.proofs.Common.{◌≡◌, ◌≢◌, ◌==◌, ◌+◌, ◌<◌, ℕ, Bool, true, false, not, List, [], ◌∷◌, ◌++◌, map, refl, sym, ◌∙◌, ap, subst, inl, inr, arith}
-use Rattle.std.specs.Prelude.{Some, None, find, filter, if◌then◌else◌}
+use Rattle.std.specs.Prelude.{Option, Some, None, find, filter, if◌then◌else◌}
 use Rattle.std.proofs.lemmas.Bool.{eq-eqb, ne_eqb}
 use Rattle.ov_host.specs.declared.area.Extent.{Extent}
 use Rattle.ov_event.specs.declared.event.Event as raw
@@ -8,8 +8,8 @@ use Rattle.ov_event.specs.declared.event.Event.TheVariants as says
 use Rattle.ov_layout.specs.Changes.{extents_of}
 use Rattle.ov_model.specs.Lists.{IsIn}
 use Rattle.ov_catalog.specs.Applying.{AllApply, first_off, is_named}
-use Rattle.ov_catalog.specs.Events.{applied, change, new_set, numbered, replayed, version_of, with_version}
-use Rattle.ov_catalog.specs.Numbers.{SetNumbers, Numbers, nothing_yet}
+use Rattle.ov_catalog.specs.Events.{applied, change, copied_more, flipped, flipped_by, new_set, numbered, planned, replayed, version_of, with_version}
+use Rattle.ov_catalog.specs.Numbers.{PlanNumbers, SetNumbers, Numbers, nothing_yet}
 use Rattle.ov_catalog.specs.Raw.{event_in, numbers_in, place_in, shape_in}
 
 abbrev Set : Type 0
@@ -101,6 +101,10 @@ module _ (test : Set → Bool) where
 
 -- ---- all events
 
+flipped_numbered : (d : Set) (plan : Option (PlanNumbers Extent)) → (flipped_by plan d).number ≡ d.number
+flipped_numbered d None = refl
+flipped_numbered d (Some plan) = refl
+
 one_numbered : (e : raw.Event) (n : Numbers Extent Extent) → first_off e n ≡ None → AreNumbered n → AreNumbered (applied (event_in e) n)
 one_numbered (says.Init name schema rows list segment) n applies are =
     let new : Set = new_set n.next name (shape_in schema) rows list (extents_of segment)
@@ -110,9 +114,16 @@ one_numbered (says.Commit cvd vid message parents rows fresh place added list se
   distinct_changed cvd (with_version (version_of parents message rows fresh list) (place_in place) added (extents_of segment)) (λ d. refl) n.sets are.1,
 )
 one_numbered (says.Drop cvd) n applies are = (below_kept (λ d. not (numbered cvd d)) n.next n.sets are.0, distinct_kept (λ d. not (numbered cvd d)) n.sets are.1)
-one_numbered (says.Plan cvd p q targets) n applies are = absurd cc
-one_numbered (says.Copy cvd count segment) n applies are = absurd cc
-one_numbered (says.Flip cvd) n applies are = absurd cc
+one_numbered (says.Plan cvd p q targets) n applies are =
+    (below_changed cvd (planned p q targets) (λ d. refl) n.next n.sets are.0, distinct_changed cvd (planned p q targets) (λ d. refl) n.sets are.1)
+one_numbered (says.Copy cvd count segment) n applies are = (
+  below_changed cvd (copied_more count (extents_of segment)) (λ d. refl) n.next n.sets are.0,
+  distinct_changed cvd (copied_more count (extents_of segment)) (λ d. refl) n.sets are.1,
+)
+one_numbered (says.Flip cvd) n applies are = (
+  below_changed cvd flipped (λ d. flipped_numbered d d.plan) n.next n.sets are.0,
+  distinct_changed cvd flipped (λ d. flipped_numbered d d.plan) n.sets are.1,
+)
 one_numbered (says.Base next) n applies are = absurd cc
 one_numbered (says.Whole said) n applies are = absurd cc
 one_numbered (says.Wide cvd vid message columns parents rows fresh place added list segment) n applies are = absurd cc

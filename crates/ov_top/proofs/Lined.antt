@@ -27,6 +27,7 @@ use Rattle.law_runs.proofs.Due.{begun_where}
 use Rattle.law_runs.proofs.Runs.{halts_run, so_far_all, so_far_ends, so_far_halts, so_far_more, so_far_start}
 use Rattle.law_runs.specs.Serving as course
 use Rattle.law_runs.proofs.Lines.{line_leaves, line_licensed}
+use Rattle.law_runs.specs.Idle.{TakesNone}
 use Rattle.law_runs.specs.Serving.{Halts, Runs, Serves, SoFar, session_of}
 use Rattle.law_runs.specs.Licence.{Licensed, LicensedLine, made_by}
 use Rattle.law_runs.specs.Stops.{IsDue, IsFound, printed_of}
@@ -182,12 +183,12 @@ pub record Gone (steps : ℕ) (w : World) (s t : Session) (all left : List ℕ) 
   pub bytes : ended ≡ false → (front : List ℕ) × (all ≡ front ++ left) × ((text : List ℕ) → ended_lines (front ++ text) ≡ gone ++ ended_lines text)
   pub so : SoFar steps w s t gone failed before now old new
 
-pub gone_start : (steps : ℕ) (w : World) (s : Session) (all : List ℕ) (held : Held) (st : State) → IsAtWorld w held st → Gone steps w s s all all false false held held st st
-gone_start steps w s all held st at = record {
+pub gone_start : (steps : ℕ) (w : World) (s : Session) (all : List ℕ) (held : Held) (st : State) → TakesNone steps w → IsAtWorld w held st → Gone steps w s s all all false false held held st st
+gone_start steps w s all held st waits at = record {
   gone = [];
   whole = refl;
   bytes = λ open_. ([], refl, λ text. refl);
-  so = so_far_start steps w s held st at;
+  so = so_far_start steps w s held st waits at;
 }
 
 -- the bytes of a line more
@@ -256,8 +257,8 @@ gone_runs steps w s t all left ended failed before now old new so =
 -- ---- the lines of a run, at its ends
 
 -- it ends where it begins
-pub runs_start : (steps : ℕ) (w : World) (s : Session) (all : List ℕ) (held : Held) (st : State) → IsAtWorld w held st → Runs steps w s (lines_of all) held st st
-runs_start steps w s all held st at = gone_runs steps w s s all all false false held held st st (gone_start steps w s all held st at)
+pub runs_start : (steps : ℕ) (w : World) (s : Session) (all : List ℕ) (held : Held) (st : State) → TakesNone steps w → IsAtWorld w held st → Runs steps w s (lines_of all) held st st
+runs_start steps w s all held st waits at = gone_runs steps w s s all all false false held held st st (gone_start steps w s all held st waits at)
 
 -- it ends in reading the next line
 pub ends_reading : (steps : ℕ) (w : World) (s t : Session) (e : ReadErr) (reader : Taken) (left : List ℕ) (failed : Bool) (before now : Held) (old new : State) (script later : Script) (still : Type 0)

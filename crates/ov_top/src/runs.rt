@@ -11,6 +11,7 @@ ghost use Rattle.ov_catalog.specs.Numbers.{Numbers};
 ghost use Rattle.law_image.specs.Images.{StandsAs};
 ghost use Rattle.ov_core.specs.AtWorld.{IsAtWorld};
 ghost use Rattle.ov_core.specs.Held.{IsByJournal};
+ghost use Rattle.law_runs.specs.Idle.{TakesNone};
 ghost use Rattle.law_runs.specs.Serving.{session_of};
 ghost use Rattle.ov_open.specs.Opening.{IsWorld};
 ghost use Rattle.ov_session.specs.Commands.{Attended, Goes, is_refusal_of};
@@ -74,7 +75,7 @@ fn serve_all<H: Host, S: Source, T: Stage>(
     ensures too_long { IsErrOf result RunErr.TooLong → (S.script source.old).tells ≡ true
         → length (S.script source.old).left ≡ length (S.script source.new).left + 2 ^ 32 }
     ensures ended { (S.script source.old).tells ≡ true → IsOk result → IsReadWhole (S.script source.old) (S.script source.new) }
-    ensures served { (w : World) → (S.script source.old).tells ≡ true → (T.staged stage.old).tells ≡ true
+    ensures served { (w : World) → TakesNone steps w → (S.script source.old).tells ≡ true → (T.staged stage.old).tells ≡ true
         → IsAtWorld w store.held (H.state host.old) → AllServed steps w (session_of (T.staged stage.old).files (codes "admin"))
         (session_of (T.staged stage.new).files (codes "admin")) (lines_of (S.script source.old).left)
         (ended_lines (taken_of (S.script source.old) (S.script source.new))) (Rose (T.staged stage.old).faults (T.staged stage.new).faults → ⊥)
@@ -149,7 +150,7 @@ fn run_script<H: Host, S: Source, T: Stage>(
     ensures fetched { (numbers : Numbers Extent Extent) → (H.state host.old).tells ≡ true → OpensAs numbers (H.state host.old).tape.disk
         → (S.script source.old).tells ≡ true → AreReading (lines_of (S.script source.old).left)
         → (H.state host.new).fetched ≤ (H.state host.old).fetched + reads numbers (lines_of (S.script source.old).left) }
-    ensures plays { (w : World) → IsTold w (record { host = H.state host.old; script = S.script source.old; stage = T.staged stage.old })
+    ensures plays { (w : World) → TakesNone steps w → IsTold w (record { host = H.state host.old; script = S.script source.old; stage = T.staged stage.old })
         → Plays result steps w
         (record { host = H.state host.old; script = S.script source.old; stage = T.staged stage.old })
         (record { host = H.state host.new; script = S.script source.new; stage = T.staged stage.new }) }
@@ -165,6 +166,9 @@ fn run_script<H: Host, S: Source, T: Stage>(
 ///
 /// Each line that is no comment is one command, and has one reply, which is printed once what the command does is on the disk.
 /// `Usage` exactly where the words are off the form; then, and at want of memory for reading them, no end is called.
+///
+/// Migration steps aren't taken yet, and no command begins a plan. So what a run prints, and what a stop in it leaves, is promised
+/// where it is to take none, or where no plan runs when it begins.
 pub fn run<H: Host, S: Source, T: Stage>(
     alloc: Global,
     words: &[Txt],
@@ -184,7 +188,7 @@ pub fn run<H: Host, S: Source, T: Stage>(
     ensures fetched { (numbers : Numbers Extent Extent) → (H.state host.old).tells ≡ true → OpensAs numbers (H.state host.old).tape.disk
         → (S.script source.old).tells ≡ true → AreReading (lines_of (S.script source.old).left)
         → (H.state host.new).fetched ≤ (H.state host.old).fetched + reads numbers (lines_of (S.script source.old).left) }
-    ensures plays { (w : World) (o : List ℕ × ℕ) → options_of words.now ≡ Some o
+    ensures plays { (w : World) (o : List ℕ × ℕ) → options_of words.now ≡ Some o → TakesNone o.1 w
         → IsTold w (record { host = H.state host.old; script = S.script source.old; stage = T.staged stage.old })
         → Plays result o.1 w
         (record { host = H.state host.old; script = S.script source.old; stage = T.staged stage.old })

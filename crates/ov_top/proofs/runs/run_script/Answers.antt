@@ -9,14 +9,14 @@ use Rattle.ov_top.proofs.Opened.{by_opened, opens, opens_as, says_one}
 use Rattle.ov_top.proofs.runs.run_script.Goals as goal
 
 pub returns-in-Ok-clause-plays : goal.returns-in-Ok-clause-plays
-returns-in-Ok-clause-plays g c = λ w told.
+returns-in-Ok-clause-plays g c = λ w waits told.
     let at = c.in-Ok.ensures.world w told.host told.stands
     in plays_status c.args.steps w
     (record { host = g.H.Host.state c.args.host.now; script = g.S.Source.script c.args.source.now; stage = g.T.Stage.staged c.args.stage.now })
     (record { host = g.H.Host.state c.open.new.host; script = g.S.Source.script c.args.source.now; stage = g.T.Stage.staged c.args.stage.now })
     (record { host = g.H.Host.state c.serve_all.new.host; script = g.S.Source.script c.serve_all.new.source; stage = g.T.Stage.staged c.serve_all.new.stage })
     told c.in-Ok.store.held (c.in-Ok.ensures.answer told.host) at (c.open.ensures.stops w told.host told.settled told.stands) refl refl
-    c.status_of.result c.serve_all.result c.status_of.ensures (c.serve_all.ensures.served w told.script told.stage at)
+    c.status_of.result c.serve_all.result c.status_of.ensures (c.serve_all.ensures.served w waits told.script told.stage at)
 
 pub returns-in-Ok-clause-cause : goal.returns-in-Ok-clause-cause
 returns-in-Ok-clause-cause g c = λ words are.
@@ -63,7 +63,7 @@ returns-in-Err-clause-cause g c = λ words are.
     c.status_unopened.ensures are (λ is. c.in-Err.ensures.cause (λ i. Err (is i))) (λ told. c.in-Err.ensures.answer told) refl refl
 
 pub returns-in-Err-clause-plays : goal.returns-in-Err-clause-plays
-returns-in-Err-clause-plays g c = λ w told.
+returns-in-Err-clause-plays g c = λ w waits told.
     plays_unopened c.args.steps w
     (record { host = g.H.Host.state c.args.host.now; script = g.S.Source.script c.args.source.now; stage = g.T.Stage.staged c.args.stage.now })
     (record { host = g.H.Host.state c.open.new.host; script = g.S.Source.script c.args.source.now; stage = g.T.Stage.staged c.args.stage.now })

@@ -1,5 +1,6 @@
 use Rattle.std.proofs.Common.{◌≡◌, ◌≤◌, ◌+◌, ℕ, List, ◌++◌, true, length, codes}
 use Rattle.ov_core.specs.AtWorld.{IsAtWorld}
+use Rattle.law_runs.specs.Idle.{TakesNone}
 use Rattle.law_runs.specs.Serving.{session_of}
 use Rattle.ov_core.specs.Held.{IsByJournal}
 use Rattle.ov_model.specs.Words.{lines_of}
@@ -26,7 +27,7 @@ invariant-lines g l =
       counted : (script l.fn.source).tells ≡ true → length (script l.fn.source).left ≡ length (script l.source).left + l.reader.count;
       call : MayCall l.store (state l.host);
       user : l.user ≡ codes "admin";
-      so_far : (w : World) → (script l.fn.source).tells ≡ true → (staged l.fn.stage).tells ≡ true → IsAtWorld w l.fn.store.held (state l.fn.host)
+      so_far : (w : World) → TakesNone l.fn.steps w → (script l.fn.source).tells ≡ true → (staged l.fn.stage).tells ≡ true → IsAtWorld w l.fn.store.held (state l.fn.host)
           → Gone l.fn.steps w (session_of (staged l.fn.stage).files (codes "admin")) (session_of (staged l.stage).files (codes "admin"))
           (script l.fn.source).left (left_of l.reader (script l.source)) l.reader.ended l.failed l.fn.store.held l.store.held (state l.fn.host) (state l.host);
       lined : (script l.fn.source).tells ≡ true
