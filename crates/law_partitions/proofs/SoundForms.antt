@@ -167,3 +167,34 @@ built_are = (
     ),
   ),
 )
+
+-- ---- the forms that are served: a query of another shape is refused
+
+if_text : (t : Bool) (text : List ℕ) → MadeNames (if t then Ok (asks.Run text) else Err no.NotAQuery)
+if_text true text = tt
+if_text false text = tt
+
+if_names : (command : Command) → NamesVersions command → MadeNames (if_built command)
+if_names (asks.Run text) names = if_text (is_built_shape (asked_of text)) text
+if_names command names = names
+
+shaped_names : (made : Result Command Refusal) → MadeNames made → MadeNames (made_if_built made)
+shaped_names (Ok command) names = if_names command names
+shaped_names (Err refusal) names = tt
+
+served_is : (f : Form) → IsForm f → IsForm (served_form f)
+served_is f is = record {
+  reads = is.reads;
+  makes = λ v none good. shaped_names (f.make v) (is.makes v none good);
+  whole = λ e v. shaped_names (f.make v) (is.whole e v);
+}
+
+served_are : (fs : List Form) → AreForms fs → AreForms (map served_form fs)
+served_are [] are = tt
+served_are (f ∷ fs) are = (served_is f are.0, served_are fs are.1)
+
+pub all_name : (lines : List (List ℕ)) → AllNameVersions all_forms lines
+all_name lines = lines_name all_forms lines all_are
+
+pub served_name : (lines : List (List ℕ)) → AllNameVersions served_forms lines
+served_name lines = lines_name served_forms lines (served_are built_forms built_are)
