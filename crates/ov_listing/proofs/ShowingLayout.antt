@@ -104,6 +104,17 @@ copied_told : (d : Dataset) (plan : Option worlds.Plan) → copied_in (shown_pla
 copied_told d None = refl
 copied_told d (Some plan) = refl
 
+-- the numbers of a plan
+abbrev numbers_of : Dataset → worlds.Plan → PlanNumbers Records
+numbers_of d plan = record {
+  p = plan.p;
+  q = plan.q;
+  targets = map (shown_target d) plan.targets;
+  at = plan.at;
+  copied = length (joined plan.copied);
+  segments = map (segment_of (order_of d.cvd.versions)) plan.copied;
+}
+
 module _ (w : World) (d : Dataset) (reached : Reached w) (here : IsIn w.sets d) where
   plan_told : (plan : Option worlds.Plan) → d.plan ≡ plan → option_map plan_line (shown_plan d plan) ≡ plan_shown d plan
   plan_told None is = refl
@@ -113,7 +124,7 @@ module _ (w : World) (d : Dataset) (reached : Reached w) (here : IsIn w.sets d) 
     target = plan.at + 1;
     targets = length-map plan.targets (shown_target d) i;
     copied = copied_records (sym is i);
-    size = wanted w d plan reached here is i;
+    size = wanted w d plan (numbers_of d plan) reached here is (ap (shown_plan d) is) i;
     steps = (ap (λ o. plan_steps (shown_plan d o)) (sym is) ∙ steps w d reached here) i;
   })
 
