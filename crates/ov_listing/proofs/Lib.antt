@@ -1,3 +1,2 @@
-pub mod Awaited
 pub mod Showing
 pub mod ShowingLayout

@@ -27,9 +27,10 @@ use Rattle.ov_catalog.specs.Shown.{Rids, Records, shown_part, shown_plan, shown_
 use Rattle.ov_catalog.specs.Stands.{Readings, asked, seen}
 use Rattle.ov_catalog.specs.Steps.{plan_steps}
 use Rattle.ov_catalog.specs.Testing.{copied_in, stored}
+use Rattle.ov_catalog.proofs.Migrating.{plan_numbers}
 use Rattle.law_partitions.proofs.CourseNumbers.{named_in}
+use Rattle.law_events.proofs.Left.{plan_left, plan_wanted}
 use Rattle.ov_listing.specs.Listed.{part_line, plan_line, cost, shown_layout}
-use Rattle.ov_listing.proofs.Awaited.{steps, wanted}
 use Rattle.ov_listing.proofs.Showing.{found_same, set_asked, set_seen, sets_same}
 
 -- ---- the partitions that the code keeps
@@ -104,17 +105,6 @@ copied_told : (d : Dataset) (plan : Option worlds.Plan) → copied_in (shown_pla
 copied_told d None = refl
 copied_told d (Some plan) = refl
 
--- the numbers of a plan
-abbrev numbers_of : Dataset → worlds.Plan → PlanNumbers Records
-numbers_of d plan = record {
-  p = plan.p;
-  q = plan.q;
-  targets = map (shown_target d) plan.targets;
-  at = plan.at;
-  copied = length (joined plan.copied);
-  segments = map (segment_of (order_of d.cvd.versions)) plan.copied;
-}
-
 module _ (w : World) (d : Dataset) (reached : Reached w) (here : IsIn w.sets d) where
   plan_told : (plan : Option worlds.Plan) → d.plan ≡ plan → option_map plan_line (shown_plan d plan) ≡ plan_shown d plan
   plan_told None is = refl
@@ -124,8 +114,8 @@ module _ (w : World) (d : Dataset) (reached : Reached w) (here : IsIn w.sets d) 
     target = plan.at + 1;
     targets = length-map plan.targets (shown_target d) i;
     copied = copied_records (sym is i);
-    size = wanted w d plan (numbers_of d plan) reached here is (ap (shown_plan d) is) i;
-    steps = (ap (λ o. plan_steps (shown_plan d o)) (sym is) ∙ steps w d reached here) i;
+    size = plan_wanted w d plan (plan_numbers d plan) reached here is (ap (shown_plan d) is) i;
+    steps = (ap (λ o. plan_steps (shown_plan d o)) (sym is) ∙ plan_left w d reached here) i;
   })
 
   layout_told : shown_layout (shown_set d) ≡ says.Layout (map part_shown d.parts) (plan_shown d d.plan) (worlds.stored d) (worlds.cost d)

@@ -28,7 +28,7 @@ use Rattle.ov_model.specs.declared.refusal.Refusal.{Refusal}
 use Rattle.ov_model.specs.declared.refusal.Refusal.TheVariants as no
 use Rattle.ov_model.specs.declared.reply.Reply.{Reply}
 use Rattle.ov_model.specs.declared.reply.Reply.TheVariants as says
-use Rattle.ov_session.specs.Commands.{Acts, IsMergeOf}
+use Rattle.ov_session.specs.Commands.{Acts, IfNoFile, IsMergeOf}
 use Rattle.ov_session.specs.Errors.{reply_of}
 use Rattle.ov_session.specs.declared.errors.EndErr.{EndErr}
 use Rattle.ov_session.proofs.Calls.{acts_by}
@@ -200,6 +200,13 @@ module _ (w : World) (held : Held) (old new : State) (at : IsAtWorld w held old)
   checkout_off result e is said = acts_by asked_for s s w result name e held held old new said (λ r now. checkout_refused e r is now) checkout_stopped
 
 -- ---- the partitions and the versions of a dataset, and the datasets
+
+-- a layout is no refusal
+pub is_layout : (set : SetNumbers Extent Extent) (reply : Reply) → reply ≡ shown_layout set → IfNoFile ⊥ reply
+is_layout set reply is = λ name refused. other (sym refused ∙ is)
+  where
+    other : {name : List ℕ} → says.Refused (no.NoFile name) ≡ shown_layout set → ⊥
+    other e = cc
 
 module _ (w : World) (held : Held) (t : State) (at : IsAtWorld w held t) where
   pub layout_told : (s : Session) (name : List ℕ) (set : SetNumbers Extent Extent) → set_in held.numbers name ≡ Some set
