@@ -27,3 +27,4 @@ pub mod PlanParts
 pub mod SoundForms
 pub mod SoundLines
 pub mod SoundMoves
+pub mod SourceMoves

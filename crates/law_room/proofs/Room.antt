@@ -23,6 +23,7 @@ use Rattle.ov_core.specs.declared.brought.Brought.{Brought}
 use Rattle.ov_core.specs.Brought.{Brings, BringsRuns, IsUnplaced, with_extents}
 use Rattle.ov_core.specs.Held.{Held}
 use Rattle.ov_core.specs.Rooms.{HasNone, IsDropped, IsFree, IsFull, IsMade, IsRun, PassesJournal, pages_for}
+use Rattle.ov_core.proofs.Keeping.{apart_placed}
 use Rattle.ov_core.proofs.Ranges.{brought_placed, has_high, has_low}
 use Rattle.law_room.specs.Room.{Entry, HasRuns, IsWithin, LacksRecord, LacksRun, Made, Take, Takes, Writes, checkpoints, is_checkpoint}
 
@@ -249,7 +250,7 @@ within_made entry before old new m w b within unplaced brings made grows same = 
         in let come : covers (brought (event_in e)) page ≡ covers (made.l ∷ extents_of made.s) page = ap (λ (es : List Extent). covers es page) (brought_placed made.l made.s b.event unplaced.runs)
         in omega (
           arith,
-          all_below page (omega (arith, some, now, come, live_applied page e old.numbers (built_placed made.l made.s b.event unplaced.runs), brought_covers made.l made.s page)),
+          all_below page (omega (arith, some, now, come, live_applied page e old.numbers (built_placed made.l made.s b.event unplaced.runs) (apart_placed made.l made.s b.event old.numbers unplaced.runs), brought_covers made.l made.s page)),
         )
 
 pub within_dropped : (entry : Entry) (before : List Made) (old new : Held) (cvd : ℕ) (w : World)
@@ -269,4 +270,4 @@ within_dropped entry before old new cvd w within dropped grows same = record {
     below_now : AreBelow (live new.numbers) (entry.pages + (within.pages + 0))
     below_now page some =
         let now : covers (live new.numbers) page ≡ covers (live (applied (event_in (says.Drop cvd)) old.numbers)) page = ap (λ (n : Numbers Extent Extent). covers (live n) page) dropped.applied_is
-        in omega (arith, within.below page (omega (arith, some, now, live_applied page (says.Drop cvd) old.numbers refl)))
+        in omega (arith, within.below page (omega (arith, some, now, live_applied page (says.Drop cvd) old.numbers refl tt)))

@@ -12,15 +12,33 @@ use Rattle.ov_place.specs.declared.place_facts.Place.{Place}
 use Rattle.ov_place.specs.declared.place_facts.Place.TheVariants.{Own, Join}
 use Rattle.ov_catalog.specs.declared.field.Field.{Field}
 use Rattle.ov_catalog.specs.declared.field.Field.TheVariants as field
-use Rattle.ov_catalog.specs.Numbers.{VersionNumbers, PartNumbers, SetNumbers, Numbers}
-use Rattle.ov_catalog.specs.Events.{own_part, with_joined, join_at, parts_with, version_of, new_set, with_version, numbered, change, applied}
+use Rattle.ov_event.specs.declared.event.PlanTarget.{PlanTarget}
+use Rattle.ov_catalog.specs.Numbers.{VersionNumbers, PartNumbers, PlanNumbers, SetNumbers, Numbers}
+use Rattle.ov_catalog.specs.Events.{Flip, own_part, with_joined, join_at, parts_with, version_of, new_set, with_version, planned, copied_for, copied_more, numbered, change, applied}
 use Rattle.ov_catalog.specs.Applying.{Beyond, first_off, is_built_event, off_at}
-use Rattle.ov_catalog.specs.Extents.{of_plan, of_set, live, brought, covers}
+use Rattle.ov_catalog.specs.Extents.{of_plan, of_set, live, brought, given_up, has_page, covers}
 use Rattle.ov_catalog.specs.Raw.{event_in, place_in, shape_in}
+use Rattle.ov_catalog.proofs.FlipCounts.{FlipFits, total, flip_total}
 
 covers-append : (a b : List Extent) (page : ℕ) → covers (a ++ b) page ≡ covers a page + covers b page
 covers-append [] b page = omega arith
 covers-append (e ∷ a) b page = omega (arith, covers-append a b page)
+
+-- what the count asks of a flip: its target keeps segments of one partition, which goes
+abbrev pub IsApart : raw.Event → Numbers Extent Extent → Type 0
+IsApart (says.Flip cvd) n = FlipFits cvd n.sets
+IsApart _ n = Unit {0}
+
+pub apart_events : (e : raw.Event) (n : Numbers Extent Extent) → ((cvd : ℕ) → FlipFits cvd n.sets) → IsApart e n
+apart_events (says.Flip cvd) n fits = fits cvd
+apart_events (says.Init name schema rows list segment) n fits = tt
+apart_events (says.Commit cvd vid message parents rows fresh place added list segment) n fits = tt
+apart_events (says.Plan cvd p q targets) n fits = tt
+apart_events (says.Copy cvd count segment) n fits = tt
+apart_events (says.Drop cvd) n fits = tt
+apart_events (says.Base next) n fits = tt
+apart_events (says.Whole said) n fits = tt
+apart_events (says.Wide cvd vid message columns parents rows fresh place added list segment) n fits = tt
 
 module _ (page : ℕ) where
   over : List (PartNumbers Extent) → ℕ
@@ -98,24 +116,55 @@ module _ (page : ℕ) where
       by true rest = omega (arith, live_cons d (filter (numbered number) sets), live_cons d sets, rest)
       by false rest = omega (arith, live_cons d (filter (λ x. not (numbered number x)) sets), live_cons d sets, rest)
 
-  -- an event's extents come, and no others, of the events that are built: a flip may keep the segments of its source
-  pub live_applied : (e : raw.Event) (n : Numbers Extent Extent) → is_built_event e ≡ true
+  -- a plan begins with nothing copied
+  plan_covers : (p q : ℕ) (targets : List PlanTarget) (d : SetNumbers Extent Extent) → covers (of_set (planned p q targets d)) page ≤ covers [] page + covers (of_set d) page
+  plan_covers p q targets d = omega (arith, set_covers d, set_covers (planned p q targets d))
+
+  copied_covers : (count : ℕ) (segments : List Extent) (plan : Option (PlanNumbers Extent)) → covers (of_plan (copied_for count segments plan)) page ≤ covers segments page + covers (of_plan plan) page
+  copied_covers count segments None = omega arith
+  copied_covers count segments (Some plan) = omega (arith, covers-append plan.segments segments page)
+
+  copy_covers : (count : ℕ) (segments : List Extent) (d : SetNumbers Extent Extent) → covers (of_set (copied_more count segments d)) page ≤ covers segments page + covers (of_set d) page
+  copy_covers count segments d = omega (arith, set_covers d, set_covers (copied_more count segments d), copied_covers count segments d.plan)
+
+  -- pages are counted as extents by a weight
+  abbrev pub weighed : Extent → ℕ
+  weighed e = if has_page e page then 1 else 0
+
+  pub covers_total : (es : List Extent) → covers es page ≡ total weighed es
+  covers_total [] = refl
+  covers_total (e ∷ es) = ap (λ n. (if has_page e page then 1 else 0) + n) (covers_total es)
+
+  -- a flip frees what it gives up, and covers what it leaves as before
+  pub flip_covers : (cvd : ℕ) (n : Numbers Extent Extent) → FlipFits cvd n.sets → covers (live (applied (Flip cvd) n)) page + covers (given_up (Flip cvd) n) page ≡ covers (live n) page
+  flip_covers cvd n fits =
+      omega (
+        arith,
+        flip_total weighed cvd n.sets fits,
+        covers_total (live (applied (Flip cvd) n)),
+        covers_total (given_up (Flip cvd) n),
+        covers_total (live n),
+      )
+
+  -- an event's extents come, and no others, of the events that are built
+  pub live_applied : (e : raw.Event) (n : Numbers Extent Extent) → is_built_event e ≡ true → IsApart e n
       → covers (live (applied (event_in e) n)) page ≤ covers (brought (event_in e)) page + covers (live n) page
-  live_applied (says.Init name schema rows list segment) n built =
+  live_applied (says.Init name schema rows list segment) n built apart =
       let new : SetNumbers Extent Extent = new_set n.next name (shape_in schema) rows list (extents_of segment)
       in let split : covers (flat_map of_set (n.sets ++ new ∷ [])) page ≡ covers (flat_map of_set n.sets ++ flat_map of_set (new ∷ [])) page = ap (λ es. covers es page) (flat_map-append of_set n.sets (new ∷ []))
       in let parts : covers (flat_map (λ p. p.segments) (own_part 1 1 rows (extents_of segment) ∷ [])) page ≡ covers (extents_of segment) page + covers [] page = over_cons (own_part 1 1 rows (extents_of segment)) []
       in omega (arith, split, covers-append (flat_map of_set n.sets) (flat_map of_set (new ∷ [])) page, live_cons new [], set_covers new, parts)
-  live_applied (says.Commit cvd vid message parents rows fresh place added list segment) n built =
+  live_applied (says.Commit cvd vid message parents rows fresh place added list segment) n built apart =
       change_covers cvd (with_version (version_of parents message rows fresh list) (place_in place) added (extents_of segment)) (list ∷ extents_of segment) n.sets
       (λ d. version_covers (version_of parents message rows fresh list) (place_in place) added (extents_of segment) d)
-  live_applied (says.Drop cvd) n built = omega (arith, drop_covers cvd n.sets)
-  live_applied (says.Plan cvd p q targets) n built = cc
-  live_applied (says.Copy cvd count segment) n built = cc
-  live_applied (says.Flip cvd) n built = cc
-  live_applied (says.Base next) n built = cc
-  live_applied (says.Whole said) n built = cc
-  live_applied (says.Wide cvd vid message columns parents rows fresh place added list segment) n built = cc
+  live_applied (says.Drop cvd) n built apart = omega (arith, drop_covers cvd n.sets)
+  live_applied (says.Plan cvd p q targets) n built apart = change_covers cvd (planned p q targets) [] n.sets (plan_covers p q targets)
+  live_applied (says.Copy cvd count segment) n built apart =
+      change_covers cvd (copied_more count (extents_of segment)) (extents_of segment) n.sets (copy_covers count (extents_of segment))
+  live_applied (says.Flip cvd) n built apart = omega (arith, flip_covers cvd n apart)
+  live_applied (says.Base next) n built apart = cc
+  live_applied (says.Whole said) n built apart = cc
+  live_applied (says.Wide cvd vid message columns parents rows fresh place added list segment) n built apart = cc
 
 -- an event that applies is one that is built
 pub applies_built : (e : raw.Event) (n : Numbers Extent Extent) → first_off e n ≡ None → is_built_event e ≡ true

@@ -140,7 +140,7 @@ chosen_each g (place ∷ places) segments =
     map-append g (one_at segments place) (chosen places segments)
     ∙ (λ i. at_each g segments place i ++ chosen_each g places segments i)
 
-segments_each : {S T : Type 0} (g : S → T) (id : ℕ) (parts : List (PartNumbers S)) → map g (segments_at id parts) ≡ segments_at id (map (each_part g) parts)
+pub segments_each : {S T : Type 0} (g : S → T) (id : ℕ) (parts : List (PartNumbers S)) → map g (segments_at id parts) ≡ segments_at id (map (each_part g) parts)
 segments_each g id [] = refl
 segments_each {S} {T} g id (part ∷ parts) = by (part.id == id) (segments_each g id parts)
   where

@@ -1,7 +1,7 @@
 -- An event that is built applies where it follows by all that counts, and so what stands for a World by what is built stands for it by
 -- all events and moves.
-use Rattle.std.proofs.Common.{◌≡◌, ℕ, Bool, true, false, List, [], ◌∷◌, refl, sym, subst, ◌∙◌}
-use Rattle.std.specs.Prelude.{None, Some}
+use Rattle.std.proofs.Common.{◌≡◌, ℕ, Bool, true, false, List, [], ◌∷◌, refl, subst}
+use Rattle.std.specs.Prelude.{None}
 use Rattle.ov_event.specs.declared.event.Event as raw
 use Rattle.ov_event.specs.declared.event.Event.TheVariants as says
 use Rattle.ov_host.specs.declared.area.Extent.{Extent}

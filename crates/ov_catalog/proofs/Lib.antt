@@ -2,8 +2,10 @@ pub mod Filling
 pub mod Showing
 pub mod ToldMoves
 pub mod Good
+pub mod Migrating
 pub mod Moving
 pub mod Covering
+pub mod Emptying
 pub mod Standing
 pub mod Members
 pub mod Rising
@@ -18,6 +20,7 @@ pub mod Following
 pub mod WorkedLemmas
 pub mod Ascending
 pub mod WorkedChains
+pub mod FlipCounts
 pub mod FlipLemmas
 pub mod RunLemmas
 pub mod GraphLemmas
@@ -25,3 +28,5 @@ pub mod TargetLemmas
 pub mod SplitLemmas
 pub mod TurnLemmas
 pub mod SeenLemmas
+pub mod Serving
+pub mod Weighing

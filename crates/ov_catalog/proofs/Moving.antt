@@ -1,6 +1,6 @@
 -- Events are moves: the event of a move makes of a World's numbers those of the World after it.
 use Rattle.std.proofs.Common.{◌≡◌, ◌<◌, ℕ, ◌+◌, Bool, true, false, ◌==◌, List, [], ◌∷◌, ◌++◌, length, map, filter, refl, sym, ◌∙◌, ap, subst}
-use Rattle.std.specs.Prelude.{◌≢◌, not, if◌then◌else◌, Option, Some, None, is_some, unwrap_or, codes}
+use Rattle.std.specs.Prelude.{◌≢◌, not, take, if◌then◌else◌, Option, Some, None, is_some, unwrap_or, codes}
 use Rattle.std.proofs.lemmas.Bool.{eqb-true}
 use Rattle.std.proofs.lemmas.List.{map-append, append-nil, append_assoc}
 use Rattle.ov_value.specs.Rows.{key_cmp}
@@ -9,24 +9,26 @@ use Rattle.ov_model.specs.Book.{Row, Version}
 use Rattle.ov_model.specs.Lists.{Rises}
 use Rattle.ov_model.specs.Moves as moves
 use Rattle.ov_model.specs.Moves.{Move, numbered, moved, committed, version_of, placed_at, piece_of, wide}
-use Rattle.ov_model.specs.Plans.{missing}
-use Rattle.ov_model.specs.Records.{AllRise, recs, records_of, order_of}
+use Rattle.ov_model.specs.Plans.{parts_at, targets_of, planned, missing, copied_more, flipped}
+use Rattle.ov_model.specs.Records.{Rec, AllRise, recs, records_of, order_of}
 use Rattle.ov_model.specs.Ordered.{HasOrder}
 use Rattle.ov_model.specs.Placed.{IsPlaced}
 use Rattle.ov_model.specs.World.{Dataset, World, first_set}
 use Rattle.ov_model.specs.World as worlds
 use Rattle.ov_model.proofs.Rids.{rows_once, order_of_once}
 use Rattle.ov_event.specs.declared.event.Event as raw
+use Rattle.ov_event.specs.declared.event.PlanTarget.{PlanTarget}
 use Rattle.ov_host.specs.declared.area.Extent.{Extent}
 use Rattle.ov_catalog.specs.Numbers.{SetNumbers, Numbers, nothing_yet}
 use Rattle.ov_catalog.specs.Events as events
 use Rattle.ov_catalog.specs.Events.{Event, applied, replayed}
-use Rattle.ov_catalog.specs.Reached.{Suits, Fits, IfThere, IfRunning, CommitFits, PlanFits, TakesColumns, MissesSome}
-use Rattle.ov_catalog.specs.Shown.{Rids, Records, segment_of, shown_version, shown_set, shown, added_to, init_event, commit_event, wide_event, plan_event, copy_for, in_set, commit_in, event_of, snapshot_of}
+use Rattle.ov_catalog.specs.Reached.{Suits, Fits, IfThere, IfRunning, CommitFits, PlanFits, TakesColumns, MissesSome, MissesNone}
+use Rattle.ov_catalog.specs.Shown.{Rids, Records, segment_of, shown_version, shown_target, shown_set, shown, added_to, init_event, commit_event, wide_event, said_of, plan_event, copy_event, copy_for, in_set, commit_in, event_of, snapshot_of}
 use Rattle.ov_catalog.specs.Raw.{numbers_in}
 use Rattle.ov_catalog.specs.Snapshots.{IsSnapshot, events_of}
-use Rattle.ov_catalog.proofs.Good.{NoneNumbered, Distinct, IsGood, IsKnown, found_known, found_placed, found_rowed, found_ordered}
+use Rattle.ov_catalog.proofs.Good.{NoneNumbered, Distinct, IsGood, IsKnown, found_known, found_placed, found_pieces, found_rowed, found_ordered}
 use Rattle.ov_catalog.specs.Told.{IsRowed}
+use Rattle.ov_catalog.proofs.Migrating.{planned_shown, copied_shown, flipped_shown}
 use Rattle.ov_catalog.proofs.Showing.{version_shown, new_shown}
 use Rattle.ov_catalog.proofs.ToldMoves.{all_rise}
 
@@ -87,9 +89,9 @@ commit_shown : (cvd : ℕ) (parents message : List ℕ) (rows : List Row) (w : W
 commit_shown cvd parents message rows w None e fits is event said = absurd fits
 commit_shown cvd parents message rows w (Some d) e fits is event said =
     let known : IsKnown d = found_known cvd d w.sets is.known e
-    in let placed : IsPlaced d = found_placed cvd d w.sets is.placed e
+    in let placed : IsPlaced d = found_placed cvd d w.sets is.sound.placed e
     in let rowed : IsRowed d = found_rowed cvd d w.sets is.rowed e
-    in let ordered : HasOrder d = found_ordered cvd d w.sets is.ordered e
+    in let ordered : HasOrder d = found_ordered cvd d w.sets is.sound.ordered e
     in let v : Version = version_of parents message rows
     in let rise : AllRise d.cvd.schema (d.cvd.versions ++ v ∷ []) = rise_more d.cvd.schema d.cvd.versions v (all_rise d.cvd.schema d.cvd.versions rowed.rows) fits.rows.rise
     in subst (λ x. shown (moved (moves.Commit cvd parents message [] rows) w) ≡ applied x (shown w))
@@ -100,6 +102,43 @@ commit_shown cvd parents message rows w (Some d) e fits is event said =
           (version_shown d v known.pieces placed.ids_once placed.targets ordered.plan
           (rows_once d.cvd.schema parents (recs d.cvd.versions []) rows fits.rows.rise) (order_of_once d.cvd.schema (d.cvd.versions ++ v ∷ []) rise)) i;
     })
+
+plan_shown : (cvd p q : ℕ) (w : World) (found : Option Dataset) → first_set (numbered cvd) w.sets ≡ found → IfThere (PlanFits p q) found → IsGood w
+    → (e : Event Rids Records) → in_set (λ d. Some (plan_event cvd p q d)) found ≡ Some e
+    → shown (moved (moves.BeginPlan cvd p q) w) ≡ applied e (shown w)
+plan_shown cvd p q w None e fits is event said = absurd fits
+plan_shown cvd p q w (Some d) e fits is event said =
+    let targets : List PlanTarget = map (λ t. said_of (shown_target d t)) (targets_of d (parts_at d p q))
+    in subst (λ x. shown (moved (moves.BeginPlan cvd p q) w) ≡ applied x (shown w)) (some_same (plan_event cvd p q d) event said)
+    (λ i. record {
+      next = w.next;
+      sets = changed_shown cvd (planned p q) (events.planned p q targets) d w.sets is.distinct e (planned_shown p q d) i;
+    })
+
+copy_running : (cvd : ℕ) (w : World) (d : Dataset) → first_set (numbered cvd) w.sets ≡ Some d → IsGood w → (plan : Option worlds.Plan) → d.plan ≡ plan
+    → (e : Event Rids Records) → copy_for cvd d plan ≡ Some e → shown (moved (moves.Copy cvd) w) ≡ applied e (shown w)
+copy_running cvd w d there is None runs event said = cc
+copy_running cvd w d there is (Some plan) runs event said =
+    let piece : List Rec = take 256 (missing d plan)
+    in subst (λ x. shown (moved (moves.Copy cvd) w) ≡ applied x (shown w)) (some_same (copy_event cvd d plan) event said)
+    (λ i. record {
+      next = w.next;
+      sets = changed_shown cvd copied_more (events.copied_more (length piece) (segment_of (order_of d.cvd.versions) piece ∷ [])) d w.sets is.distinct there
+          (copied_shown d plan runs) i;
+    })
+
+copy_shown : (cvd : ℕ) (w : World) (found : Option Dataset) → first_set (numbered cvd) w.sets ≡ found → IfThere MissesSome found → IsGood w
+    → (e : Event Rids Records) → in_set (λ d. copy_for cvd d d.plan) found ≡ Some e → shown (moved (moves.Copy cvd) w) ≡ applied e (shown w)
+copy_shown cvd w None there fits is event said = absurd fits
+copy_shown cvd w (Some d) there fits is event said = copy_running cvd w d there is d.plan refl event said
+
+flip_shown : (cvd : ℕ) (w : World) (found : Option Dataset) → first_set (numbered cvd) w.sets ≡ found → IfThere MissesNone found → IsGood w
+    → shown (moved (moves.Flip cvd) w) ≡ applied (events.Flip cvd) (shown w)
+flip_shown cvd w None there fits is = absurd fits
+flip_shown cvd w (Some d) there fits is = λ i. record {
+  next = w.next;
+  sets = changed_shown cvd flipped events.flipped d w.sets is.distinct there (flipped_shown d (found_pieces cvd d w.sets is.sound.pieces there).plan) i;
+}
 
 pub events_are_moves : (m : Move) (w : World) → Fits m w → IsGood w → (e : Event Rids Records) → event_of m w ≡ Some e → shown (moved m w) ≡ applied e (shown w)
 events_are_moves (moves.Init name schema rows) w fits is e said =
@@ -112,9 +151,11 @@ events_are_moves (moves.Init name schema rows) w fits is e said =
     })
 events_are_moves (moves.Commit cvd parents message [] rows) w fits is e said = commit_shown cvd parents message rows w (first_set (numbered cvd) w.sets) refl fits is e said
 events_are_moves (moves.Commit cvd parents message (column ∷ added) rows) w fits is e said = absurd fits
-events_are_moves (moves.BeginPlan cvd p q) w fits is e said = absurd fits
-events_are_moves (moves.Copy cvd) w fits is e said = absurd fits
-events_are_moves (moves.Flip cvd) w fits is e said = absurd fits
+events_are_moves (moves.BeginPlan cvd p q) w fits is e said = plan_shown cvd p q w (first_set (numbered cvd) w.sets) refl fits is e said
+events_are_moves (moves.Copy cvd) w fits is e said = copy_shown cvd w (first_set (numbered cvd) w.sets) refl fits is e said
+events_are_moves (moves.Flip cvd) w fits is e said =
+    subst (λ x. shown (moved (moves.Flip cvd) w) ≡ applied x (shown w)) (some_same (events.Flip cvd) e said)
+    (flip_shown cvd w (first_set (numbered cvd) w.sets) refl fits is)
 events_are_moves (moves.Drop cvd) w fits is e said =
     subst (λ x. shown (moved (moves.Drop cvd) w) ≡ applied x (shown w)) (some_same (events.Drop cvd) e said)
     (λ i. record { next = w.next; sets = dropped_shown cvd w.sets i })

@@ -89,7 +89,7 @@ pub piece_all : (rs : List Rec) → joined (piece_of rs) ≡ rs
 piece_all [] = refl
 piece_all (r ∷ rs) = append-nil (r ∷ rs)
 
-joined_long : (a b : List (List Rec)) → length (joined (a ++ b)) ≡ length (joined a) + length (joined b)
+pub joined_long : (a b : List (List Rec)) → length (joined (a ++ b)) ≡ length (joined a) + length (joined b)
 joined_long [] b = omega arith
 joined_long (x ∷ a) b = omega (arith, length-append x (joined (a ++ b)), length-append x (joined a), joined_long a b)
 

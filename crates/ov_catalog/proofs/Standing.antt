@@ -16,7 +16,8 @@ use Rattle.ov_catalog.specs.Raw.{event_in, numbers_in}
 use Rattle.ov_catalog.specs.Extents.{of_plan, of_set, live, brought, covers, AreApart}
 use Rattle.ov_catalog.specs.Shown.{Rids, Records, shown, event_of}
 use Rattle.ov_catalog.specs.Stands.{Readings, seen, asked, seen_event, asked_as, StandsFor, ReadSame, IsMove}
-use Rattle.ov_catalog.proofs.Covering.{live_applied, applies_built}
+use Rattle.ov_catalog.proofs.Covering.{live_applied, applies_built, apart_events}
+use Rattle.ov_catalog.proofs.Emptying.{flip_fits}
 use Rattle.ov_catalog.proofs.Filling.{applied_each, replayed_more}
 use Rattle.ov_catalog.proofs.Good.{told, good, reached_more}
 use Rattle.ov_catalog.proofs.Moving.{some_same, events_are_moves}
@@ -116,6 +117,8 @@ pub one_more : (events : List raw.Event) (r : Readings) (w : World) (e : raw.Eve
 one_more events r w e m stands is =
     let n : Numbers Extent Extent = numbers_in events
     in let more : numbers_in (events ++ e ∷ []) ≡ applied (event_in e) n = numbers_more events e
+    in let come : (page : ℕ) → covers (live (applied (event_in e) n)) page ≤ covers (brought (event_in e)) page + covers (live n) page =
+    λ page. live_applied page e n (applies_built e n is.applies) (apart_events e n (flip_fits w n r (good w stands.reached) stands.shows))
     in record {
       reached = reached_more m w stands.reached is.fits;
       applies = apply_more events e nothing_yet stands.applies is.applies;
@@ -123,9 +126,9 @@ one_more events r w e m stands is =
           ∙ applied_each r.list r.segment (event_in e) n
           ∙ of_event (event_of m w) refl is.spells;
       apart = subst (λ k. AreApart (live k) r.pages) (sym more) (record {
-        once = λ page. omega (arith, live_applied page e n (applies_built e n is.applies), is.apart page);
+        once = λ page. omega (arith, come page, is.apart page);
         inside = λ page some. inside page (covers (brought (event_in e)) page) (covers (live n) page) (covers (live (applied (event_in e) n)) page)
-            (live_applied page e n (applies_built e n is.applies)) some (is.inside page) (stands.apart.inside page);
+            (come page) some (is.inside page) (stands.apart.inside page);
       });
     }
   where

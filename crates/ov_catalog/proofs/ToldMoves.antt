@@ -141,7 +141,7 @@ flip_rowed d (Some plan) is = record { rows = is.rows }
 
 -- ---- moves
 
-moved_rowed : (m : Move) (w : World) → BringsRows m w → AreRowed w.sets → AreRowed (moved m w).sets
+pub moved_rowed : (m : Move) (w : World) → BringsRows m w → AreRowed w.sets → AreRowed (moved m w).sets
 moved_rowed (Init name schema rows) w brings are = rowed_append w.sets (new_set w.next name schema rows ∷ []) are (record { rows = (brings, tt) }, tt)
 moved_rowed (Commit cvd parents message added rows) w brings are = rowed_committed cvd parents message added rows w.sets brings are
 moved_rowed (BeginPlan cvd p q) w brings are = rowed_changed cvd (planned p q) w.sets (λ d is. record { rows = is.rows }) are

@@ -1,6 +1,6 @@
 -- When an event follows what the catalog has, and else the first part of it that doesn't.
 --     off_at stage e n      that part, where so much of the half came before; None where the event applies
---     first_off e n      the same, of the events that are built so far
+--     first_off e n      the same, of the events that are built so far; the others are refused
 --     AllFollow stage events n      each event applies where those before it end
 --     AllApply events n      the same, of the events that are built so far
 use Rattle.std.specs.Prelude.{◌≡◌, ℕ, Bool, true, false, ◌&&◌, ◌==◌, nat_le, nat_lt, if◌then◌else◌, List, [], ◌∷◌, Option, Some, None, find}

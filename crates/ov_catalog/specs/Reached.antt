@@ -1,7 +1,7 @@
 -- Which moves fit a World, and which Worlds moves reach.
 --     Suits m w      what a command asks before it makes the move
---     Fits m w      the same, of the moves that the program makes so far
---     Reached w      such moves lead from the empty World of one of the formats to it
+--     Fits m w      the same, of the moves that are built so far: all but those that add columns and a checkpoint
+--     Reached w      such moves lead from the empty World of one of the formats to it; a plan of a dataset may run there
 --     ReachedByAll w      the same with all moves
 use Rattle.std.specs.Prelude.{◌≡◌, ◌≢◌, ◌⊎◌, ◌<◌, ◌≤◌, ◌^◌, ◌-◌, ℕ, IsTrue, IsUtf8, is_ok, List, [], ◌∷◌, ◌++◌, length, Option, Some, None}
 use Rattle.std.specs.List.{All}

@@ -1,5 +1,5 @@
 -- What events, with what is read of their lists and segments, stand for.
---     StandsFor events r w      they stand for the World
+--     StandsFor events r w      they stand for the World, which built moves reach, and are events that are built
 --     StandsForAll format events r w      the same with all events and all moves, in a store of this format number
 --     IsMove e m w n r      one more event, which is that of a move of the World
 use Rattle.std.specs.Prelude.{◌≡◌, ◌≤◌, ◌<◌, ◌+◌, ℕ, List, Option, Some, None}

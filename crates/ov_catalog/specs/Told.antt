@@ -1,4 +1,4 @@
--- What tells a World by its numbers, whatever moves made it: built ones, plans, copies, flips and added columns.
+-- What tells a World by its numbers, whatever moves made it, those that add columns among them.
 --     IsTold w      what holds of it
 --     BringsRows m w      what is asked of the rows and columns that a move brings
 use Rattle.std.specs.Prelude.{◌≡◌, ℕ, List, [], ◌∷◌, Ok}

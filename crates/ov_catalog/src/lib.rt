@@ -1,4 +1,7 @@
 //! The catalog: all that the journal's events say of the live datasets.
+//!
+//! It takes the events that are built: a dataset begins, gets a version or goes, and a plan of it begins, copies and flips. Those
+//! of a snapshot and those that add columns are defined, and refused.
 #![tactic(auto)]
 
 mod arrival;

@@ -21,9 +21,9 @@ pub fn order_is_by_rid()
         ↔ (AreIn piece (order_of versions) × Rises (λ a b. nat_cmp (rid_in (order_of versions) a) (rid_in (order_of versions) b)) piece) }
 {}
 
-/// A World's numbers, with what its lists and segments have, tell it from any other: so it is of all that moves make, built ones,
-/// plans with their copies and flips, and added columns, where a commit's parents are there, a flip finds no record missing,
-/// and rows are rows of their schema.
+/// A World's numbers, with what its lists and segments have, tell it from any other: so it is of all that moves make, those that
+/// are built and those that add columns, where a commit's parents are there, a flip finds no record missing, and rows are rows
+/// of their schema.
 pub fn numbers_tell_worlds_apart()
     ensures start { IsTold empty_world }
     ensures kept { (m : Move) (w : World) → NamesParents m w → MayFlip m w → BringsRows m w → IsTold w → IsTold (moved m w) }

@@ -1,5 +1,5 @@
-//! What is worked out on a chain of three versions, each the contract of a function that does nothing. No command begins a plan, adds
-//! columns or makes a checkpoint yet; these values say what the events of each are.
+//! What is worked out on a chain of three versions, each the contract of a function that does nothing: a plan with its steps, and
+//! added columns and a checkpoint, whose events no journal has yet.
 
 ghost use Rattle.std.specs.Prelude.{◌≡◌, [], ◌∷◌, None, Some, map};
 ghost use Rattle.std.specs.Option.{option_map};

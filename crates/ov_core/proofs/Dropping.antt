@@ -20,6 +20,8 @@ use Rattle.ov_catalog.specs.Raw.{event_in, numbers_in}
 use Rattle.ov_catalog.specs.Reached.{Fits}
 use Rattle.ov_catalog.specs.Stands.{IsMove}
 use Rattle.ov_catalog.proofs.Covering.{live_applied}
+use Rattle.ov_catalog.proofs.FlipCounts.{total-append}
+use Rattle.ov_catalog.proofs.Weighing.{live_total}
 use Rattle.law_image.specs.Pages.{SameLive, pages_in, readings_of}
 use Rattle.law_events.proofs.Committing.{is_move}
 use Rattle.ov_core.specs.AtWorld.{IsAtWorld, IsAtNext, IsEither}
@@ -28,7 +30,6 @@ use Rattle.ov_core.proofs.Keeping.{replayed_more, served}
 use Rattle.ov_core.proofs.Ranges.{ranges_for}
 use Rattle.ov_core.proofs.Reserving.{AreSame, reserved_same}
 use Rattle.ov_core.proofs.Storing as storing
-use Rattle.ov_core.proofs.Weighing.{live_total, total-append}
 
 -- what is given up, and what stays, is what was live
 drop_same : (cvd : ℕ) (n : Numbers Extent Extent) → IsReplayed n → first_off (says.Drop cvd) n ≡ None
@@ -36,7 +37,7 @@ drop_same : (cvd : ℕ) (n : Numbers Extent Extent) → IsReplayed n → first_o
 drop_same cvd n replayed applies w none =
     omega (
       arith,
-      live_total w (says.Drop cvd) n applies (served n replayed),
+      live_total w (says.Drop cvd) n applies tt (served n replayed),
       total-append w (given_up (event_in (says.Drop cvd)) n) (live (applied (event_in (says.Drop cvd)) n)),
     )
 
@@ -67,7 +68,7 @@ pub drop_there : (cvd : ℕ) (n m after : Numbers Extent Extent) (old new : List
 drop_there cvd n m after old new same is kept there page some =
     let now : after ≡ applied (event_in (says.Drop cvd)) n = is ∙ ap (applied (event_in (says.Drop cvd))) same
     in let some_now : 1 ≤ covers (live (applied (event_in (says.Drop cvd)) n)) page = subst (λ (x : Numbers Extent Extent). 1 ≤ covers (live x) page) now some
-    in subst (λ (ps : List ℕ). page < pages_in ps) (sym kept) (there page (omega (arith, some_now, live_applied page (says.Drop cvd) n refl)))
+    in subst (λ (ps : List ℕ). page < pages_in ps) (sym kept) (there page (omega (arith, some_now, live_applied page (says.Drop cvd) n refl tt)))
 
 pub drop_event : (cvd : ℕ) → cvd < 2 ^ 32 → IsEvent (says.Drop cvd)
 unfolding IsEvent

@@ -1,5 +1,3 @@
-pub mod Weighing
-pub mod Serving
 pub mod Reserving
 pub mod Placing
 pub mod Extents

@@ -12,7 +12,7 @@ use Rattle.ov_catalog.specs.Events.{applied}
 use Rattle.ov_catalog.specs.Numbers.{Numbers}
 use Rattle.ov_catalog.specs.Raw.{event_in}
 use Rattle.ov_core.specs.Held.{Held, IsByJournal, IsReplay}
-use Rattle.ov_core.proofs.Serving.{all_apply, numbers_more}
+use Rattle.ov_catalog.proofs.Serving.{all_apply, numbers_more}
 
 all_more : (es : List Event) (e : Event) → AllByRecursion IsEvent es → IsEvent e → AllByRecursion IsEvent (es ++ e ∷ [])
 all_more [] e are is = (is, tt)

@@ -11,7 +11,8 @@ use Rattle.ov_pages.proofs.LiveLemmas.{live_reserved, live_room, live_more, live
 use Rattle.ov_catalog.specs.Extents.{covers, has_page}
 use Rattle.ov_core.specs.Brought.{extent_at}
 use Rattle.ov_core.specs.Rooms.{IsFree, IsLowest, IsNoRun, IsRun, HasNone, pages_for}
-use Rattle.ov_core.proofs.Weighing.{total, total-append, sum_total}
+use Rattle.ov_catalog.proofs.FlipCounts.{total, total-append}
+use Rattle.ov_catalog.proofs.Weighing.{sum_total}
 
 -- an extent of no bytes
 abbrev pub nowhere : Extent

@@ -25,7 +25,7 @@ use Rattle.ov_core.specs.AtWorld.{IsAtWorld, IsAtNext, IsEither}
 use Rattle.ov_core.specs.Held.{Held}
 use Rattle.ov_core.proofs.Growing as growing
 use Rattle.ov_core.proofs.Ranges.{ranges_for, are_there, same_live}
-use Rattle.ov_core.proofs.Serving.{numbers_more}
+use Rattle.ov_catalog.proofs.Serving.{numbers_more}
 
 module _ (w : World) (held : Held) (s0 : State) (is : IsAtWorld w held s0) where
   abbrev pub kept : Kept

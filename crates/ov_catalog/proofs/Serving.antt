@@ -1,9 +1,9 @@
 -- Each version of numbers that events lead to is in a partition, and so is the place of a commit that applies.
-use Rattle.std.proofs.Common.{◌≡◌, ◌⊎◌, inl, inr, ℕ, ◌+◌, ◌≤◌, ◌^◌, Bool, true, false, ◌&&◌, ◌||◌, ◌==◌, List, [], ◌∷◌, ◌++◌, length, map, refl, sym, subst, arith, length-append}
+use Rattle.std.proofs.Common.{◌≡◌, ◌⊎◌, inl, inr, ℕ, ◌+◌, ◌≤◌, ◌^◌, Bool, true, false, ◌&&◌, ◌||◌, ◌==◌, List, [], ◌∷◌, ◌++◌, length, map, refl, sym, ap, subst, arith, length-append}
 use Rattle.std.specs.Prelude.{Option, Some, None, not, nat_le, if◌then◌else◌, filter, find, cond}
 use Rattle.std.specs.List.{list_any, list_all}
 use Rattle.std.specs.Option.{option_or}
-use Rattle.std.proofs.lemmas.Bool.{eqb-true, leb-true, cases_lt}
+use Rattle.std.proofs.lemmas.Bool.{cases_Bool, eqb-true, leb-true, ne_eqb, cases_lt}
 use Rattle.std.proofs.lemmas.Bool.Decides.{Decides-eqb}
 use Rattle.ov_host.specs.declared.area.Extent.{Extent}
 use Rattle.ov_event.specs.declared.event.Event as raw
@@ -13,11 +13,14 @@ use Rattle.ov_place.specs.Placement.{placed, is_budgeted}
 use Rattle.ov_place.specs.declared.place_facts.Place.{Place}
 use Rattle.ov_place.specs.declared.place_facts.Place.TheVariants.{Own, Join}
 use Rattle.ov_layout.specs.Changes.{extents_of}
+use Rattle.ov_model.proofs.Counting.{listed, stays_times}
+use Rattle.law_partitions.proofs.PieceFlip.{is_listed}
 use Rattle.ov_catalog.specs.declared.field.Field.{Field}
 use Rattle.ov_catalog.specs.declared.field.Field.TheVariants as off
-use Rattle.ov_catalog.specs.Numbers.{VersionNumbers, PartNumbers, SetNumbers, Numbers, nothing_yet}
-use Rattle.ov_catalog.specs.Events.{own_part, with_joined, join_at, parts_with, version_of, with_version, numbered, change, applied, replayed}
+use Rattle.ov_catalog.specs.Numbers.{VersionNumbers, PartNumbers, PlanNumbers, SetNumbers, Numbers, nothing_yet}
+use Rattle.ov_catalog.specs.Events.{own_part, with_joined, join_at, parts_with, version_of, with_version, planned, copied_more, is_one, leaving, is_empty, left_parts, current, target_part, flipped_by, flipped, numbered, change, applied, replayed}
 use Rattle.ov_catalog.specs.Applying.{AllApply, first_off, off_unless, commit_off, of_live, are_distinct, are_parents, is_count, is_list, is_parent, is_segment, facts_of, is_place, part_serving, rows_at, id_in, set_numbered}
+use Rattle.ov_catalog.specs.Planning.{plan_off, of_running, copy_off, flip_off}
 use Rattle.ov_catalog.specs.Raw.{event_in, place_in, numbers_in}
 use Rattle.ov_catalog.proofs.CommitLemmas.{heaviest-passes}
 
@@ -178,6 +181,40 @@ version_served v place added segments d there served vid some within =
       | inr old ↦ parts_keep place d.next_part (length d.versions + 1) added segments d.parts vid (served vid some old)
     ]
 
+-- a version that the target doesn't take stays where it is, and its partition with it
+module _ (moving : List ℕ) (vid : ℕ) (other : has moving vid ≡ false) where
+  has_left : (versions : List ℕ) → has versions vid ≡ true → has (filter (λ v. not (is_one moving v)) versions) vid ≡ true
+  has_left versions there =
+      is_listed (filter (λ v. not (is_one moving v)) versions) vid (omega (arith, stays_times moving versions vid other, listed versions vid there))
+
+  some_left : (versions : List ℕ) → has versions vid ≡ true → not (length versions == 0) ≡ true
+  some_left [] there = cc
+  some_left (v ∷ versions) there = ap not (ne_eqb (length (v ∷ versions)) 0 (λ none. omega (arith, none)))
+
+  left_served : (parts : List (PartNumbers Extent)) → IsServed parts vid → IsServed (left_parts moving parts) vid
+  left_served [] is = absurd is
+  left_served (part ∷ parts) is =
+      by (not (is_empty (leaving moving part))) (λ here. some_left (leaving moving part).versions (has_left part.versions here)) (left_served parts) is
+    where
+      by : (b : Bool) → (has part.versions vid ≡ true → b ≡ true) → (IsServed parts vid → IsServed (left_parts moving parts) vid) → (has part.versions vid ≡ true) ⊎ IsServed parts vid
+          → IsServed (if b then leaving moving part ∷ left_parts moving parts else left_parts moving parts) vid
+      by true stays rest (inl here) = inl (has_left part.versions here)
+      by true stays rest (inr later) = inr (rest later)
+      by false stays rest (inl here) = absurd (clash (stays here))
+        where
+          clash : false ≡ true → ⊥
+          clash e = cc
+      by false stays rest (inr later) = rest later
+
+flip_served : (d : Set) (plan : Option (PlanNumbers Extent)) → AreServed d → AreServed (flipped_by plan d)
+flip_served d None served vid some within = served vid some within
+flip_served d (Some plan) served vid some within =
+    let moving : List ℕ = (current plan).versions in
+    elim (cases_Bool (has moving vid)) [
+      | inl taken ↦ served_last (left_parts moving d.parts) (target_part d.next_part d.parts plan) vid taken
+      | inr other ↦ served_more (left_parts moving d.parts) (target_part d.next_part d.parts plan ∷ []) vid (left_served moving vid other d.parts (served vid some within))
+    ]
+
 pub found_served : (cvd : ℕ) (sets : List Set) (d : Set) → find (numbered cvd) sets ≡ Some d → AllServed sets → AreServed d
 found_served cvd [] d is all = absurd cc
 found_served cvd (x ∷ sets) d is all = by (numbered cvd x) (λ later. found_served cvd sets d later all.1) is
@@ -226,9 +263,15 @@ served_more_by (says.Commit cvd vid message parents rows fresh place added list 
     (place_there vid message parents rows fresh (place_in place) added list segment d found.2 served) served)
     all
 served_more_by (says.Drop cvd) n h all = all_filter (λ d. not (numbered cvd d)) n.sets all
-served_more_by (says.Plan cvd p q targets) n h all = absurd cc
-served_more_by (says.Copy cvd count segment) n h all = absurd cc
-served_more_by (says.Flip cvd) n h all = absurd cc
+served_more_by (says.Plan cvd p q targets) n h all =
+    let found = live_found (plan_off p q targets) (set_numbered cvd n) h in
+    all_change cvd (planned p q targets) found.0 n.sets found.1 (found_served cvd n.sets found.0 found.1 all) all
+served_more_by (says.Copy cvd count segment) n h all =
+    let found = live_found (λ d. of_running (copy_off count segment) d.plan) (set_numbered cvd n) h in
+    all_change cvd (copied_more count (extents_of segment)) found.0 n.sets found.1 (found_served cvd n.sets found.0 found.1 all) all
+served_more_by (says.Flip cvd) n h all =
+    let found = live_found (λ d. of_running flip_off d.plan) (set_numbered cvd n) h in
+    all_change cvd flipped found.0 n.sets found.1 (flip_served found.0 found.0.plan (found_served cvd n.sets found.0 found.1 all)) all
 served_more_by (says.Base next) n h all = absurd cc
 served_more_by (says.Whole set) n h all = absurd cc
 served_more_by (says.Wide cvd vid message columns parents rows fresh place added list segment) n h all = absurd cc
