@@ -1,6 +1,6 @@
 -- An event that applies is sound.
 use Rattle.std.proofs.Common.{◌≡◌, ℕ, ◌+◌, ◌^◌, ◌==◌, ◌&&◌, Bool, true, false, List, length, not, refl}
-use Rattle.std.specs.Prelude.{Option, Some, None, nat_le, nat_lt}
+use Rattle.std.specs.Prelude.{Option, Some, None, min, nat_le, nat_lt}
 use Rattle.std.specs.List.{list_any}
 use Rattle.std.specs.Option.{option_or}
 use Rattle.ov_event.specs.declared.event.Event as raw
@@ -13,8 +13,9 @@ use Rattle.ov_place.specs.declared.place_facts.Place.{Place}
 use Rattle.ov_value.specs.Naming.{is_name}
 use Rattle.ov_catalog.specs.declared.field.Field.{Field}
 use Rattle.ov_catalog.specs.declared.field.Field.TheVariants as off
-use Rattle.ov_catalog.specs.Applying.{off_unless, is_named, is_schema, is_list, is_segment, init_off, are_parents, facts_of, is_place, is_count, commit_off, of_live, set_numbered, first_off}
-use Rattle.ov_catalog.specs.Numbers.{SetNumbers, Numbers}
+use Rattle.ov_catalog.specs.Applying.{off_unless, is_named, is_schema, is_extent, is_list, is_segment, init_off, are_parents, facts_of, is_place, is_count, commit_off, of_live, set_numbered, first_off}
+use Rattle.ov_catalog.specs.Numbers.{PlanNumbers, SetNumbers, Numbers}
+use Rattle.ov_catalog.specs.Planning.{missing, of_running, copy_off}
 use Rattle.ov_catalog.specs.Raw.{place_in}
 use Rattle.law_events.specs.Fitting.{IsSoundEvent}
 
@@ -56,14 +57,27 @@ commit_extents vid message parents rows fresh place added list segment d e =
     (rest_none (nat_le (length message) 1024) off.Message _
     (rest_none (vid == length d.versions + 1 && nat_le vid 65535) off.Vid _ e)))))))
 
+some_running : (test : PlanNumbers Extent → Option Field) (plan : Option (PlanNumbers Extent)) → of_running test plan ≡ None → (p : PlanNumbers Extent) × (test p ≡ None)
+some_running test None e = cc
+some_running test (Some p) e = (p, e)
+
+copy_extent : (count : ℕ) (segment : Extent) (plan : PlanNumbers Extent) → copy_off count segment plan ≡ None → (not (segment.bytes == 0) ≡ true) × (is_extent segment ≡ true)
+copy_extent count segment plan e =
+    both (not (segment.bytes == 0)) (is_extent segment)
+    (last_holds (not (segment.bytes == 0) && is_extent segment) off.Place
+    (rest_none (nat_le 1 count && count == min 256 (missing plan)) off.Count _ e))
+
 pub applies_sound : (e : raw.Event) (n : Numbers Extent Extent) → first_off e n ≡ None → IsSoundEvent e
 applies_sound (says.Init name s rows list segment) n e = init_extents n name s rows list segment e
 applies_sound (says.Commit cvd vid message parents rows fresh place added list segment) n e =
     let live = some_live (commit_off vid message parents rows fresh (place_in place) added list segment) (set_numbered cvd n) e
     in commit_extents vid message parents rows fresh (place_in place) added list segment live.0 live.1
-applies_sound (says.Plan cvd p q targets) n e = absurd cc
-applies_sound (says.Copy cvd count segment) n e = absurd cc
-applies_sound (says.Flip cvd) n e = absurd cc
+applies_sound (says.Plan cvd p q targets) n e = tt
+applies_sound (says.Copy cvd count segment) n e =
+    let live = some_live (λ d. of_running (copy_off count segment) d.plan) (set_numbered cvd n) e
+    in let runs = some_running (copy_off count segment) live.0.plan live.1
+    in copy_extent count segment runs.0 runs.1
+applies_sound (says.Flip cvd) n e = tt
 applies_sound (says.Drop cvd) n e = tt
 applies_sound (says.Base next) n e = absurd cc
 applies_sound (says.Whole said) n e = absurd cc

@@ -1,4 +1,4 @@
--- The event of a Commit applies where the move fits.
+-- The event of a Commit applies where the move fits; and so does that of any move.
 use Rattle.std.proofs.Common.{◌≡◌, ◌<◌, ◌≤◌, ◌+◌, ◌^◌, ◌==◌, ◌&&◌, ℕ, suc, Bool, true, false, not, List, [], ◌∷◌, ◌++◌, length, map, refl, sym, ◌∙◌, ap, subst, inl, inr, arith}
 use Rattle.std.specs.Prelude.{◌≢◌, Option, Some, None, nat_le, IsTrue, if◌then◌else◌}
 use Rattle.std.specs.List.{list_all}
@@ -20,7 +20,7 @@ use Rattle.ov_model.specs.Records.{Rec, recs, record_of, records_of, of_version,
 use Rattle.ov_model.specs.World.{Part, Dataset, World, first_set, held}
 use Rattle.ov_model.proofs.Growing.{recs_more, order_of_more}
 use Rattle.ov_model.proofs.Origins.{all_known, in_left, in_filter}
-use Rattle.law_partitions.specs.Pieces.{NoTwice, PartsArePieces, HasPieces, ArePieces}
+use Rattle.law_partitions.specs.Pieces.{NoTwice, PartsArePieces, HasPieces}
 use Rattle.law_partitions.proofs.PieceLists.{among_in, in_either, in_filtered}
 use Rattle.law_partitions.proofs.PieceTimes.{times-filter, once-lacking}
 use Rattle.law_partitions.proofs.PlanNodes.{filter_most}
@@ -34,13 +34,14 @@ use Rattle.ov_catalog.specs.Shown.{shown, shown_versions, shown_part, shown_set,
 use Rattle.ov_catalog.specs.Stands.{Readings, StandsFor, IsMove, seen_event, asked_as, asked_event}
 use Rattle.ov_catalog.specs.Extents.{covers, brought, live}
 use Rattle.ov_catalog.proofs.Moving.{some_same}
-use Rattle.ov_catalog.proofs.Good.{IsGood, IsKnown, found_known, good}
+use Rattle.ov_catalog.proofs.Good.{IsGood, IsKnown, found_known, found_pieces, good}
 use Rattle.ov_catalog.proofs.Showing.{PiecesAreIn}
 use Rattle.law_events.specs.Fitting.{IsSoundEvent}
 use Rattle.law_events.proofs.Beginning.{off_none, off_last, applies_there, live_shown, init_applies, drop_applies}
 use Rattle.law_events.proofs.Counts.{no_more, are_at, joined_at, last_are, order_low, ours_once, weight_own, weight_other, all_distinct}
-use Rattle.law_events.proofs.Reaching.{reached_sound}
+use Rattle.law_events.proofs.Planning.{plan_applies}
 use Rattle.law_events.proofs.Seeing.{versions_long, rows_shown, records_shown, place_shown}
+use Rattle.law_events.proofs.Stepping.{copy_applies, flip_applies}
 
 -- ---- parents
 
@@ -202,7 +203,7 @@ module _ (w : World) (d : Dataset) (v : Version) (fits : CommitFits w d v) (know
       (off_none (are_parents (shown_versions before [] d.cvd.versions) (length v.rows) edges) off.Parent _
       (parents_fit before d.cvd.versions rs (length v.rows) v.parents once long fits.parents)
       (off_none (nat_le (length v.rows) 1000000 && (nat_le fresh_count (length v.rows) && (nat_le (length v.rows) (length before + fresh_count) && nat_le (length before + fresh_count) (2 ^ 31)))) off.Rows _ rows_fit
-      (off_none (is_place place (placed (facts_of (shown_set d) (heaviest edges)))) off.Placing _ (place_shown d v known.plan)
+      (off_none (is_place place (placed (facts_of (shown_set d) (heaviest edges)))) off.Placing _ (place_shown d v)
       (off_none (is_count (shown_set d) (length v.rows) fresh_count added place) off.Count _ (count_fits place)
       (off_last (is_list (length v.rows) list && is_segment added segment) off.Place
       (and_from (is_list (length v.rows) list) (is_segment added segment) at_list at_segment)))))))
@@ -241,14 +242,6 @@ abbrev added_in : {L S : Type 0} → Event L S → ℕ
 added_in (events.Commit cvd vid message parents rows fresh place added list segments) = added
 added_in _ = 0
 
-found_pieces : (number : ℕ) (found : Dataset) (sets : List Dataset) → ArePieces sets → first_set (numbered number) sets ≡ Some found → HasPieces found
-found_pieces number found [] are e = cc
-found_pieces number found (d ∷ sets) are e = by (d.cvd.number == number) e (λ later. found_pieces number found sets are.1 later)
-  where
-    by : (b : Bool) → (if b then Some d else first_set (numbered number) sets) ≡ Some found → (first_set (numbered number) sets ≡ Some found → HasPieces found) → HasPieces found
-    by true here later = subst HasPieces (ap (λ o. elim o as (λ _. Dataset) [ None ↦ d | Some x ↦ x ]) here) are.0
-    by false here later = later here
-
 commit_spelled : (r : Readings) (w : World) (e : raw.Event) (cvd : ℕ) (v : Version) (d : Dataset) → first_set (numbered cvd) w.sets ≡ Some d → CommitFits w d v → IsKnown d → HasPieces d
     → IsSoundEvent e → seen_event r e ≡ asked_as (commit_event cvd d v) → first_off e (shown w) ≡ None
 commit_spelled r w (says.Init name schema count list segment) cvd v d found fits known has sound spells = cc
@@ -268,10 +261,10 @@ commit_spelled r w (says.Whole whole) cvd v d found fits known has sound spells 
 commit_spelled r w (says.Wide number vid message columns parents rows fresh place added list segment) cvd v d found fits known has sound spells = cc
 
 commit_found : (r : Readings) (w : World) (e : raw.Event) (cvd : ℕ) (v : Version) (found : Option Dataset) → first_set (numbered cvd) w.sets ≡ found → IfThere (λ d. CommitFits w d v) found
-    → IsGood w → ArePieces w.sets → IsSoundEvent e → Some (seen_event r e) ≡ option_map asked_as (commit_in cvd v found) → first_off e (shown w) ≡ None
-commit_found r w e cvd v None found fits is has sound spells = absurd fits
-commit_found r w e cvd v (Some d) found fits is has sound spells =
-    commit_spelled r w e cvd v d found fits (found_known cvd d w.sets is.known found) (found_pieces cvd d w.sets has found) sound
+    → IsGood w → IsSoundEvent e → Some (seen_event r e) ≡ option_map asked_as (commit_in cvd v found) → first_off e (shown w) ≡ None
+commit_found r w e cvd v None found fits is sound spells = absurd fits
+commit_found r w e cvd v (Some d) found fits is sound spells =
+    commit_spelled r w e cvd v d found fits (found_known cvd d w.sets is.known found) (found_pieces cvd d w.sets is.sound.pieces found) sound
     (some_same (seen_event r e) (asked_as (commit_event cvd d v)) spells)
 
 pub commit_applies : (events : List raw.Event) (r : Readings) (w : World) (e : raw.Event) (cvd : ℕ) (parents message : List ℕ) (rows : List Row)
@@ -279,7 +272,7 @@ pub commit_applies : (events : List raw.Event) (r : Readings) (w : World) (e : r
     → first_off e (numbers_in events) ≡ None
 commit_applies events r w e cvd parents message rows stands fits sound spells =
     applies_there events r w e stands
-    (commit_found r w e cvd (version_of parents message rows) (first_set (numbered cvd) w.sets) refl fits (good w stands.reached) (reached_sound w stands.reached).pieces sound spells)
+    (commit_found r w e cvd (version_of parents message rows) (first_set (numbered cvd) w.sets) refl fits (good w stands.reached) sound spells)
 
 -- ---- any move
 
@@ -288,9 +281,9 @@ pub move_applies : (events : List raw.Event) (r : Readings) (w : World) (e : raw
 move_applies events r w e (Init name schema rows) stands fits sound spells = init_applies events r w e name schema rows stands fits sound spells
 move_applies events r w e (Commit cvd parents message [] rows) stands fits sound spells = commit_applies events r w e cvd parents message rows stands fits sound spells
 move_applies events r w e (Commit cvd parents message (column ∷ added) rows) stands fits sound spells = absurd fits
-move_applies events r w e (BeginPlan cvd p q) stands fits sound spells = absurd fits
-move_applies events r w e (Copy cvd) stands fits sound spells = absurd fits
-move_applies events r w e (Flip cvd) stands fits sound spells = absurd fits
+move_applies events r w e (BeginPlan cvd p q) stands fits sound spells = plan_applies events r w e cvd p q stands fits spells
+move_applies events r w e (Copy cvd) stands fits sound spells = copy_applies events r w e cvd stands fits sound spells
+move_applies events r w e (Flip cvd) stands fits sound spells = flip_applies events r w e cvd stands fits spells
 move_applies events r w e (Drop cvd) stands fits sound spells = drop_applies events r w e cvd stands fits spells
 move_applies events r w e Checkpoint stands fits sound spells = absurd fits
 

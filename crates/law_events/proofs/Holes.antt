@@ -1,6 +1,6 @@
 -- Whether an event applies doesn't depend on what fills the holes.
 use Rattle.std.proofs.Common.{◌≡◌, ℕ, ◌+◌, ◌==◌, ◌&&◌, ◌||◌, ◌^◌, List, [], ◌∷◌, length, map, refl, sym, ◌∙◌, ap, inl, inr}
-use Rattle.std.specs.Prelude.{Option, Some, None, find, slice_index_or, ◌-◌, nat_le, nat_lt, not}
+use Rattle.std.specs.Prelude.{Option, Some, None, find, slice_index_or, ◌-◌, if◌then◌else◌, is_none, nat_le, nat_lt, not}
 use Rattle.std.specs.List.{list_any, list_all, sum_by}
 use Rattle.std.specs.Option.{option_or}
 use Rattle.std.proofs.lemmas.Bool.{cases_Bool}
@@ -8,7 +8,10 @@ use Rattle.std.proofs.lemmas.List.{length-map}
 use Rattle.std.proofs.lemmas.List.Sums.{sum_by-cons}
 use Rattle.ov_event.specs.declared.event.Event as raw
 use Rattle.ov_event.specs.declared.event.Event.TheVariants as says
+use Rattle.ov_event.specs.declared.event.PlanTarget.{PlanTarget}
 use Rattle.ov_event.specs.declared.event.RawSchema.{RawSchema}
+use Rattle.ov_graph.specs.Splits.{parts_of}
+use Rattle.ov_graph.specs.Versions as graph
 use Rattle.ov_graph.specs.Versions.{heaviest}
 use Rattle.ov_host.specs.declared.area.Extent.{Extent}
 use Rattle.ov_place.specs.Placement.{placed}
@@ -17,10 +20,11 @@ use Rattle.ov_place.specs.declared.place_facts.Place.TheVariants.{Own, Join}
 use Rattle.ov_value.specs.Naming.{is_name}
 use Rattle.ov_catalog.specs.declared.field.Field.{Field}
 use Rattle.ov_catalog.specs.declared.field.Field.TheVariants as off
-use Rattle.ov_catalog.specs.Numbers.{VersionNumbers, PartNumbers, PlanNumbers, SetNumbers, Numbers, each_version, each_part, each_plan, each_set, each}
-use Rattle.ov_catalog.specs.Events.{numbered}
+use Rattle.ov_catalog.specs.Numbers.{VersionNumbers, PartNumbers, TargetNumbers, PlanNumbers, SetNumbers, Numbers, each_version, each_part, each_plan, each_set, each}
+use Rattle.ov_catalog.specs.Events.{numbered, graph_of, parts_at, targets_of}
+use Rattle.ov_catalog.specs.Planning.{is_threshold, ascend_from, are_below, empties, is_kept, is_source, are_targets, plan_off, of_running, copy_off, flip_off}
 use Rattle.ov_catalog.specs.Raw.{place_in}
-use Rattle.ov_catalog.specs.Applying.{off_unless, is_named, is_schema, is_list, is_segment, init_off, rows_at, are_distinct, is_parent, are_parents, part_serving, part_numbered, id_in, records_in, is_unmoved, copied_in, facts_of, is_place, is_count, commit_off, of_live, first_off}
+use Rattle.ov_catalog.specs.Applying.{off_unless, is_named, is_schema, is_same, is_list, is_segment, init_off, rows_at, are_distinct, is_parent, are_parents, part_serving, part_numbered, id_in, records_in, is_unmoved, copied_in, facts_of, is_place, is_count, commit_off, of_live, first_off}
 
 module _ {L M S T : Type 0} (f : L → M) (g : S → T) where
   named_each : (name : List ℕ) (sets : List (SetNumbers L S)) → list_any (is_named name) (map (each_set f g) sets) ≡ list_any (is_named name) sets
@@ -108,6 +112,57 @@ module _ {L M S T : Type 0} (f : L → M) (g : S → T) where
       (option_or (off_unless (nat_le rows 1000000) off.Rows)
       (off_unless (is_list rows list && is_segment rows segment) off.Place))))
 
+  -- ---- plans
+
+  graph_each : (vs : List (VersionNumbers L)) → graph_of (map (each_version f) vs) ≡ graph_of vs
+  graph_each [] = refl
+  graph_each (v ∷ vs) = ap (λ us. record { records = v.rows; parents = v.parents } ∷ us) (graph_each vs)
+
+  kept_each : (t : TargetNumbers) (later : List (List ℕ)) (id : ℕ) (parts : List (PartNumbers S)) → is_kept t later (part_numbered (map (each_part g) parts) id) ≡ is_kept t later (part_numbered parts id)
+  kept_each t later id [] = refl
+  kept_each t later id (part ∷ parts) =
+      elim (cases_Bool (part.id == id)) [
+        | inl e ↦
+            rw e (ap (λ n. empties t.versions later part && ((ascend_from 0 t.kept && are_below n t.kept) && (is_same (length t.kept == 0) (t.kept_records == 0) && nat_le t.kept_records t.size)))
+            (length-map part.segments g))
+        | inr e ↦ rw e (kept_each t later id parts)
+      ]
+
+  source_each : (parts : List (PartNumbers S)) (t : TargetNumbers) (later : List (List ℕ)) → is_source (map (each_part g) parts) t later ≡ is_source parts t later
+  source_each parts t later = ap (λ kept. if t.source == 0 then length t.kept == 0 && t.kept_records == 0 else kept) (kept_each t later t.source parts)
+
+  fit_each : (vs : List (VersionNumbers L)) (size : ℕ) (vids : List ℕ) → list_all (λ vid. nat_le (rows_at (map (each_version f) vs) vid) size) vids ≡ list_all (λ vid. nat_le (rows_at vs vid) size) vids
+  fit_each vs size [] = refl
+  fit_each vs size (vid ∷ vids) = λ i. nat_le (at_each vs vid i) size && fit_each vs size vids i
+
+  targets_each : (d : SetNumbers L S) (ts : List TargetNumbers) → are_targets (each_set f g d) ts ≡ are_targets d ts
+  targets_each d [] = refl
+  targets_each d (t ∷ ts) = λ i.
+      ((fit_each d.versions t.size t.versions i && nat_le t.size d.records) && source_each d.parts t (map (λ u. u.versions) ts) i) && targets_each d ts i
+
+  idle_each : (plan : Option (PlanNumbers S)) → is_none (each_plan g plan) ≡ is_none plan
+  idle_each None = refl
+  idle_each (Some plan) = refl
+
+  plan_each : (p q : ℕ) (targets : List PlanTarget) (d : SetNumbers L S) → plan_off p q targets (each_set f g d) ≡ plan_off p q targets d
+  plan_each p q targets d =
+      let same : parts_at p q (each_set f g d) ≡ parts_at p q d = ap (λ versions. parts_of (graph.reduced versions) p q) (graph_each d.versions)
+      in let are : are_targets (each_set f g d) (targets_of (parts_at p q (each_set f g d)) targets) ≡ are_targets d (targets_of (parts_at p q d) targets) =
+      ap (λ parts. are_targets (each_set f g d) (targets_of parts targets)) same ∙ targets_each d (targets_of (parts_at p q d) targets)
+      in λ i.
+      option_or (off_unless (idle_each d.plan i && (is_threshold p q && nat_le d.next_part 4294000000)) off.Plan)
+      (off_unless (length targets == length (same i) && are i) off.Count)
+
+  copy_each : (count : ℕ) (segment : Extent) (plan : Option (PlanNumbers S)) → of_running (copy_off count segment) (each_plan g plan) ≡ of_running (copy_off count segment) plan
+  copy_each count segment None = refl
+  copy_each count segment (Some plan) = refl
+
+  flip_each : (plan : Option (PlanNumbers S)) → of_running flip_off (each_plan g plan) ≡ of_running flip_off plan
+  flip_each None = refl
+  flip_each (Some plan) = refl
+
+  -- ---- events
+
   live_each : (test : SetNumbers M T → Option Field) (same : SetNumbers L S → Option Field) → ((d : SetNumbers L S) → test (each_set f g d) ≡ same d)
       → (cvd : ℕ) (sets : List (SetNumbers L S)) → of_live test (find (numbered cvd) (map (each_set f g) sets)) ≡ of_live same (find (numbered cvd) sets)
   live_each test same is cvd [] = refl
@@ -122,5 +177,9 @@ module _ {L M S T : Type 0} (f : L → M) (g : S → T) where
   first_off_each (says.Commit cvd vid message parents rows fresh place added list segment) n =
       live_each (commit_off vid message parents rows fresh (place_in place) added list segment) (commit_off vid message parents rows fresh (place_in place) added list segment)
       (commit_each vid message parents rows fresh (place_in place) added list segment) cvd n.sets
+  first_off_each (says.Plan cvd p q targets) n = live_each (plan_off p q targets) (plan_off p q targets) (plan_each p q targets) cvd n.sets
+  first_off_each (says.Copy cvd count segment) n =
+      live_each (λ d. of_running (copy_off count segment) d.plan) (λ d. of_running (copy_off count segment) d.plan) (λ d. copy_each count segment d.plan) cvd n.sets
+  first_off_each (says.Flip cvd) n = live_each (λ d. of_running flip_off d.plan) (λ d. of_running flip_off d.plan) (λ d. flip_each d.plan) cvd n.sets
   first_off_each (says.Drop cvd) n = live_each (λ d. None) (λ d. None) (λ d. refl) cvd n.sets
   first_off_each _ n = refl

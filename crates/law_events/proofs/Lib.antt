@@ -4,5 +4,9 @@ pub mod Schemas
 pub mod Beginning
 pub mod Counts
 pub mod Seeing
+pub mod Lacks
+pub mod Left
+pub mod Planning
+pub mod Stepping
 pub mod Committing
 pub mod Asking

@@ -1,7 +1,7 @@
 -- The numbers of a dataset, and those that decide on its next version's place.
-use Rattle.std.proofs.Common.{◌≡◌, ℕ, suc, ◌+◌, ◌-◌, true, ◌==◌, List, [], ◌∷◌, ◌++◌, length, map, refl, sym, ◌∙◌, ap, subst, inl, inr, append_assoc}
-use Rattle.std.specs.Prelude.{Option, Some, None, slice_index_or}
-use Rattle.std.specs.List.{sum_by, sum}
+use Rattle.std.proofs.Common.{◌≡◌, ℕ, suc, ◌+◌, ◌-◌, Bool, true, false, ◌==◌, List, [], ◌∷◌, ◌++◌, length, map, refl, sym, ◌∙◌, ap, inl, inr, append_assoc}
+use Rattle.std.specs.Prelude.{Option, Some, None, ◌||◌, if◌then◌else◌, slice_index_or}
+use Rattle.std.specs.List.{list_any, sum_by, sum}
 use Rattle.std.proofs.lemmas.Bool.{cases_Bool, eq-eqb}
 use Rattle.std.proofs.lemmas.List.{map-append, append-nil, length-map}
 use Rattle.std.proofs.lemmas.List.Sums.{sum_by-cons}
@@ -13,10 +13,10 @@ use Rattle.ov_model.specs.Book.{Version}
 use Rattle.ov_model.specs.Moves as moves
 use Rattle.ov_model.specs.Records.{Rec, recs, record_of, records_of, of_version, order_of}
 use Rattle.ov_model.specs.World as world
-use Rattle.ov_model.specs.World.{Part, Plan, Dataset, held, part_of, is_one, copied_records}
-use Rattle.ov_catalog.specs.Applying.{rows_at, part_serving, part_numbered, id_in, records_in, is_unmoved, copied_in, facts_of, is_place}
+use Rattle.ov_model.specs.World.{Part, Target, Plan, Dataset, held, part_of, is_one, copied_records}
+use Rattle.ov_catalog.specs.Applying.{rows_at, part_serving, part_numbered, id_in, records_in, targets_from, is_unmoved, copied_in, facts_of, is_place}
 use Rattle.ov_catalog.specs.Numbers.{VersionNumbers, PartNumbers}
-use Rattle.ov_catalog.specs.Shown.{Rids, Records, shown_versions, shown_part, shown_plan, shown_set, held_by}
+use Rattle.ov_catalog.specs.Shown.{Rids, Records, shown_versions, shown_part, shown_target, shown_plan, shown_set, held_by}
 
 pub versions_long : (all : List Rec) (done : List (List Rec)) (vs : List Version) → length (shown_versions all done vs) ≡ length vs
 versions_long all done [] = refl
@@ -73,13 +73,29 @@ copied_shown : (d : Dataset) (plan : Option Plan) → copied_in (shown_plan d pl
 copied_shown d None = refl
 copied_shown d (Some plan) = refl
 
-unmoved_shown : (d : Dataset) (plan : Option Plan) (vid : ℕ) → plan ≡ None → is_unmoved (shown_plan d plan) vid ≡ world.is_unmoved plan vid
-unmoved_shown d plan vid none = subst (λ p. is_unmoved (shown_plan d p) vid ≡ world.is_unmoved p vid) (sym none) refl
+pub from_shown : (d : Dataset) (at : ℕ) (ts : List Target) → targets_from at (map (shown_target d) ts) ≡ map (shown_target d) (world.targets_from at ts)
+from_shown d at [] = refl
+from_shown d at (t ∷ ts) = by (at == 0) (from_shown d (at - 1) ts)
+  where
+    by : (b : Bool) → targets_from (at - 1) (map (shown_target d) ts) ≡ map (shown_target d) (world.targets_from (at - 1) ts)
+        → (if b then shown_target d t ∷ map (shown_target d) ts else targets_from (at - 1) (map (shown_target d) ts))
+        ≡ map (shown_target d) (if b then t ∷ ts else world.targets_from (at - 1) ts)
+    by true rest = refl
+    by false rest = rest
 
-facts_shown : (d : Dataset) (edge : ℕ × ℕ) → d.plan ≡ None → facts_of (shown_set d) edge ≡ moves.facts_of d edge
-facts_shown d edge none = λ i. record {
+waits_shown : (d : Dataset) (vid : ℕ) (ts : List Target) → list_any (λ t. is_one t.versions vid) (map (shown_target d) ts) ≡ list_any (λ t. is_one t.versions vid) ts
+waits_shown d vid [] = refl
+waits_shown d vid (t ∷ ts) = ap (λ later. is_one t.versions vid || later) (waits_shown d vid ts)
+
+unmoved_shown : (d : Dataset) (plan : Option Plan) (vid : ℕ) → is_unmoved (shown_plan d plan) vid ≡ world.is_unmoved plan vid
+unmoved_shown d None vid = refl
+unmoved_shown d (Some plan) vid =
+    ap (λ ts. list_any (λ t. is_one t.versions vid) ts) (from_shown d plan.at plan.targets) ∙ waits_shown d vid (world.targets_from plan.at plan.targets)
+
+facts_shown : (d : Dataset) (edge : ℕ × ℕ) → facts_of (shown_set d) edge ≡ moves.facts_of d edge
+facts_shown d edge = λ i. record {
   threshold = d.threshold;
-  unmoved = unmoved_shown d d.plan edge.0 none i;
+  unmoved = unmoved_shown d d.plan edge.0 i;
   weight = edge.1;
   records = length (order_of d.cvd.versions);
   stored = sum_shown (order_of d.cvd.versions) d.parts i + copied_shown d d.plan i;
@@ -90,5 +106,5 @@ same_place : (p : Place) → is_place p p ≡ true
 same_place Own = refl
 same_place (Join id) = eq-eqb id id refl
 
-pub place_shown : (d : Dataset) (v : Version) → d.plan ≡ None → is_place (moves.placed_at d v) (placed (facts_of (shown_set d) (moves.tree_edge_of d v))) ≡ true
-place_shown d v none = ap (λ facts. is_place (moves.placed_at d v) (placed facts)) (facts_shown d (moves.tree_edge_of d v) none) ∙ same_place (moves.placed_at d v)
+pub place_shown : (d : Dataset) (v : Version) → is_place (moves.placed_at d v) (placed (facts_of (shown_set d) (moves.tree_edge_of d v))) ≡ true
+place_shown d v = ap (λ facts. is_place (moves.placed_at d v) (placed facts)) (facts_shown d (moves.tree_edge_of d v)) ∙ same_place (moves.placed_at d v)

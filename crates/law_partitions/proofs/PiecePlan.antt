@@ -121,7 +121,7 @@ later_serves versions part parts id once serves = (
     other true e = absurd (omega (arith, once, serves.1, ap one_if e))
 
 -- no partition has the number 0
-no_pieces : (parts : List Part) → id_times parts 0 ≡ 0 → pieces_of parts 0 ≡ []
+pub no_pieces : (parts : List Part) → id_times parts 0 ≡ 0 → pieces_of parts 0 ≡ []
 no_pieces [] none = refl
 no_pieces (part ∷ parts) none = cond-false (part.id == 0) part.pieces (pieces_of parts 0) (other (part.id == 0) refl) ∙ no_pieces parts (omega (arith, none))
   where
@@ -186,7 +186,7 @@ module _ (d : Dataset) (is : HasPieces d) (placed : IsPlaced d) where
   abbrev done : List (List Rec)
   done = recs d.cvd.versions []
 
-  target_kept : (versions : List ℕ) (later : List (List ℕ)) → IsKept d (target_of d versions later)
+  pub target_kept : (versions : List ℕ) (later : List (List ℕ)) → IsKept d (target_of d versions later)
   target_kept versions later =
       let wanted : List Rec = records_in d.cvd versions
       in let source : ℕ = source_of (length wanted) (cheapest wanted versions later d.parts)

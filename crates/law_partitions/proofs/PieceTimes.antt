@@ -132,7 +132,7 @@ record_times ps done (row ∷ rows) r =
 pub records_once : (v : Version) (done : List (List Rec)) → ((row : Row) → row_times v.rows row ≤ 1) → NoTwice (records_of v done)
 records_once v done once r = omega (arith, record_times v.parents done v.rows r, once r.row)
 
-abbrev AllOnce : List (List Rec) → Type 0
+abbrev pub AllOnce : List (List Rec) → Type 0
 AllOnce [] = Unit {0}
 AllOnce (rs ∷ rss) = NoTwice rs × AllOnce rss
 
@@ -140,7 +140,7 @@ once-append : (rss : List (List Rec)) (rs : List Rec) → AllOnce rss → NoTwic
 once-append [] rs all once = (once, tt)
 once-append (l ∷ rss) rs all once = (all.0, once-append rss rs all.1 once)
 
-recs_once : (vs : List Version) (done : List (List Rec)) → HaveNoRowTwice vs → AllOnce done → AllOnce (recs vs done)
+pub recs_once : (vs : List Version) (done : List (List Rec)) → HaveNoRowTwice vs → AllOnce done → AllOnce (recs vs done)
 recs_once [] done rows all = all
 recs_once (v ∷ vs) done rows all = recs_once vs (done ++ records_of v done ∷ []) rows.1 (once-append done (records_of v done) all (records_once v done rows.0))
 

@@ -111,7 +111,7 @@ ascend_if : (t : Bool) (at : ℕ) (rest : List ℕ) → AscendFrom (at + 1) rest
 ascend_if true at rest up = (omega arith, up)
 ascend_if false at rest up = from_less at (at + 1) rest (omega arith) up
 
-places_ascend : (wanted : List Rec) (at : ℕ) (pieces : List (List Rec)) → AscendFrom at (places_within at wanted pieces)
+pub places_ascend : (wanted : List Rec) (at : ℕ) (pieces : List (List Rec)) → AscendFrom at (places_within at wanted pieces)
 places_ascend wanted at [] = tt
 places_ascend wanted at (piece ∷ pieces) = ascend_if (list_all (is_among wanted) piece) at (places_within (at + 1) wanted pieces) (places_ascend wanted (at + 1) pieces)
 
@@ -142,7 +142,7 @@ none_meets d (vs ∷ later) versions none other (inr behind) = none_meets d late
 
 module _ (wanted : List Rec) (versions : List ℕ) (later : List (List ℕ)) where
   -- a partition of this number that the target empties
-  abbrev Goes : List Part → ℕ → Type 0
+  abbrev pub Goes : List Part → ℕ → Type 0
   Goes parts id = (part : Part) × IsIn parts part × (part.id ≡ id) × (empties versions later part ≡ true)
 
   goes_behind : (part : Part) (parts : List Part) (id : ℕ) → Goes parts id → Goes (part ∷ parts) id
@@ -159,7 +159,7 @@ module _ (wanted : List Rec) (versions : List ℕ) (later : List (List ℕ)) whe
       ]
   cheapest_if false part parts best is more e = goes_behind part parts best.0 (more e)
 
-  cheapest_goes : (parts : List Part) (best : ℕ × ℕ) → cheapest wanted versions later parts ≡ Some best → Goes parts best.0
+  pub cheapest_goes : (parts : List Part) (best : ℕ × ℕ) → cheapest wanted versions later parts ≡ Some best → Goes parts best.0
   cheapest_goes [] best e = absurd (none_some best e)
   cheapest_goes (part ∷ parts) best e = cheapest_if (empties versions later part) part parts best refl (cheapest_goes parts best) e
 
