@@ -1,7 +1,7 @@
 //! What `layout` shows of a dataset while a plan runs, step by step.
 use crate::listings::{begin, extent};
 use ov_catalog::Catalog;
-use ov_event::{Event, Items, PlanTarget, Placed};
+use ov_event::{Event, Items, Placed, PlanTarget};
 use ov_host::Extent;
 use ov_listing::layout_of;
 use ov_reply::reply;

@@ -31,7 +31,12 @@ fn schema(alloc: Global) -> Result<RawSchema, Fail> {
 }
 
 // A dataset begins with so many rows.
-pub(crate) fn begin(alloc: Global, catalog: &mut Catalog, name: &str, rows: u32) -> Result<(), Fail> {
+pub(crate) fn begin(
+    alloc: Global,
+    catalog: &mut Catalog,
+    name: &str,
+    rows: u32,
+) -> Result<(), Fail> {
     let event = Event::Init {
         name: Txt::new(alloc, name)?,
         schema: schema(alloc)?,
