@@ -38,6 +38,7 @@ pub use laws::{
     nothing_stands_for_the_empty_world, one_more_event, only_live_extents_matter,
     what_is_built_follows,
 };
+pub use steps::plan_steps;
 pub use telling::{numbers_tell_worlds_apart, order_is_by_rid};
 pub use worked::{
     a_migration_of_a_chain, a_plan_of_a_chain, a_snapshot_of_a_chain, a_wider_version_of_a_chain,

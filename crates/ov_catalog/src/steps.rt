@@ -45,8 +45,8 @@ fn later_steps(targets: &[Target]) -> u64
     steps
 }
 
-// The steps of a plan.
-fn plan_steps(plan: &Plan) -> u64
+/// How many migration steps a plan has left.
+pub fn plan_steps(plan: &Plan) -> u64
     requires at { HasCurrent plan.now }
     requires few { length plan.now.targets ≤ 65535 }
     ensures steps { result ≡ plan_steps_by (plan_in (Some plan.now)) }

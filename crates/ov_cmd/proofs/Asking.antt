@@ -143,12 +143,15 @@ built_are = (
       (
         run_is,
         (
-          cvd_is (codes "log") asks.Log (λ cvd. tt),
+          cvd_is (codes "layout") asks.Layout (λ cvd. tt),
           (
-            cvd_is (codes "drop") asks.DropCvd (λ cvd. tt),
+            cvd_is (codes "log") asks.Log (λ cvd. tt),
             (
-              alone_is (codes "ls") asks.Ls tt,
-              (generate_is, tt),
+              cvd_is (codes "drop") asks.DropCvd (λ cvd. tt),
+              (
+                alone_is (codes "ls") asks.Ls tt,
+                (generate_is, tt),
+              ),
             ),
           ),
         ),

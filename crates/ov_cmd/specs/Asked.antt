@@ -4,13 +4,14 @@
 use Rattle.std.specs.Prelude.{◌≡◌, ◌≢◌, ◌≤◌, ◌+◌, [], length, Option, Some, None, IsTrue}
 use Rattle.ov_value.specs.Naming.{is_name}
 use Rattle.ov_model.specs.declared.command.Command.{Command}
-use Rattle.ov_model.specs.declared.command.Command.TheVariants.{Init, Checkout, Commit, Run, Log, Ls, DropCvd, Generate}
+use Rattle.ov_model.specs.declared.command.Command.TheVariants.{Init, Checkout, Commit, Run, Layout, Log, Ls, DropCvd, Generate}
 
 abbrev pub IsAsked : Command → Type 0
 IsAsked (Init cvd schema file) = IsTrue (is_name cvd)
 IsAsked (Checkout cvd vids file table) = (vids ≢ []) × (table ≡ None)
 IsAsked (Commit cvd vids file message added) = (vids ≢ []) × (length message ≤ 1024) × (added ≡ None)
 IsAsked (Run text) = length text ≤ 65536
+IsAsked (Layout cvd) = Unit {0}
 IsAsked (Log cvd) = Unit {0}
 IsAsked Ls = Unit {0}
 IsAsked (DropCvd cvd) = Unit {0}

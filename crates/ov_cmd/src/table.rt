@@ -307,7 +307,7 @@ static ALL: [Form; 19] = [
 ];
 
 /// The commands that the program has so far.
-static BUILT: [Form; 8] = [
+static BUILT: [Form; 9] = [
     Form {
         name: "init",
         second: None,
@@ -339,6 +339,14 @@ static BUILT: [Form; 8] = [
         params: &[],
         choices: &[],
         maker: Maker::Run,
+    },
+    Form {
+        name: "layout",
+        second: None,
+        whole: false,
+        params: &[CVD],
+        choices: &[],
+        maker: Maker::Layout,
     },
     Form {
         name: "log",

@@ -56,16 +56,16 @@ versions_long all done (v ∷ vs) = let rest = versions_long all (done ++ record
 
 -- ---- one dataset
 
-abbrev Sets : Type 0
+abbrev pub Sets : Type 0
 Sets = List (SetNumbers Extent Extent)
 
-abbrev Seen : Type 0
+abbrev pub Seen : Type 0
 Seen = SetNumbers (Option Rids) (Option Records)
 
-abbrev set_seen : Readings → SetNumbers Extent Extent → Seen
+abbrev pub set_seen : Readings → SetNumbers Extent Extent → Seen
 set_seen r s = each_set r.list r.segment s
 
-abbrev set_asked : Dataset → Seen
+abbrev pub set_asked : Dataset → Seen
 set_asked d = each_set Some Some (shown_set d)
 
 log_same : (r : Readings) (s : SetNumbers Extent Extent) (d : Dataset) → set_seen r s ≡ set_asked d → shown_log s ≡ log_lines [] d.cvd.versions
@@ -106,10 +106,10 @@ some_same : {X : Type 0} (x y : X) → Some x ≡ Some y → x ≡ y
 some_same x y e = cc
 
 -- the dataset of a World that numbers are of
-abbrev IsOf : Readings → SetNumbers Extent Extent → Dataset → Type 0
+abbrev pub IsOf : Readings → SetNumbers Extent Extent → Dataset → Type 0
 IsOf r s d = set_seen r s ≡ set_asked d
 
-found_same : (r : Readings) (name : List ℕ) (ss : Sets) (ds : List Dataset) (s : SetNumbers Extent Extent)
+pub found_same : (r : Readings) (name : List ℕ) (ss : Sets) (ds : List Dataset) (s : SetNumbers Extent Extent)
     → map (set_seen r) ss ≡ map set_asked ds → find (is_named name) ss ≡ Some s → (d : Dataset) × (first_set (named name) ds ≡ Some d) × IsOf r s d
 found_same r name [] ds s same found = absurd (none_some s found)
 found_same r name (x ∷ xs) [] s same found = absurd (cons_nil _ _ same)
@@ -162,7 +162,7 @@ asked_sets : (ds : List Dataset) → map (each_set Some Some) (map shown_set ds)
 asked_sets [] = refl
 asked_sets (d ∷ ds) = ap (λ xs. set_asked d ∷ xs) (asked_sets ds)
 
-sets_same : (r : Readings) (n : Numbers Extent Extent) (w : World) → seen r n ≡ asked w → map (set_seen r) n.sets ≡ map set_asked w.sets
+pub sets_same : (r : Readings) (n : Numbers Extent Extent) (w : World) → seen r n ≡ asked w → map (set_seen r) n.sets ≡ map set_asked w.sets
 sets_same r n w same = ap (λ (m : Numbers (Option Rids) (Option Records)). m.sets) same ∙ asked_sets w.sets
 
 -- ---- of a World

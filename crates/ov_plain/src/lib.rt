@@ -30,5 +30,5 @@ pub use records::{order_of, records_of, recs, rid_in, weights};
 pub use sizes::{cost, stored};
 pub use small::{is_small, is_small_plan, serve_few};
 pub use split::plain_split;
-pub use steps::{copied_more, flipped, is_complete, missing, plan_steps};
+pub use steps::{copied_more, current, flipped, is_complete, missing, missing_of, plan_steps};
 pub use trees::depth_at;

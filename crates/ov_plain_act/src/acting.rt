@@ -12,6 +12,7 @@ ghost use Rattle.ov_plain_act.specs.Small.{AllFit, AreSmall, AreSmallMoves, IsSm
 
 use crate::accepted::accepted;
 use crate::deed::{Deed, Move, does, refuses};
+use crate::laying::layout_deed;
 use crate::session::Session;
 use crate::showing::checkout_deed;
 use crate::telling::{count_fresh, log_deed, ls_deed};
@@ -302,6 +303,7 @@ fn permitted_deed(
             message,
             added: None,
         } => Ok(Some(commit_deed(alloc, world, session, cvd, vids.as_slice(), message, file)?)),
+        Command::Layout { cvd } => Ok(Some(layout_deed(alloc, world, session, cvd)?)),
         Command::Log { cvd } => Ok(Some(log_deed(alloc, world, session, cvd)?)),
         Command::Ls => Ok(Some(ls_deed(alloc, world, session)?)),
         Command::DropCvd { cvd } => Ok(Some(drop_deed(alloc, world, session, cvd)?)),
@@ -313,7 +315,6 @@ fn permitted_deed(
         Command::OptimizeWithin { .. } => Ok(None),
         Command::Advise { .. } => Ok(None),
         Command::Migrate { .. } => Ok(None),
-        Command::Layout { .. } => Ok(None),
         Command::Checkpoint => Ok(None),
         Command::Generate { .. } => Ok(None),
         Command::CreateUser { .. } => Ok(None),

@@ -10,6 +10,7 @@ mod changes;
 mod copies;
 mod course;
 mod deed;
+mod laying;
 mod running;
 mod session;
 mod showing;

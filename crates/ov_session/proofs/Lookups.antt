@@ -19,7 +19,7 @@ use Rattle.law_runs.specs.Serving.{Breaks, Does, files_of, session_of}
 use Rattle.law_runs.proofs.Doing.{breaks_looked, does_told}
 use Rattle.ov_fetch.specs.Extents.{Looked}
 use Rattle.law_image.specs.Pages.{readings_of}
-use Rattle.ov_model.specs.Act.{Deed, Session, checkout_deed, gives, log_deed, ls_line, merge_of, put, refuses, rows_listed, tells, unless, vids_refusal}
+use Rattle.ov_model.specs.Act.{Deed, Session, checkout_deed, gives, layout_deed, log_deed, ls_line, merge_of, put, refuses, rows_listed, tells, unless, vids_refusal}
 use Rattle.ov_model.specs.Book.{Row}
 use Rattle.ov_model.specs.Csv.{text_of}
 use Rattle.ov_model.specs.Merge.{merged}
@@ -28,12 +28,13 @@ use Rattle.ov_model.specs.declared.refusal.Refusal.{Refusal}
 use Rattle.ov_model.specs.declared.refusal.Refusal.TheVariants as no
 use Rattle.ov_model.specs.declared.reply.Reply.{Reply}
 use Rattle.ov_model.specs.declared.reply.Reply.TheVariants as says
-use Rattle.ov_session.specs.Commands.{Acts, IsMergeOf}
+use Rattle.ov_session.specs.Commands.{Acts, IfNoFile, IsMergeOf}
 use Rattle.ov_session.specs.Errors.{reply_of}
 use Rattle.ov_session.specs.declared.errors.EndErr.{EndErr}
 use Rattle.ov_session.proofs.Calls.{acts_by}
-use Rattle.ov_listing.specs.Listed.{shown_cvds, shown_log}
+use Rattle.ov_listing.specs.Listed.{shown_cvds, shown_layout, shown_log}
 use Rattle.ov_listing.proofs.Showing.{cvds_shown, log_shown}
+use Rattle.ov_listing.proofs.ShowingLayout.{layout_shown}
 use Rattle.ov_store.specs.Refusals.{refusal_of, refused, vids_off}
 use Rattle.ov_store.specs.Scanning.{IsUnscanned, scan_off, set_in, versions_off}
 use Rattle.ov_store.specs.declared.errors.StoreErr.{StoreErr}
@@ -198,9 +199,24 @@ module _ (w : World) (held : Held) (old new : State) (at : IsAtWorld w held old)
       → IfOk result (λ r. reply_of name e ≡ Some r) → Acts asked_for s s w result held held old new
   checkout_off result e is said = acts_by asked_for s s w result name e held held old new said (λ r now. checkout_refused e r is now) checkout_stopped
 
--- ---- the versions of a dataset, and the datasets
+-- ---- the partitions and the versions of a dataset, and the datasets
+
+-- a layout is no refusal
+pub is_layout : (set : SetNumbers Extent Extent) (reply : Reply) → reply ≡ shown_layout set → IfNoFile ⊥ reply
+is_layout set reply is = λ name refused. other (sym refused ∙ is)
+  where
+    other : {name : List ℕ} → says.Refused (no.NoFile name) ≡ shown_layout set → ⊥
+    other e = cc
 
 module _ (w : World) (held : Held) (t : State) (at : IsAtWorld w held t) where
+  pub layout_told : (s : Session) (name : List ℕ) (set : SetNumbers Extent Extent) → set_in held.numbers name ≡ Some set
+      → layout_deed s name (set_named w name) ≡ tells s (shown_layout set)
+  layout_told s name set found =
+      layout_shown (readings_of t.tape.disk.pages.bytes) held.numbers w name set s at.stands.stands.reached (sees w held t at) found
+
+  pub layout_of_none : (s : Session) (name : List ℕ) → set_in held.numbers name ≡ None → layout_deed s name (set_named w name) ≡ refuses s (no.NoCvd name)
+  layout_of_none s name none = ap (layout_deed s name) (none_named w held t at name none)
+
   pub log_told : (s : Session) (name : List ℕ) (set : SetNumbers Extent Extent) → set_in held.numbers name ≡ Some set
       → log_deed s name (set_named w name) ≡ tells s (says.Log (shown_log set))
   log_told s name set found =

@@ -67,6 +67,7 @@ is_off n user _ = false
 abbrev pub IsReadingCommand : Command → Type 0
 IsReadingCommand (asks.Checkout cvd vids file table) = Unit {0}
 IsReadingCommand (asks.Run text) = Unit {0}
+IsReadingCommand (asks.Layout cvd) = Unit {0}
 IsReadingCommand (asks.Log cvd) = Unit {0}
 IsReadingCommand asks.Ls = Unit {0}
 IsReadingCommand _ = ⊥

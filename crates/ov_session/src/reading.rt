@@ -1,7 +1,7 @@
 // The commands that read.
 ghost use Rattle.std.specs.Prelude.{◌≡◌, ◌≤◌, ◌+◌, ℕ, List, true, false, None, Some, IsErrOf, IfOk, IfErr, MatchResult, OnOk, length, map};
 ghost use Rattle.ov_host.specs.Host.{Rose, State};
-ghost use Rattle.ov_model.specs.Act.{Session, checkout_deed, gives, log_deed, ls_line, merge_of, tells};
+ghost use Rattle.ov_model.specs.Act.{Session, checkout_deed, gives, layout_deed, log_deed, ls_line, merge_of, tells};
 ghost use Rattle.ov_model.specs.Asking.{run_deed};
 ghost use Rattle.ov_model.specs.QueryTexts.{asked_of};
 ghost use Rattle.ov_model.specs.World.{World, Dataset, set_named};
@@ -21,7 +21,7 @@ use crate::errors::{EndErr, end, refused};
 use ov_checkout::{Checkout, checkout_of};
 use ov_files::put_file;
 use ov_host::{Host, Stage};
-use ov_listing::{cvd_lines, log_lines};
+use ov_listing::{cvd_lines, layout_of, log_lines};
 use ov_model::{Refusal, Reply, Seq};
 use ov_query::answer_to;
 use ov_store::{Store, StoreErr};
@@ -150,6 +150,18 @@ pub fn run_query<H: Host>(
     match answer_to(alloc, store, host, user.as_str(), text.as_str()) {
         Ok(reply) => Ok(reply),
         Err(off) => Err(end(off)),
+    }
+}
+
+/// The partitions of a dataset, and the plan that runs.
+pub fn layout(alloc: Global, store: &Store, cvd: Txt) -> Result<Reply, AllocError>
+    ensures told { (w : World) (s : Session) (t : State) → IsAtWorld w store.now.held t
+        → IfOk result (λ reply. layout_deed s cvd (set_named w cvd) ≡ tells s reply) }
+    ensures seen { IfOk result (IfNoFile ⊥) }
+{
+    match store.catalog().cvd(cvd.as_str()) {
+        Some(d) => layout_of(alloc, d),
+        None => Ok(Reply::Refused(Refusal::NoCvd { cvd })),
     }
 }
 

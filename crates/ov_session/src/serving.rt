@@ -26,7 +26,7 @@ use crate::changing::{commit, drop_cvd, init};
 use crate::errors::EndErr;
 use crate::generating::make_versions;
 use crate::lines::{asked, refusal};
-use crate::reading::{checkout, log, ls, run_query};
+use crate::reading::{checkout, layout, log, ls, run_query};
 use ov_generate::Wanted;
 use ov_host::{Host, Stage};
 use ov_model::{Command, Reply};
@@ -104,6 +104,7 @@ fn answer<H: Host, T: Stage>(
             table: _,
         } => checkout(alloc, store, host, stage, cvd, vids.as_slice(), file),
         Command::Run { text } => run_query(alloc, store, host, user, &text),
+        Command::Layout { cvd } => Ok(layout(alloc, store, cvd)?),
         Command::Log { cvd } => Ok(log(alloc, store, cvd)?),
         Command::Ls => Ok(ls(alloc, store)?),
         Command::DropCvd { cvd } => drop_cvd(store, host, cvd),

@@ -1,11 +1,12 @@
 //! Worked plans and steps: what a dataset's partitions are after them.
 
-use crate::played::{CHAIN, FOUR, INIT, RAISE, dataset_after};
+use crate::played::{CHAIN, FOUR, INIT, RAISE, dataset_after, printed_over};
 use ov_model::Seq;
 use ov_plain::{
     Dataset, Part, Version, copied_more, cost, depth_at, flipped, held, is_complete, is_small,
     is_small_plan, plan_steps, planned, serve_few, stored, with_version,
 };
+use ov_plain_act::{Pieces, World};
 use ov_value::{Row, Txt, Value};
 use std::alloc::{AllocError, Global};
 use std::test::*;
@@ -129,13 +130,18 @@ fn shown(alloc: Global, set: &Dataset) -> Result<Vec<u128>, Fail> {
     Ok(numbers)
 }
 
-/// What is shown after these lines and then these acts.
-fn shown_after(alloc: Global, lines: &[&str], acts: &[Act]) -> Result<Vec<u128>, Fail> {
+/// The dataset of these lines, after these acts.
+fn set_after(alloc: Global, lines: &[&str], acts: &[Act]) -> Result<Dataset, Fail> {
     let mut set = dataset_after(alloc, lines)?;
     for act in acts {
         set = acted(alloc, *act, set)?;
     }
-    shown(alloc, &set)
+    Ok(set)
+}
+
+/// What is shown after these lines and then these acts.
+fn shown_after(alloc: Global, lines: &[&str], acts: &[Act]) -> Result<Vec<u128>, Fail> {
+    shown(alloc, &set_after(alloc, lines, acts)?)
 }
 
 /// Acts, and what is shown after them.
@@ -210,6 +216,45 @@ fn worked_plans_regroup_a_dataset(rt: HostRuntime) -> Result<(), Fail> {
             let found = shown_after(rt.alloc(), lines, acts)?;
             assert_eq!(rt; found.as_slice(), *wanted);
         }
+    }
+    Ok(())
+}
+
+/// What `layout` prints of the chain after these acts.
+fn layout_after(alloc: Global, acts: &[Act]) -> Result<Vec<u8>, Fail> {
+    let mut sets = Seq::new(alloc);
+    sets.push(set_after(alloc, &CHAIN, acts)?)?;
+    let world = World::new(Pieces {
+        sets,
+        next: 2,
+        epoch: 1,
+        records: 3,
+        format: 2,
+    });
+    Ok(printed_over(alloc, &world, "layout chain")?.ok_or("a line that is left out")?)
+}
+
+// Without a plan, at its beginning, and at its second target.
+const LAYOUTS: [(&[Act], &str); 3] = [
+    (
+        &[],
+        "partition 1: records 8, versions 1,2,3\nstored 8, cost 24\n",
+    ),
+    (
+        &[Act::Plan(3, 4)],
+        "partition 1: records 8, versions 1,2,3\nplan 3/4: target 1 of 2, copied 0 of 4, steps 4\nstored 8, cost 24\n",
+    ),
+    (
+        &[Act::Plan(3, 4), Act::Steps(3)],
+        "partition 1: records 8, versions 2,3\npartition 2: records 4, versions 1\nplan 3/4: target 2 of 2, copied 1 of 1, steps 1\nstored 13, cost 20\n",
+    ),
+];
+
+#[test]
+fn a_layout_tells_of_the_plan_that_runs(rt: HostRuntime) -> Result<(), Fail> {
+    for (acts, wanted) in LAYOUTS {
+        let printed = layout_after(rt.alloc(), acts)?;
+        assert_eq!(rt; printed.as_slice(), wanted.as_bytes());
     }
     Ok(())
 }

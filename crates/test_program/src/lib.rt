@@ -14,6 +14,8 @@ mod ends;
 #[cfg(test)]
 mod files;
 #[cfg(test)]
+mod layouts;
+#[cfg(test)]
 mod lines;
 #[cfg(test)]
 mod listings;

@@ -9,7 +9,7 @@ use std::alloc::Global;
 use std::test::Fail;
 
 // An extent of these bytes, or none where there are no rows.
-fn extent(page: u32, rows: u32, bytes: u32) -> Extent {
+pub(crate) fn extent(page: u32, rows: u32, bytes: u32) -> Extent {
     if rows == 0 {
         return Extent { page: 0, bytes: 0 };
     }
@@ -31,7 +31,12 @@ fn schema(alloc: Global) -> Result<RawSchema, Fail> {
 }
 
 // A dataset begins with so many rows.
-fn begin(alloc: Global, catalog: &mut Catalog, name: &str, rows: u32) -> Result<(), Fail> {
+pub(crate) fn begin(
+    alloc: Global,
+    catalog: &mut Catalog,
+    name: &str,
+    rows: u32,
+) -> Result<(), Fail> {
     let event = Event::Init {
         name: Txt::new(alloc, name)?,
         schema: schema(alloc)?,

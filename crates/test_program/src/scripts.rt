@@ -60,7 +60,7 @@ pub const BOTH: Line = (
     "people: version 4 (3 rows, 0 new)\n",
 );
 
-pub const PEOPLE: [Line; 19] = [
+pub const PEOPLE: [Line; 21] = [
     INIT,
     AGAIN,
     RAISE,
@@ -68,6 +68,11 @@ pub const PEOPLE: [Line; 19] = [
         "log people\n",
         "version 1: 2 rows, 2 new, parents none, init\nversion 2: 3 rows, 2 new, parents 1, raise\n",
     ),
+    (
+        "layout people\n",
+        "partition 1: records 4, versions 1,2\nstored 4, cost 8\n",
+    ),
+    ("layout nobody\n", "error 10: no dataset nobody\n"),
     ("ls\n", "people: 2 versions, 4 records\n(1 datasets)\n"),
     (
         "checkout people -v 1,2\n",
@@ -143,7 +148,7 @@ pub const OFF_LINES: [Line; 15] = [
         "init p -s id:int -k id -f a.csv\n",
         "error 31: the header differs from the schema\n",
     ),
-    ("layout people\n", "error 51: unknown command\n"),
+    ("layout\n", "error 52: missing cvd\n"),
     ("optimize people -d 1/2\n", "error 51: unknown command\n"),
     ("migrate 3\n", "error 51: unknown command\n"),
     ("\"\n", "error 58: a quote is not closed\n"),

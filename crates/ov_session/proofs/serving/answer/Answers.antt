@@ -58,12 +58,27 @@ returns-in-Checkout-clause-acts g c = λ w built told at.
     c.in-Checkout.vids c.as_slice-in-Checkout.result.now c.in-Checkout.file c.in-Checkout.table c.as_slice-in-Checkout.ensures asked.1
     (c.checkout.ensures.acts w c.args.user.now told at))
 
+pub returns-in_err-layout-in-Layout-clause-acts : goal.returns-in_err-layout-in-Layout-clause-acts
+returns-in_err-layout-in-Layout-clause-acts g c = λ w built told at.
+    let s = session_of (g.T.Stage.staged c.args.stage.now).files c.args.user.now
+    in let fact : Breaks (permitted w s c.args.command) s w (g.H.Host.state c.args.host.now) (g.H.Host.state c.args.host.now)
+    = breaks_looked (permitted w s c.args.command) s w c.args.store.now.held (g.H.Host.state c.args.host.now) (g.H.Host.state c.args.host.now) at refl
+    in search (rules, fact)
+
 pub returns-in_err-log-in-Log-clause-acts : goal.returns-in_err-log-in-Log-clause-acts
 returns-in_err-log-in-Log-clause-acts g c = λ w built told at.
     let s = session_of (g.T.Stage.staged c.args.stage.now).files c.args.user.now
     in let fact : Breaks (permitted w s c.args.command) s w (g.H.Host.state c.args.host.now) (g.H.Host.state c.args.host.now)
     = breaks_looked (permitted w s c.args.command) s w c.args.store.now.held (g.H.Host.state c.args.host.now) (g.H.Host.state c.args.host.now) at refl
     in search (rules, fact)
+
+pub returns-in-Layout-clause-acts : goal.returns-in-Layout-clause-acts
+returns-in-Layout-clause-acts g c = λ w built told at.
+    let s = session_of (g.T.Stage.staged c.args.stage.now).files c.args.user.now
+    in subst (λ (command : Command). Does (permitted w s command) s s w c.in_ok-layout-in-Layout.field-0
+    c.args.store.now.held c.args.store.now.held (g.H.Host.state c.args.host.now) (g.H.Host.state c.args.host.now)) (sym c.in-Layout.is)
+    (does_told _ s s w c.in_ok-layout-in-Layout.field-0 c.args.store.now.held (g.H.Host.state c.args.host.now) (g.H.Host.state c.args.host.now)
+    (c.in_ok-layout-in-Layout.ensures.told w s (g.H.Host.state c.args.host.now) at) at refl refl)
 
 pub returns-in-Log-clause-acts : goal.returns-in-Log-clause-acts
 returns-in-Log-clause-acts g c = λ w built told at.
@@ -168,8 +183,14 @@ returns-in-Checkout-clause-idle g c =
     subst (λ (command : Command). IfErr c.checkout.result (λ e. IsIdleBy command e c.args.store.now c.args.store.now (g.T.Stage.staged c.args.stage.now) (g.T.Stage.staged c.checkout.new.stage)
     (g.H.Host.state c.args.host.now) (g.H.Host.state c.checkout.new.host))) (sym c.in-Checkout.is) c.checkout.ensures.idle
 
+pub returns-in_err-layout-in-Layout-clause-fetched : goal.returns-in_err-layout-in-Layout-clause-fetched
+returns-in_err-layout-in-Layout-clause-fetched g c = unread_command c.args.user.now c.args.command c.args.store.now.held _ (g.H.Host.state c.args.host.now)
+
 pub returns-in_err-log-in-Log-clause-fetched : goal.returns-in_err-log-in-Log-clause-fetched
 returns-in_err-log-in-Log-clause-fetched g c = unread_command c.args.user.now c.args.command c.args.store.now.held _ (g.H.Host.state c.args.host.now)
+
+pub returns-in-Layout-clause-fetched : goal.returns-in-Layout-clause-fetched
+returns-in-Layout-clause-fetched g c = unread_command c.args.user.now c.args.command c.args.store.now.held _ (g.H.Host.state c.args.host.now)
 
 pub returns-in-Log-clause-fetched : goal.returns-in-Log-clause-fetched
 returns-in-Log-clause-fetched g c = unread_command c.args.user.now c.args.command c.args.store.now.held _ (g.H.Host.state c.args.host.now)
@@ -180,8 +201,14 @@ returns-in_err-ls-in-Ls-clause-fetched g c = unread_command c.args.user.now c.ar
 pub returns-in-Ls-clause-fetched : goal.returns-in-Ls-clause-fetched
 returns-in-Ls-clause-fetched g c = unread_command c.args.user.now c.args.command c.args.store.now.held _ (g.H.Host.state c.args.host.now)
 
+pub returns-in-Layout-clause-at : goal.returns-in-Layout-clause-at
+returns-in-Layout-clause-at g c = λ w at. at_still w c.args.store.now.held (g.H.Host.state c.args.host.now) at
+
 pub returns-in-Log-clause-at : goal.returns-in-Log-clause-at
 returns-in-Log-clause-at g c = λ w at. at_still w c.args.store.now.held (g.H.Host.state c.args.host.now) at
+
+pub returns-in-Layout-clause-missed : goal.returns-in-Layout-clause-missed
+returns-in-Layout-clause-missed g c = λ name is. absurd (c.in_ok-layout-in-Layout.ensures.seen name is)
 
 pub returns-in-Log-clause-missed : goal.returns-in-Log-clause-missed
 returns-in-Log-clause-missed g c = λ name is. absurd (c.in_ok-log-in-Log.ensures.seen name is)
@@ -196,8 +223,14 @@ pub returns-in-Checkout-clause-by_journal : goal.returns-in-Checkout-clause-by_j
 returns-in-Checkout-clause-by_journal g c = λ by fine.
     journal_looked c.args.store.now.held (g.H.Host.state c.args.host.now) (g.H.Host.state c.checkout.new.host) c.checkout.ensures.looked by
 
+pub returns-in_err-layout-in-Layout-clause-by_journal : goal.returns-in_err-layout-in-Layout-clause-by_journal
+returns-in_err-layout-in-Layout-clause-by_journal g c = λ by fine. by
+
 pub returns-in_err-log-in-Log-clause-by_journal : goal.returns-in_err-log-in-Log-clause-by_journal
 returns-in_err-log-in-Log-clause-by_journal g c = λ by fine. by
+
+pub returns-in-Layout-clause-by_journal : goal.returns-in-Layout-clause-by_journal
+returns-in-Layout-clause-by_journal g c = λ by fine. by
 
 pub returns-in-Log-clause-by_journal : goal.returns-in-Log-clause-by_journal
 returns-in-Log-clause-by_journal g c = λ by fine. by
@@ -219,6 +252,10 @@ returns-in-Commit-clause-whole g c = λ page told.
 pub returns-in-DropCvd-clause-whole : goal.returns-in-DropCvd-clause-whole
 returns-in-DropCvd-clause-whole g c = λ page told.
     on_any _ c.drop_cvd.result (subst (λ (command : Command). MeetsDamage c.args.user.now command (g.T.Stage.staged c.args.stage.now) c.args.store.now.held (g.H.Host.state c.args.host.now) page → ⊥) (sym c.in-DropCvd.is) (λ met. met))
+
+pub returns-in-Layout-clause-whole : goal.returns-in-Layout-clause-whole
+returns-in-Layout-clause-whole g c = λ page told.
+    subst (λ (command : Command). MeetsDamage c.args.user.now command (g.T.Stage.staged c.args.stage.now) c.args.store.now.held (g.H.Host.state c.args.host.now) page → ⊥) (sym c.in-Layout.is) (λ met. met)
 
 pub returns-in-Log-clause-whole : goal.returns-in-Log-clause-whole
 returns-in-Log-clause-whole g c = λ page told.
@@ -259,8 +296,14 @@ returns-in-Checkout-clause-other g c = λ refusal is. absurd (ok_err _ refusal (
 pub returns-in-DropCvd-clause-other : goal.returns-in-DropCvd-clause-other
 returns-in-DropCvd-clause-other g c = λ refusal is. absurd (ok_err _ refusal (subst (λ (command : Command). if_built command ≡ off refusal) c.in-DropCvd.is is))
 
+pub returns-in_err-layout-in-Layout-clause-other : goal.returns-in_err-layout-in-Layout-clause-other
+returns-in_err-layout-in-Layout-clause-other g c = λ refusal is. absurd (ok_err _ refusal (subst (λ (command : Command). if_built command ≡ off refusal) c.in-Layout.is is))
+
 pub returns-in_err-log-in-Log-clause-other : goal.returns-in_err-log-in-Log-clause-other
 returns-in_err-log-in-Log-clause-other g c = λ refusal is. absurd (ok_err _ refusal (subst (λ (command : Command). if_built command ≡ off refusal) c.in-Log.is is))
+
+pub returns-in-Layout-clause-other : goal.returns-in-Layout-clause-other
+returns-in-Layout-clause-other g c = λ refusal is. absurd (ok_err _ refusal (subst (λ (command : Command). if_built command ≡ off refusal) c.in-Layout.is is))
 
 pub returns-in-Log-clause-other : goal.returns-in-Log-clause-other
 returns-in-Log-clause-other g c = λ refusal is. absurd (ok_err _ refusal (subst (λ (command : Command). if_built command ≡ off refusal) c.in-Log.is is))
