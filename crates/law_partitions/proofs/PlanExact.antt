@@ -40,7 +40,7 @@ or_second : (a b : Bool) → b ≡ true → (a || b) ≡ true
 or_second true b e = refl
 or_second false b e = e
 
-in_among : (xs : List Rec) (r : Rec) → IsIn xs r → is_among xs r ≡ true
+pub in_among : (xs : List Rec) (r : Rec) → IsIn xs r → is_among xs r ≡ true
 in_among [] r is = absurd is
 in_among (x ∷ xs) r (inl same) = or_first (is_same_rec r x) (is_among xs r) (ap (is_same_rec r) (sym same) ∙ same_rec-refl r)
 in_among (x ∷ xs) r (inr later) = or_second (is_same_rec r x) (is_among xs r) (in_among xs r later)
@@ -104,14 +104,14 @@ shorter xs ys once within =
 
 -- ---- the records of versions
 
-of_one : (done : List (List Rec)) (vids : List ℕ) (r : Rec) → IsOfOne done vids r → list_any (λ vid. is_among (of_version done vid) r) vids ≡ true
+pub of_one : (done : List (List Rec)) (vids : List ℕ) (r : Rec) → IsOfOne done vids r → list_any (λ vid. is_among (of_version done vid) r) vids ≡ true
 of_one done [] r is = absurd is
 of_one done (vid ∷ vids) r (inl here) =
     or_first (is_among (of_version done vid) r) (list_any (λ v. is_among (of_version done v) r) vids) (in_among (of_version done vid) r here)
 of_one done (vid ∷ vids) r (inr later) =
     or_second (is_among (of_version done vid) r) (list_any (λ v. is_among (of_version done v) r) vids) (of_one done vids r later)
 
-known_one : (done : List (List Rec)) (vids : List ℕ) (all : List Rec) (r : Rec) → AllAreIn done all → IsOfOne done vids r → IsIn all r
+pub known_one : (done : List (List Rec)) (vids : List ℕ) (all : List Rec) (r : Rec) → AllAreIn done all → IsOfOne done vids r → IsIn all r
 known_one done [] all r are is = absurd is
 known_one done (vid ∷ vids) all r are (inl here) = are_in_is (of_version done vid) all r (at_known done (vid - 1) all are) here
 known_one done (vid ∷ vids) all r are (inr later) = known_one done vids all r are later
