@@ -1,5 +1,5 @@
 -- A change that brings no run, at any World that the store is at.
-use Rattle.std.proofs.Common.{◌≡◌, ℕ, ◌<◌, ◌≤◌, ◌^◌, Bool, true, List, [], ◌∷◌, ◌++◌, None, Some, map, refl, sym, ◌∙◌, ap, subst, arith}
+use Rattle.std.proofs.Common.{◌≡◌, ℕ, ◌<◌, ◌≤◌, ◌^◌, List, [], ◌∷◌, ◌++◌, None, Some, refl, sym, ◌∙◌, ap, subst, arith}
 use Rattle.ov_host.specs.declared.area.Extent.{Extent}
 use Rattle.ov_host.specs.Host.{State}
 use Rattle.ov_host.specs.Stops.{Only}
@@ -8,14 +8,13 @@ use Rattle.ov_event.specs.declared.event.Event.TheVariants as says
 use Rattle.ov_event.specs.Spelling.{IsEvent, spelling}
 use Rattle.ov_journal.specs.Held.{IsAt, kept_by}
 use Rattle.ov_journal.specs.Journal.{Kept, and_one}
-use Rattle.ov_layout.specs.Changes.{extents_of}
 use Rattle.ov_pages.specs.Sets.{Reserved}
 use Rattle.ov_pages.specs.Live.{AreReserved}
 use Rattle.ov_publish.specs.Steps.{IsAdded, IsFree, IsStored}
 use Rattle.ov_model.specs.Moves.{Move, moved}
 use Rattle.ov_model.specs.World.{World}
-use Rattle.ov_catalog.specs.Applying.{first_off, is_built_event}
-use Rattle.ov_catalog.specs.Events.{Copy, applied}
+use Rattle.ov_catalog.specs.Applying.{first_off}
+use Rattle.ov_catalog.specs.Events.{applied}
 use Rattle.ov_catalog.specs.Extents.{brought, covers, given_up, live}
 use Rattle.ov_catalog.specs.Numbers.{Numbers}
 use Rattle.ov_catalog.specs.Raw.{event_in, numbers_in}
@@ -35,17 +34,28 @@ use Rattle.ov_core.proofs.Ranges.{ranges_for}
 use Rattle.ov_core.proofs.Reserving.{AreSame, reserved_same}
 use Rattle.ov_core.proofs.Storing as storing
 
--- nothing is read for it
-bare_seen : (r : Readings) (e : raw.Event) → is_built_event e ≡ true → IsBare e → seen_event r e ≡ content (event_in e) [] []
-bare_seen r (says.Init name columns rows list segment) built bare = cc
-bare_seen r (says.Commit cvd vid message edges rows fresh place added list segment) built bare = cc
-bare_seen r (says.Plan cvd p q targets) built bare = refl
-bare_seen r (says.Copy cvd count segment) built bare = ap (λ (es : List Extent). Copy cvd count (map r.segment es)) bare
-bare_seen r (says.Flip cvd) built bare = refl
-bare_seen r (says.Drop cvd) built bare = refl
-bare_seen r (says.Base next) built bare = cc
-bare_seen r (says.Whole said) built bare = cc
-bare_seen r (says.Wide cvd vid message columns edges rows fresh place added list segment) built bare = cc
+bare_brought : (e : raw.Event) → IsBare e → brought (event_in e) ≡ []
+bare_brought (says.Init name columns rows list segment) bare = absurd bare
+bare_brought (says.Commit cvd vid message edges rows fresh place added list segment) bare = absurd bare
+bare_brought (says.Plan cvd p q targets) bare = refl
+bare_brought (says.Copy cvd count segment) bare = absurd bare
+bare_brought (says.Flip cvd) bare = refl
+bare_brought (says.Drop cvd) bare = refl
+bare_brought (says.Base next) bare = absurd bare
+bare_brought (says.Whole said) bare = absurd bare
+bare_brought (says.Wide cvd vid message columns edges rows fresh place added list segment) bare = absurd bare
+
+-- so nothing is read for it
+bare_seen : (r : Readings) (e : raw.Event) → IsBare e → seen_event r e ≡ content (event_in e) [] []
+bare_seen r (says.Init name columns rows list segment) bare = absurd bare
+bare_seen r (says.Commit cvd vid message edges rows fresh place added list segment) bare = absurd bare
+bare_seen r (says.Plan cvd p q targets) bare = refl
+bare_seen r (says.Copy cvd count segment) bare = absurd bare
+bare_seen r (says.Flip cvd) bare = refl
+bare_seen r (says.Drop cvd) bare = refl
+bare_seen r (says.Base next) bare = absurd bare
+bare_seen r (says.Whole said) bare = absurd bare
+bare_seen r (says.Wide cvd vid message columns edges rows fresh place added list segment) bare = absurd bare
 
 module _ (e : raw.Event) (n : Numbers Extent Extent) (replayed : IsReplayed n) (applies : first_off e n ≡ None) (apart : IsApart e n) (bare : IsBare e) where
   -- what is given up, and what stays, is what was live
@@ -54,7 +64,7 @@ module _ (e : raw.Event) (n : Numbers Extent Extent) (replayed : IsReplayed n) (
       omega (
         arith,
         live_total w e n applies apart (served n replayed),
-        ap (total w) bare,
+        ap (total w) (bare_brought e bare),
         total-append w (given_up (event_in e) n) (live (applied (event_in e) n)),
       )
 
@@ -85,7 +95,7 @@ module _ (e : raw.Event) (n : Numbers Extent Extent) (replayed : IsReplayed n) (
   bare_there m after old new same is kept there page some =
       let now : after ≡ applied (event_in e) n = is ∙ ap (applied (event_in e)) same
       in let some_now : 1 ≤ covers (live (applied (event_in e) n)) page = subst (λ (x : Numbers Extent Extent). 1 ≤ covers (live x) page) now some
-      in let none : covers (brought (event_in e)) page ≡ 0 = ap (λ (es : List Extent). covers es page) bare
+      in let none : covers (brought (event_in e)) page ≡ 0 = ap (λ (es : List Extent). covers es page) (bare_brought e bare)
       in subst (λ (ps : List ℕ). page < pages_in ps) (sym kept)
       (there page (omega (arith, some_now, none, live_applied page e n (applies_built e n applies) apart)))
 
@@ -105,12 +115,12 @@ module _ (w : World) (held : Held) (s0 : State) (is : IsAtWorld w held s0) (m : 
   same = record { there = is.stands.stands.apart.inside; same = λ p used. refl }
 
   none : (page : ℕ) → covers (brought (event_in e)) page ≡ 0
-  none page = ap (λ (es : List Extent). covers es page) bare
+  none page = ap (λ (es : List Extent). covers es page) (bare_brought e bare)
 
   move : IsMove e m w (numbers_in is.events) (readings_of pages)
   move =
       is_move is.events (readings_of pages) w e m is.stands.stands asks.fits (applies_sound e held.numbers applies)
-      (ap Some (bare_seen (readings_of pages) e (applies_built e held.numbers applies) bare) ∙ asks.says)
+      (ap Some (bare_seen (readings_of pages) e bare) ∙ asks.says)
       (λ page. omega (arith, none page, is.stands.stands.apart.once page))
       (λ page some. absurd (omega (arith, none page, some)))
 

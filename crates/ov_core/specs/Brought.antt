@@ -13,7 +13,6 @@ use Rattle.ov_event.specs.declared.event.Event.TheVariants as says
 use Rattle.ov_model.specs.Moves.{Move}
 use Rattle.ov_model.specs.World.{World}
 use Rattle.ov_catalog.specs.Events.{Event, Init, Commit, Plan, Copy, Flip, Drop, Base, Whole, Wide}
-use Rattle.ov_catalog.specs.Extents.{brought}
 use Rattle.ov_catalog.specs.Numbers.{each_set}
 use Rattle.ov_catalog.specs.Raw.{event_in}
 use Rattle.ov_catalog.specs.Reached.{Fits}
@@ -80,9 +79,17 @@ pub record Brings (m : Move) (w : World) (b : Brought) : Type 0 where
   pub fits : Fits m w
   pub says : Some (content (event_in b.event) b.list.items b.segment.items) ≡ asked_event m w
 
--- a Plan, a Flip or a Drop
+-- A Plan, a Flip or a Drop brings none.
 abbrev pub IsBare : raw.Event → Type 0
-IsBare e = brought (event_in e) ≡ []
+IsBare (says.Init name schema rows list segment) = ⊥
+IsBare (says.Commit cvd vid message parents rows fresh place added list segment) = ⊥
+IsBare (says.Plan cvd p q targets) = Unit {0}
+IsBare (says.Copy cvd count segment) = ⊥
+IsBare (says.Flip cvd) = Unit {0}
+IsBare (says.Drop cvd) = Unit {0}
+IsBare (says.Base next) = ⊥
+IsBare (says.Whole said) = ⊥
+IsBare (says.Wide cvd vid message columns parents rows fresh place added list segment) = ⊥
 
 pub record Asks (m : Move) (w : World) (e : raw.Event) : Type 0 where
   pub fits : Fits m w

@@ -15,6 +15,7 @@ use Rattle.ov_journal.specs.Held as journals
 use Rattle.ov_catalog.specs.Extents.{covers, live}
 use Rattle.ov_catalog.specs.Events.{applied}
 use Rattle.ov_catalog.specs.Raw.{event_in}
+use Rattle.ov_catalog.specs.Sources.{IsApart}
 use Rattle.ov_core.specs.declared.brought.Brought.{Brought}
 use Rattle.ov_core.specs.declared.errors.ChangeErr.{ChangeErr}
 use Rattle.ov_core.specs.declared.errors.ChangeErr.TheVariants as errors
@@ -95,9 +96,10 @@ IsWhyNotRecorded errors.Memory held e old new = Unit {0}
 IsWhyNotRecorded (errors.Full pages) held e old new = ⊥
 IsWhyNotRecorded errors.JournalFull held e old new = PassesJournal held e
 
--- it was added: the journal had room, and the catalog applied it
+-- it was added: the journal had room, nothing that stays was given up, and the catalog applied it
 pub record IsRecorded (old new : Held) (e : raw.Event) : Type 0 where
   pub fits : PassesJournal old e → ⊥
+  pub apart : IsApart e old.numbers
   pub applied_is : new.numbers ≡ applied (event_in e) old.numbers
 
 -- a drop

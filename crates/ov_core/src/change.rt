@@ -12,7 +12,7 @@ ghost use Rattle.ov_catalog.specs.Reached.{Fits};
 ghost use Rattle.ov_core.specs.AtWorld.{IsAtWorld, IsEither, IsAtNext};
 ghost use Rattle.ov_core.specs.Brought.{Asks, Brings, IsBare, IsUnplaced};
 ghost use Rattle.ov_core.specs.Held.{GoesOn, IsBeside, IsByJournal};
-ghost use Rattle.ov_core.specs.Rooms.{IsRecorded, IsDropped, IsMade, IsWhy, IsWhyKept, IsWhyNotRecorded};
+ghost use Rattle.ov_core.specs.Rooms.{IsDropped, IsMade, IsRecorded, IsWhy, IsWhyKept, IsWhyNotRecorded};
 
 use crate::brought::Brought;
 use crate::errors::ChangeErr;

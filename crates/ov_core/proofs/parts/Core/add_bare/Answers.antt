@@ -1,5 +1,6 @@
 use Rattle.std.proofs.Common.{◌≡◌, ◌≤◌, ◌+◌, ℕ, List, [], length, None, ◌∙◌, ap, subst, arith}
 use Rattle.ov_host.specs.Disk.{Stored}
+use Rattle.ov_host.specs.declared.area.Extent.{Extent}
 use Rattle.ov_event.specs.Spelling.{spelling}
 use Rattle.ov_event.proofs.Events.{fits_of}
 use Rattle.ov_catalog.specs.Applying.{first_off}
@@ -8,7 +9,6 @@ use Rattle.ov_catalog.specs.Extents.{live}
 use Rattle.ov_catalog.specs.Numbers.{Numbers}
 use Rattle.ov_catalog.specs.Raw.{event_in}
 use Rattle.ov_catalog.specs.Sources.{IsApart}
-use Rattle.ov_host.specs.declared.area.Extent.{Extent}
 use Rattle.ov_core.specs.Held.{Held}
 use Rattle.ov_core.proofs.Bare.{bare_done, bare_kept, bare_stops, bare_there}
 use Rattle.ov_core.proofs.Growing.{grown, none_stays}
@@ -52,6 +52,16 @@ invariant_of-self-2 g c =
     c.in_ok-framed.ensures.numbers c.apply_reserved.ensures.applied c.new-freed.ensures.items c.in_ok-framed.ensures.freed c.apply_reserved.ensures.freed c.deref.ensures.value
     c.self.invariant.0 in
     (c.free_all.ensures (live c.apply_reserved.new.self.numbers) both.0, both.1)
+
+pub returns-clause-made : goal.returns-clause-made
+returns-clause-made g c =
+    let n = c.self.inside.catalog.numbers in
+    let apart : IsApart c.args.event n = subst (λ (x : Numbers Extent Extent). IsApart c.args.event x) c.in_ok-framed.ensures.numbers c.is_apart.ensures in
+    rw (← c.self.view_is) (record {
+      fits = c.in_ok-framed.ensures.fits;
+      apart = apart;
+      applied_is = c.apply_reserved.ensures.applied ∙ ap (applied (event_in c.args.event)) c.in_ok-framed.ensures.numbers;
+    })
 
 pub returns-clause-grows : goal.returns-clause-grows
 returns-clause-grows g c =
