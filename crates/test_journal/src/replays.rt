@@ -1,4 +1,4 @@
-//! Payloads replayed: second ones that can't follow, and a journal of 65,000 events with its time.
+//! Payloads replayed: second ones that can't follow, and long journals with their times: 65,000 events, and 10,000 flips.
 
 use ov_catalog::{ApplyErr, Catalog, Field};
 use ov_event::{Event, read_event};
@@ -94,5 +94,36 @@ fn sixty_five_thousand_events(rt: HostRuntime) -> Result<(), Fail> {
     let versions = catalog.cvd("chain").map(|d| d.versions.len());
     assert_eq!(rt; versions, Some(65_000));
     println!(rt; "65,000 events replayed in {spent} ms")?;
+    Ok(())
+}
+
+// A plan of the dataset's one version: its target keeps the one segment of the partition with this number.
+fn plan(alloc: Global, source: u32) -> Result<Payload, Fail> {
+    let mut bytes = Vec::new(alloc);
+    bytes.extend_from_slice(b"\x03\0\0\0\x01\0\0\0\x01\0\0\0\x01\0\0\0\x01\0\0\0\x01")?;
+    bytes.extend_from_slice(&source.to_be_bytes())?;
+    bytes.extend_from_slice(b"\0\0\0\x01\0\0\0\0\0\0\0\x01")?;
+    Ok(Payload::new(bytes))
+}
+
+const FLIP: &[u8] = b"\x05\0\0\0\x01";
+
+// The first partition has the number 1, and each flip makes one with the next number.
+#[test]
+fn ten_thousand_flips(rt: HostRuntime) -> Result<(), Fail> {
+    let alloc = rt.alloc();
+    let mut payloads = Vec::new(alloc);
+    payloads.push(payload(alloc, INIT)?)?;
+    for source in 1..=10_000u32 {
+        payloads.push(plan(alloc, source)?)?;
+        payloads.push(payload(alloc, FLIP)?)?;
+    }
+    let start = Instant::now(&rt)?;
+    let catalog = replay(alloc, &payloads).map_err(|_why| "it is no journal")?;
+    let spent = start.elapsed(&rt)?.as_millis();
+    let next = catalog.cvd("chain").map(|d| d.layout.next_id());
+    assert_eq!(rt; next, Some(10_002));
+    assert_eq!(rt; catalog.steps_left(), 0);
+    println!(rt; "10,000 flips replayed in {spent} ms")?;
     Ok(())
 }

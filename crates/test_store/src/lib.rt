@@ -6,6 +6,8 @@
 #[cfg(test)]
 mod calls;
 #[cfg(test)]
+mod chains;
+#[cfg(test)]
 mod changes;
 #[cfg(test)]
 mod damages;
@@ -13,6 +15,8 @@ mod damages;
 mod histories;
 #[cfg(test)]
 mod joins;
+#[cfg(test)]
+mod migrations;
 #[cfg(test)]
 mod opened;
 #[cfg(test)]

@@ -12,7 +12,7 @@ use ov_csv::read_csv;
 use ov_fetch::Scan;
 use ov_memhost::MemHost;
 use ov_store::{Committed, Store, StoreErr};
-use ov_value::{Txt, is_name};
+use ov_value::{Schema, Txt, is_name};
 use std::alloc::Global;
 use std::test::Fail;
 
@@ -44,10 +44,15 @@ impl Opened {
         Ok(Opened { alloc, store, host })
     }
 
-    /// Makes a dataset of the rows of a file.
+    /// Makes a dataset of the rows of a file with the columns of the people.
     pub fn init(&mut self, name: &str, file: &[u8]) -> Result<Made, Fail> {
-        let name = Txt::new(self.alloc, name)?;
         let schema = schema_of(self.alloc)?;
+        self.begin(name, schema, file)
+    }
+
+    /// Makes a dataset of the rows of a file.
+    pub fn begin(&mut self, name: &str, schema: Schema, file: &[u8]) -> Result<Made, Fail> {
+        let name = Txt::new(self.alloc, name)?;
         let rows = read_csv(self.alloc, &schema, file)?;
         if !is_name(name.as_str()) || !self.store.usable() {
             return Err("it may be called".into());
