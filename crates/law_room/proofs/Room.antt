@@ -28,6 +28,7 @@ use Rattle.ov_core.specs.Rooms.{HasNone, IsDropped, IsFree, IsFull, IsMade, IsRe
 use Rattle.ov_core.proofs.Keeping.{apart_placed}
 use Rattle.ov_core.proofs.Ranges.{brought_placed, has_high, has_low}
 use Rattle.ov_core.proofs.Reserving.{nowhere, same_covers}
+use Rattle.law_room.proofs.Known.{written_once}
 use Rattle.law_room.specs.Room.{Entry, HasRuns, IsWithin, LacksRecord, LacksRun, Made, Take, Takes, Writes, checkpoints, is_checkpoint}
 
 -- ---- what a move writes
@@ -250,6 +251,17 @@ bare_is_licensed entry before held m w e within bare asks passes = lacks_bare en
 pub drop_is_licensed : (entry : Entry) (before : List Made) (held : Held) (cvd : ℕ) (w : World)
     → IsWithin entry before held → PassesJournal held (says.Drop cvd) → LacksRecord entry before (DropMove cvd) w
 drop_is_licensed entry before held cvd w within passes = lacks_bare entry before held (DropMove cvd) w (says.Drop cvd) within tt refl passes
+
+pub bare_lacks_no_run : (entry : Entry) (before : List Made) (m : Move) (w : World) (e : raw.Event) (pages : ℕ) → IsBare e → Asks m w e → LacksRun entry before m w pages → ⊥
+bare_lacks_no_run entry before m w e pages bare asks lacks = by lacks.which
+  where
+    by : (pages ≡ pages_for lacks.writes.list) ⊎ (pages ≡ pages_for lacks.writes.segment) → ⊥
+    by (inl is) =
+        let same = written_once m w lacks.writes (writes_bare m w e bare asks.says) asks.fits
+        in let empty : pages_for lacks.writes.list ≡ 0 = ap pages_for same.1 in omega (arith, is, empty, lacks.some)
+    by (inr is) =
+        let same = written_once m w lacks.writes (writes_bare m w e bare asks.says) asks.fits
+        in let empty : pages_for lacks.writes.segment ≡ 0 = ap pages_for same.2 in omega (arith, is, empty, lacks.some)
 
 -- ---- moves
 

@@ -14,13 +14,15 @@ ghost use Rattle.ov_catalog.specs.Reached.{Fits};
 ghost use Rattle.law_room.specs.Room.{Entry, Made, AllFit, IsWithin, LacksRecord, LacksRun, Take, Writes};
 
 /// What a move that fits writes is one event, one list and one segment. So the pages and the bytes that moves take are numbers,
-/// and a drop, which writes no run, is never refused one.
+/// and a move that writes no run, as a drop, is never refused one.
 pub fn what_a_move_writes_is_one_thing()
     ensures one { (m : Move) (w : World) (a b : Writes m w) → Fits m w
         → (a.event ≡ b.event) × (a.list ≡ b.list) × (a.segment ≡ b.segment) }
     ensures taken { (before : List Made) (pages bytes others more : ℕ) → AllFit before → Take before pages bytes → Take before others more
         → (pages ≡ others) × (bytes ≡ more) }
     ensures drop { (entry : Entry) (before : List Made) (cvd : ℕ) (w : World) (pages : ℕ) → LacksRun entry before (DropMove cvd) w pages → ⊥ }
+    ensures bare { (entry : Entry) (before : List Made) (m : Move) (w : World) (e : raw.Event) (pages : ℕ) → IsBare e → Asks m w e
+        → LacksRun entry before m w pages → ⊥ }
 {}
 
 /// Where no run is free for a move's list or segment, or the journal has no room for its record, it may be so by what stood at

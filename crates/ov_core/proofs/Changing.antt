@@ -1,5 +1,5 @@
 -- A change whose runs are written to free pages, at any World that the store is at.
-use Rattle.std.proofs.Common.{◌≡◌, ℕ, ◌+◌, ◌<◌, ◌≤◌, List, [], ◌∷◌, ◌++◌, None, Some, sym, ◌∙◌, ap, subst, arith}
+use Rattle.std.proofs.Common.{◌≡◌, ℕ, List, [], ◌∷◌, ◌++◌, None, Some, sym, ◌∙◌, ap, subst, arith}
 use Rattle.ov_host.specs.declared.area.Extent.{Extent}
 use Rattle.ov_host.specs.Host.{State}
 use Rattle.ov_host.specs.Stops.{Only}
@@ -19,7 +19,7 @@ use Rattle.ov_catalog.specs.Extents.{brought, covers, live}
 use Rattle.ov_catalog.specs.Numbers.{Numbers}
 use Rattle.ov_catalog.specs.Raw.{event_in, numbers_in}
 use Rattle.ov_catalog.specs.Stands.{IsMove}
-use Rattle.law_image.specs.Pages.{SameLive, pages_in, readings_of}
+use Rattle.law_image.specs.Pages.{SameLive, readings_of}
 use Rattle.law_events.proofs.Asking.{applies_sound}
 use Rattle.law_events.proofs.Committing.{is_move}
 use Rattle.ov_core.specs.declared.brought.Brought.{Brought}
