@@ -1,7 +1,7 @@
 -- What stood at the entry of a run and what its moves wrote bound what a store has now. A run of pages is free there, or would
 -- pass the last page; so it is for the journal's end.
 use Rattle.std.proofs.Common.{◌≡◌, ◌⊎◌, inl, inr, ◌≤◌, ◌<◌, ℕ, zero, suc, ◌+◌, ◌^◌, Bool, true, false, ◌==◌, List, [], ◌∷◌, ◌++◌, length, refl, ap, arith}
-use Rattle.std.specs.Prelude.{if◌then◌else◌}
+use Rattle.std.specs.Prelude.{Some, if◌then◌else◌}
 use Rattle.std.proofs.lemmas.Bool.{cases_lt}
 use Rattle.ov_host.specs.declared.area.Extent.{Extent}
 use Rattle.ov_host.specs.Extent.{pages_of}
@@ -18,45 +18,74 @@ use Rattle.ov_catalog.specs.Extents.{brought, covers, has_page, live}
 use Rattle.ov_catalog.specs.Numbers.{Numbers}
 use Rattle.ov_catalog.specs.Raw.{event_in}
 use Rattle.ov_catalog.specs.Reached.{Fits}
+use Rattle.ov_catalog.specs.Sources.{IsApart}
+use Rattle.ov_catalog.specs.Stands.{asked_event}
 use Rattle.ov_catalog.proofs.Covering.{live_applied}
 use Rattle.ov_core.specs.declared.brought.Brought.{Brought}
-use Rattle.ov_core.specs.Brought.{Brings, BringsRuns, IsUnplaced, with_extents}
+use Rattle.ov_core.specs.Brought.{Asks, Brings, BringsRuns, IsBare, IsUnplaced, content, with_extents}
 use Rattle.ov_core.specs.Held.{Held}
-use Rattle.ov_core.specs.Rooms.{HasNone, IsDropped, IsFree, IsFull, IsMade, IsRun, PassesJournal, pages_for}
+use Rattle.ov_core.specs.Rooms.{HasNone, IsDropped, IsFree, IsFull, IsMade, IsRecorded, IsRun, PassesJournal, pages_for}
 use Rattle.ov_core.proofs.Keeping.{apart_placed}
 use Rattle.ov_core.proofs.Ranges.{brought_placed, has_high, has_low}
+use Rattle.ov_core.proofs.Reserving.{nowhere, same_covers}
 use Rattle.law_room.specs.Room.{Entry, HasRuns, IsWithin, LacksRecord, LacksRun, Made, Take, Takes, Writes, checkpoints, is_checkpoint}
 
 -- ---- what a move writes
 
-pub runs_of : (e : raw.Event) (list segment : List ℕ) → BringsRuns e → HasRuns e list segment
+pub runs_of : (e : raw.Event) (list segment : List ℕ) → BringsRuns e list → HasRuns e list segment
 runs_of (says.Init name schema rows l s) list segment brings = tt
 runs_of (says.Commit cvd vid message parents rows fresh place added l s) list segment brings = tt
 runs_of (says.Plan cvd p q targets) list segment brings = absurd brings
-runs_of (says.Copy cvd count s) list segment brings = absurd brings
+runs_of (says.Copy cvd count s) list segment brings = brings
 runs_of (says.Flip cvd) list segment brings = absurd brings
 runs_of (says.Drop cvd) list segment brings = absurd brings
 runs_of (says.Base next) list segment brings = absurd brings
 runs_of (says.Whole said) list segment brings = absurd brings
 runs_of (says.Wide cvd vid message columns parents rows fresh place added l s) list segment brings = absurd brings
 
-built_placed : (l s : Extent) (e : raw.Event) → BringsRuns e → is_built_event (with_extents l s e) ≡ true
-built_placed l s (says.Init name schema rows a b) brings = refl
-built_placed l s (says.Commit cvd vid message parents rows fresh place added a b) brings = refl
-built_placed l s (says.Plan cvd p q targets) brings = absurd brings
-built_placed l s (says.Copy cvd count b) brings = absurd brings
-built_placed l s (says.Flip cvd) brings = absurd brings
-built_placed l s (says.Drop cvd) brings = absurd brings
-built_placed l s (says.Base next) brings = absurd brings
-built_placed l s (says.Whole said) brings = absurd brings
-built_placed l s (says.Wide cvd vid message columns parents rows fresh place added a b) brings = absurd brings
+built_placed : (list : List ℕ) (l s : Extent) (e : raw.Event) → BringsRuns e list → is_built_event (with_extents l s e) ≡ true
+built_placed list l s (says.Init name schema rows a b) brings = refl
+built_placed list l s (says.Commit cvd vid message parents rows fresh place added a b) brings = refl
+built_placed list l s (says.Plan cvd p q targets) brings = absurd brings
+built_placed list l s (says.Copy cvd count b) brings = refl
+built_placed list l s (says.Flip cvd) brings = absurd brings
+built_placed list l s (says.Drop cvd) brings = absurd brings
+built_placed list l s (says.Base next) brings = absurd brings
+built_placed list l s (says.Whole said) brings = absurd brings
+built_placed list l s (says.Wide cvd vid message columns parents rows fresh place added a b) brings = absurd brings
 
 abbrev writes_brought : (m : Move) (w : World) (b : Brought) → IsUnplaced b → Brings m w b → Writes m w
 writes_brought m w b unplaced brings =
     record { event = b.event; list = b.list.items; segment = b.segment.items; says = brings.says; sized = unplaced.extents; runs = runs_of b.event b.list.items b.segment.items unplaced.runs }
 
-abbrev writes_drop : (cvd : ℕ) (w : World) → Writes (DropMove cvd) w
-writes_drop cvd w = record { event = says.Drop cvd; list = []; segment = []; says = refl; sized = refl; runs = (refl, refl) }
+runs_bare : (e : raw.Event) → IsBare e → HasRuns e [] []
+runs_bare (says.Init name schema rows l s) bare = absurd bare
+runs_bare (says.Commit cvd vid message parents rows fresh place added l s) bare = absurd bare
+runs_bare (says.Plan cvd p q targets) bare = (refl, refl)
+runs_bare (says.Copy cvd count s) bare = absurd bare
+runs_bare (says.Flip cvd) bare = (refl, refl)
+runs_bare (says.Drop cvd) bare = (refl, refl)
+runs_bare (says.Base next) bare = absurd bare
+runs_bare (says.Whole said) bare = absurd bare
+runs_bare (says.Wide cvd vid message columns parents rows fresh place added l s) bare = absurd bare
+
+sized_bare : (e : raw.Event) → IsBare e → with_extents nowhere nowhere e ≡ e
+sized_bare (says.Init name schema rows l s) bare = absurd bare
+sized_bare (says.Commit cvd vid message parents rows fresh place added l s) bare = absurd bare
+sized_bare (says.Plan cvd p q targets) bare = refl
+sized_bare (says.Copy cvd count s) bare = absurd bare
+sized_bare (says.Flip cvd) bare = refl
+sized_bare (says.Drop cvd) bare = refl
+sized_bare (says.Base next) bare = absurd bare
+sized_bare (says.Whole said) bare = absurd bare
+sized_bare (says.Wide cvd vid message columns parents rows fresh place added l s) bare = absurd bare
+
+-- whether it fits or not, a move with such an event writes no run
+abbrev IsSaid : Move → World → raw.Event → Type 0
+IsSaid m w e = Some (content (event_in e) [] []) ≡ asked_event m w
+
+abbrev writes_bare : (m : Move) (w : World) (e : raw.Event) → IsBare e → IsSaid m w e → Writes m w
+writes_bare m w e bare says = record { event = e; list = []; segment = []; says = says; sized = sized_bare e bare; runs = runs_bare e bare }
 
 -- one move more
 abbrev takes_event : (m : Move) (w : World) (written : Writes m w) → Takes m w (pages_for written.list + pages_for written.segment) (length (spelling written.event))
@@ -202,17 +231,25 @@ passes_is_licensed entry before held m w b within unplaced brings passes = recor
   lacks = inl (omega (arith, passes, within.within));
 }
 
-pub drop_is_licensed : (entry : Entry) (before : List Made) (held : Held) (cvd : ℕ) (w : World)
-    → IsWithin entry before held → PassesJournal held (says.Drop cvd) → LacksRecord entry before (DropMove cvd) w
-drop_is_licensed entry before held cvd w within passes = record {
+lacks_bare : (entry : Entry) (before : List Made) (held : Held) (m : Move) (w : World) (e : raw.Event)
+    → IsWithin entry before held → IsBare e → IsSaid m w e → PassesJournal held e → LacksRecord entry before m w
+lacks_bare entry before held m w e within bare says passes = record {
   own = 0;
-  size = length (spelling (says.Drop cvd));
-  takes = takes_event (DropMove cvd) w (writes_drop cvd w);
+  size = length (spelling e);
+  takes = takes_event m w (writes_bare m w e bare says);
   pages = within.pages;
   bytes = within.bytes;
   taken = within.taken;
   lacks = inl (omega (arith, passes, within.within));
 }
+
+pub bare_is_licensed : (entry : Entry) (before : List Made) (held : Held) (m : Move) (w : World) (e : raw.Event)
+    → IsWithin entry before held → IsBare e → Asks m w e → PassesJournal held e → LacksRecord entry before m w
+bare_is_licensed entry before held m w e within bare asks passes = lacks_bare entry before held m w e within bare asks.says passes
+
+pub drop_is_licensed : (entry : Entry) (before : List Made) (held : Held) (cvd : ℕ) (w : World)
+    → IsWithin entry before held → PassesJournal held (says.Drop cvd) → LacksRecord entry before (DropMove cvd) w
+drop_is_licensed entry before held cvd w within passes = lacks_bare entry before held (DropMove cvd) w (says.Drop cvd) within tt refl passes
 
 -- ---- moves
 
@@ -247,27 +284,51 @@ within_made entry before old new m w b within unplaced brings made grows same = 
     below_now page some =
         let e : raw.Event = with_extents made.l made.s b.event
         in let now : covers (live new.numbers) page ≡ covers (live (applied (event_in e) old.numbers)) page = ap (λ (n : Numbers Extent Extent). covers (live n) page) made.applied_is
-        in let come : covers (brought (event_in e)) page ≡ covers (made.l ∷ extents_of made.s) page = ap (λ (es : List Extent). covers es page) (brought_placed made.l made.s b.event unplaced.runs)
+        in let come : covers (brought (event_in e)) page ≡ covers (made.l ∷ extents_of made.s) page = same_covers (brought (event_in e)) (made.l ∷ extents_of made.s) (brought_placed (live old.numbers) b.list.items made.l made.s b.event unplaced.runs made.placed.list_run) page
         in omega (
           arith,
-          all_below page (omega (arith, some, now, come, live_applied page e old.numbers (built_placed made.l made.s b.event unplaced.runs) (apart_placed made.l made.s b.event old.numbers unplaced.runs), brought_covers made.l made.s page)),
+          all_below page (omega (arith, some, now, come, live_applied page e old.numbers (built_placed b.list.items made.l made.s b.event unplaced.runs) (apart_placed b.list.items made.l made.s b.event old.numbers unplaced.runs), brought_covers made.l made.s page)),
         )
 
-pub within_dropped : (entry : Entry) (before : List Made) (old new : Held) (cvd : ℕ) (w : World)
-    → IsWithin entry before old → IsDropped old new cvd
-    → new.journal.end ≤ old.journal.end + 6 + length (spelling (says.Drop cvd)) → new.journal.epoch ≡ old.journal.epoch
-    → IsWithin entry (before ++ record { move = DropMove cvd; world = w } ∷ []) new
-within_dropped entry before old new cvd w within dropped grows same = record {
+bare_covers : (e : raw.Event) (n : Numbers Extent Extent) (page : ℕ) → IsBare e → IsApart e n → covers (live (applied (event_in e) n)) page ≤ covers (live n) page
+bare_covers (says.Init name schema rows l s) n page bare apart = absurd bare
+bare_covers (says.Commit cvd vid message parents rows fresh place added l s) n page bare apart = absurd bare
+bare_covers (says.Plan cvd p q targets) n page bare apart = omega (arith, live_applied page (says.Plan cvd p q targets) n refl apart)
+bare_covers (says.Copy cvd count s) n page bare apart = absurd bare
+bare_covers (says.Flip cvd) n page bare apart = omega (arith, live_applied page (says.Flip cvd) n refl apart)
+bare_covers (says.Drop cvd) n page bare apart = omega (arith, live_applied page (says.Drop cvd) n refl apart)
+bare_covers (says.Base next) n page bare apart = absurd bare
+bare_covers (says.Whole said) n page bare apart = absurd bare
+bare_covers (says.Wide cvd vid message columns parents rows fresh place added l s) n page bare apart = absurd bare
+
+within_bare : (entry : Entry) (before : List Made) (old new : Held) (m : Move) (w : World) (e : raw.Event)
+    → IsWithin entry before old → IsBare e → IsSaid m w e → is_checkpoint m ≡ false → IsRecorded old new e
+    → new.journal.end ≤ old.journal.end + 6 + length (spelling e) → new.journal.epoch ≡ old.journal.epoch
+    → IsWithin entry (before ++ record { move = m; world = w } ∷ []) new
+within_bare entry before old new m w e within bare says other recorded grows same = record {
   pages = within.pages + 0;
-  bytes = within.bytes + (6 + length (spelling (says.Drop cvd)));
-  epoch = omega (arith, same, within.epoch, checkpoints_same before (DropMove cvd) w refl);
-  taken = take_more before within.pages within.bytes 0 (length (spelling (says.Drop cvd))) (DropMove cvd) w
-      (takes_event (DropMove cvd) w (writes_drop cvd w)) within.taken;
+  bytes = within.bytes + (6 + length (spelling e));
+  epoch = omega (arith, same, within.epoch, checkpoints_same before m w other);
+  taken = take_more before within.pages within.bytes 0 (length (spelling e)) m w (takes_event m w (writes_bare m w e bare says)) within.taken;
   below = below_now;
   within = omega (arith, grows, within.within);
 }
   where
     below_now : AreBelow (live new.numbers) (entry.pages + (within.pages + 0))
     below_now page some =
-        let now : covers (live new.numbers) page ≡ covers (live (applied (event_in (says.Drop cvd)) old.numbers)) page = ap (λ (n : Numbers Extent Extent). covers (live n) page) dropped.applied_is
-        in omega (arith, within.below page (omega (arith, some, now, live_applied page (says.Drop cvd) old.numbers refl tt)))
+        let now : covers (live new.numbers) page ≡ covers (live (applied (event_in e) old.numbers)) page = ap (λ (n : Numbers Extent Extent). covers (live n) page) recorded.applied_is
+        in omega (arith, within.below page (omega (arith, some, now, bare_covers e old.numbers page bare recorded.apart)))
+
+pub within_recorded : (entry : Entry) (before : List Made) (old new : Held) (m : Move) (w : World) (e : raw.Event)
+    → IsWithin entry before old → IsBare e → Asks m w e → IsRecorded old new e
+    → new.journal.end ≤ old.journal.end + 6 + length (spelling e) → new.journal.epoch ≡ old.journal.epoch
+    → IsWithin entry (before ++ record { move = m; world = w } ∷ []) new
+within_recorded entry before old new m w e within bare asks recorded grows same =
+    within_bare entry before old new m w e within bare asks.says (no_checkpoint m w asks.fits) recorded grows same
+
+pub within_dropped : (entry : Entry) (before : List Made) (old new : Held) (cvd : ℕ) (w : World)
+    → IsWithin entry before old → IsDropped old new cvd
+    → new.journal.end ≤ old.journal.end + 6 + length (spelling (says.Drop cvd)) → new.journal.epoch ≡ old.journal.epoch
+    → IsWithin entry (before ++ record { move = DropMove cvd; world = w } ∷ []) new
+within_dropped entry before old new cvd w within dropped grows same =
+    within_bare entry before old new (DropMove cvd) w (says.Drop cvd) within tt refl refl dropped grows same

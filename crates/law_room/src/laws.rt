@@ -1,14 +1,15 @@
 // Laws of room.
 ghost use Rattle.std.specs.Prelude.{◌≡◌, ◌≤◌, ◌+◌, ◌++◌, ◌∷◌, [], ℕ, List, length};
 ghost use Rattle.ov_event.specs.Spelling.{spelling};
+ghost use Rattle.ov_event.specs.declared.event.Event as raw;
 ghost use Rattle.ov_event.specs.declared.event.Event.TheVariants as says;
 ghost use Rattle.ov_model.specs.Moves.{Move, Drop as DropMove};
 ghost use Rattle.ov_model.specs.World.{World};
 ghost use Rattle.ov_catalog.specs.Extents.{live};
 ghost use Rattle.ov_core.specs.declared.brought.Brought.{Brought};
-ghost use Rattle.ov_core.specs.Brought.{Brings, IsUnplaced};
+ghost use Rattle.ov_core.specs.Brought.{Asks, Brings, IsBare, IsUnplaced};
 ghost use Rattle.ov_core.specs.Held.{Held};
-ghost use Rattle.ov_core.specs.Rooms.{IsDropped, IsFull, IsMade, PassesJournal};
+ghost use Rattle.ov_core.specs.Rooms.{IsDropped, IsFull, IsMade, IsRecorded, PassesJournal};
 ghost use Rattle.ov_catalog.specs.Reached.{Fits};
 ghost use Rattle.law_room.specs.Room.{Entry, Made, AllFit, IsWithin, LacksRecord, LacksRun, Take, Writes};
 
@@ -32,6 +33,8 @@ pub fn room_is_wanting_only_so()
         → IsWithin entry before held → IsUnplaced b → Brings m w b → PassesJournal held b.event → LacksRecord entry before m w }
     ensures drop { (entry : Entry) (before : List Made) (held : Held) (cvd : ℕ) (w : World)
         → IsWithin entry before held → PassesJournal held (says.Drop cvd) → LacksRecord entry before (DropMove cvd) w }
+    ensures bare { (entry : Entry) (before : List Made) (held : Held) (m : Move) (w : World) (e : raw.Event)
+        → IsWithin entry before held → IsBare e → Asks m w e → PassesJournal held e → LacksRecord entry before m w }
 {}
 
 /// After a move the highest page and the journal's first closed gate are no further on than by what the move wrote.
@@ -44,4 +47,8 @@ pub fn what_is_kept_grows_by_what_is_written()
         → IsWithin entry before old → IsDropped old new cvd
         → new.journal.end ≤ old.journal.end + 6 + length (spelling (says.Drop cvd)) → new.journal.epoch ≡ old.journal.epoch
         → IsWithin entry (before ++ record { move = DropMove cvd; world = w } ∷ []) new }
+    ensures recorded { (entry : Entry) (before : List Made) (old new : Held) (m : Move) (w : World) (e : raw.Event)
+        → IsWithin entry before old → IsBare e → Asks m w e → IsRecorded old new e
+        → new.journal.end ≤ old.journal.end + 6 + length (spelling e) → new.journal.epoch ≡ old.journal.epoch
+        → IsWithin entry (before ++ record { move = m; world = w } ∷ []) new }
 {}

@@ -18,16 +18,12 @@ use Rattle.ov_catalog.specs.Events.{Flip, own_part, with_joined, join_at, parts_
 use Rattle.ov_catalog.specs.Applying.{Beyond, first_off, is_built_event, off_at}
 use Rattle.ov_catalog.specs.Extents.{of_plan, of_set, live, brought, given_up, has_page, covers}
 use Rattle.ov_catalog.specs.Raw.{event_in, place_in, shape_in}
-use Rattle.ov_catalog.proofs.FlipCounts.{FlipFits, total, flip_total}
+use Rattle.ov_catalog.specs.Sources.{FlipFits, IsApart}
+use Rattle.ov_catalog.proofs.FlipCounts.{total, flip_total}
 
 covers-append : (a b : List Extent) (page : ℕ) → covers (a ++ b) page ≡ covers a page + covers b page
 covers-append [] b page = omega arith
 covers-append (e ∷ a) b page = omega (arith, covers-append a b page)
-
--- what the count asks of a flip: its target keeps segments of one partition, which goes
-abbrev pub IsApart : raw.Event → Numbers Extent Extent → Type 0
-IsApart (says.Flip cvd) n = FlipFits cvd n.sets
-IsApart _ n = Unit {0}
 
 pub apart_events : (e : raw.Event) (n : Numbers Extent Extent) → ((cvd : ℕ) → FlipFits cvd n.sets) → IsApart e n
 apart_events (says.Flip cvd) n fits = fits cvd

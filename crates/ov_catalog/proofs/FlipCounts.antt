@@ -13,37 +13,7 @@ use Rattle.law_partitions.specs.Sources.{AscendFrom}
 use Rattle.ov_catalog.specs.Numbers.{PartNumbers, TargetNumbers, PlanNumbers, SetNumbers}
 use Rattle.ov_catalog.specs.Events.{planned, copied_for, copied_more, leaving, is_empty, left_parts, is_one, segments_at, one_at, chosen, current, target_part, flipped_by, flipped, numbered, change}
 use Rattle.ov_catalog.specs.Extents.{of_plan, of_set, others, parted_with, emptied, given_by}
-
--- ---- what a flip asks
-
--- no partition has the number
-abbrev pub NoPart : {S : Type 0} → ℕ → List (PartNumbers S) → Type 0
-NoPart id [] = Unit {0}
-NoPart id (part ∷ parts) = (part.id ≢ id) × NoPart id parts
-
--- the partition of this number, one at most, has no other versions than these
-abbrev pub GoesWith : {S : Type 0} → List ℕ → ℕ → List (PartNumbers S) → Type 0
-GoesWith versions id [] = Unit {0}
-GoesWith versions id (part ∷ parts) = (part.id ≡ id → (is_empty (leaving versions part) ≡ true) × NoPart id parts) × GoesWith versions id parts
-
--- A target keeps nothing, or segments of one partition, which goes with it, in ascending places.
-pub record KeepsOfOne {S : Type 0} (t : TargetNumbers) (parts : List (PartNumbers S)) : Type 0 where
-  pub ascend : AscendFrom 0 t.kept
-  pub below : AreBelow (length (segments_at t.source parts)) t.kept
-  pub goes : (t.kept ≡ []) ⊎ GoesWith t.versions t.source parts
-
-abbrev pub MayFlip : {S : Type 0} → Option (PlanNumbers S) → List (PartNumbers S) → Type 0
-MayFlip None parts = Unit {0}
-MayFlip (Some plan) parts = KeepsOfOne (current plan) parts
-
-abbrev pub NoSet : {L S : Type 0} → ℕ → List (SetNumbers L S) → Type 0
-NoSet cvd [] = Unit {0}
-NoSet cvd (d ∷ sets) = (d.number ≢ cvd) × NoSet cvd sets
-
--- of the dataset of this number, one at most
-abbrev pub FlipFits : {L S : Type 0} → ℕ → List (SetNumbers L S) → Type 0
-FlipFits cvd [] = Unit {0}
-FlipFits cvd (d ∷ sets) = (d.number ≡ cvd → MayFlip d.plan d.parts × NoSet cvd sets) × FlipFits cvd sets
+pub use Rattle.ov_catalog.specs.Sources.{NoPart, GoesWith, KeepsOfOne, MayFlip, NoSet, FlipFits}
 
 -- ---- places
 

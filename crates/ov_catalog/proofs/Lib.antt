@@ -27,6 +27,7 @@ pub mod GraphLemmas
 pub mod TargetLemmas
 pub mod SplitLemmas
 pub mod TurnLemmas
+pub mod KeptLemmas
 pub mod SeenLemmas
 pub mod Serving
 pub mod Weighing

@@ -1,9 +1,7 @@
 -- What a plan asks of the partitions stays true while it runs.
-use Rattle.std.proofs.Common.{◌≡◌, ℕ, zero, suc, ◌+◌, ◌<◌, ◌≤◌, Bool, true, false, not, ◌||◌, eqb, List, [], ◌∷◌, ◌++◌, length, refl, sym, ap, subst, ◌∙◌, inl, inr, arith, append_assoc}
+use Rattle.std.proofs.Common.{◌≡◌, ℕ, zero, suc, ◌<◌, ◌≤◌, Bool, true, false, not, ◌||◌, eqb, List, [], ◌∷◌, ◌++◌, length, refl, sym, ap, subst, ◌∙◌, inl, inr, arith, append_assoc}
 use Rattle.std.specs.Prelude.{Option, Some, None, All, filter}
 use Rattle.std.proofs.lemmas.Bool.{cases_Bool, eq-eqb, ne_eqb, eqb-true}
-use Rattle.std.proofs.lemmas.List.Folds.{list_any-append}
-use Rattle.ov_host.specs.declared.area.Extent.{Extent}
 use Rattle.ov_layout.specs.declared.part.Part.{Part}
 use Rattle.ov_layout.specs.Parts.{has, serves, is_placed, part_numbered, Ascend}
 use Rattle.ov_layout.specs.Changes.{IsNew, IsAbove}
@@ -11,7 +9,7 @@ use Rattle.ov_layout.specs.Flips.{leaving, is_empty, left_parts}
 use Rattle.ov_layout.proofs.LeaveLemmas.{stays, has-filter, filter-out}
 use Rattle.ov_layout.proofs.VidLemmas.{has-append}
 use Rattle.ov_catalog.specs.declared.cvd.Target.{Target}
-use Rattle.ov_catalog.specs.Running.{AreTargets, AreThere, IsKept, IsSource, IsTarget, is_in_target}
+use Rattle.ov_catalog.specs.Running.{AreTargets, IsKept, IsTarget, is_in_target}
 
 or-true : (b : Bool) → (b || true) ≡ true
 or-true true = refl

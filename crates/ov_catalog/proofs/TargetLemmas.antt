@@ -1,8 +1,8 @@
 -- Targets of plans as they are kept and as they are seen, and lists of versions.
-use Rattle.std.proofs.Common.{◌≡◌, ℕ, zero, suc, ◌+◌, ◌-◌, ◌<◌, ◌≤◌, Bool, true, false, not, ◌||◌, ◌&&◌, eqb, cond, List, [], ◌∷◌, ◌++◌, length, get_or, drop, take, map, refl, sym, ap, subst, ◌∙◌, inl, inr, arith}
+use Rattle.std.proofs.Common.{◌≡◌, ℕ, zero, suc, ◌+◌, ◌-◌, ◌<◌, ◌≤◌, Bool, true, false, ◌||◌, ◌&&◌, eqb, List, [], ◌∷◌, ◌++◌, length, get_or, drop, take, map, refl, sym, ap, subst, ◌∙◌, inl, inr, arith}
 use Rattle.std.specs.Prelude.{Option, Some, None, nat_le, nat_lt}
-use Rattle.std.specs.List.{list_all, list_any, count_by}
-use Rattle.std.proofs.lemmas.Bool.{cases_Bool, eq-eqb, ne_eqb, eqb-true, leb-true, ltb-true}
+use Rattle.std.specs.List.{list_any}
+use Rattle.std.proofs.lemmas.Bool.{cases_Bool, ne_eqb, eqb-true, leb-true, ltb-true}
 use Rattle.std.proofs.Math.Seq.{take-length}
 use Rattle.std.proofs.lemmas.List.{length-drop}
 use Rattle.ov_event.specs.declared.event.PlanTarget.{PlanTarget}
@@ -14,11 +14,11 @@ use Rattle.ov_layout.specs.Index.{numbers_of as ids_of}
 use Rattle.ov_layout.specs.Parts.{has, serves, is_placed, part_numbered, Ascend, ArePartsFrom}
 use Rattle.ov_layout.proofs.FlipLemmas.{numbered-none}
 use Rattle.ov_layout.proofs.PlacedLemmas.{ids-ascend}
-use Rattle.ov_layout.proofs.VidLemmas.{has-append, has-below}
+use Rattle.ov_layout.proofs.VidLemmas.{has-below}
 use Rattle.ov_catalog.specs.declared.cvd.Plan.{Plan}
 use Rattle.ov_catalog.specs.declared.cvd.Target.{Target}
 use Rattle.ov_catalog.specs.Applying.{targets_from, is_unmoved, part_numbered as number_in}
-use Rattle.ov_catalog.specs.Events.{is_one, target_of, targets_of}
+use Rattle.ov_catalog.specs.Events.{target_of, targets_of}
 use Rattle.ov_catalog.specs.Numbers.{PartNumbers, TargetNumbers}
 use Rattle.ov_catalog.specs.Planning.{ascend_from, are_below}
 use Rattle.ov_catalog.specs.Running.{is_in_target, left_of}

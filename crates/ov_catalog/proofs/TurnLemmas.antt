@@ -1,8 +1,8 @@
 -- A target's turn: it can become a partition, and the plan can run on.
-use Rattle.std.proofs.Common.{◌≡◌, ℕ, zero, suc, ◌+◌, ◌-◌, ◌<◌, ◌≤◌, ◌^◌, Bool, true, false, not, ◌||◌, eqb, List, [], ◌∷◌, ◌++◌, length, get_or, drop, map, refl, sym, ap, subst, ◌∙◌, inl, inr, arith, append-nil}
+use Rattle.std.proofs.Common.{◌≡◌, ℕ, suc, ◌+◌, ◌-◌, ◌<◌, ◌≤◌, ◌^◌, Bool, true, false, ◌||◌, eqb, List, [], ◌∷◌, ◌++◌, length, drop, map, refl, sym, ap, subst, ◌∙◌, inl, inr, arith, append-nil}
 use Rattle.std.specs.Prelude.{Option, Some, None, filter, flat_map, sum_by, nat_le, min, ◌==◌, ◌&&◌}
 use Rattle.std.specs.Option.{option_or}
-use Rattle.std.proofs.lemmas.Bool.{cases_Bool, eq-eqb, eqb-true, leb-true, ne_eqb}
+use Rattle.std.proofs.lemmas.Bool.{cases_Bool, eq-eqb, eqb-true, leb-true}
 use Rattle.std.proofs.lemmas.List.{drop_more, length-drop}
 use Rattle.std.proofs.lemmas.List.Folds.{list_any-append}
 use Rattle.ov_host.specs.declared.area.Extent.{Extent}
@@ -11,7 +11,7 @@ use Rattle.ov_layout.specs.Changes.{IsAbove, IsNew}
 use Rattle.ov_graph.specs.Versions.{IsGraph}
 use Rattle.ov_catalog.specs.Events.{graph_of}
 use Rattle.ov_catalog.specs.Sets.{part_in, plan_in, plan_numbers, set_in, target_in, version_in}
-use Rattle.ov_layout.specs.Flips.{AreBelow, ArePlaced, Flip, IsEmptied, MayFlip, chosen, flip_of, flipped_part, given_up, is_empty, leaving, left_parts, segments_at, with_flipped}
+use Rattle.ov_layout.specs.Flips.{AreBelow, ArePlaced, Flip, MayFlip, chosen, flip_of, flipped_part, given_up, is_empty, leaving, left_parts, segments_at, with_flipped}
 use Rattle.ov_layout.specs.Parts.{Ascend, Partitions, has, serves, is_placed, part_numbered, segments_in}
 use Rattle.ov_layout.proofs.LeaveLemmas.{stays}
 use Rattle.ov_catalog.specs.declared.cvd.Cvd.{Cvd}

@@ -21,7 +21,8 @@ use Rattle.ov_catalog.specs.Extents.{of_plan, of_set, live, brought, given_up, c
 use Rattle.ov_catalog.specs.Applying.{first_off, off_unless, commit_off, set_numbered}
 use Rattle.ov_catalog.specs.Planning.{is_threshold, are_targets, plan_off, of_running, copy_off}
 use Rattle.ov_catalog.specs.Raw.{event_in, place_in, shape_in}
-use Rattle.ov_catalog.proofs.Covering.{IsApart, covers_total, weighed}
+use Rattle.ov_catalog.specs.Sources.{IsApart}
+use Rattle.ov_catalog.proofs.Covering.{covers_total, weighed}
 use Rattle.ov_catalog.proofs.FlipCounts.{total-append, plan_set, copy_set, flip_total}
 pub use Rattle.ov_catalog.proofs.FlipCounts.{total}
 use Rattle.ov_catalog.proofs.Serving.{Set, IsNumbered, IsThere, AllServed, found_served, live_found, place_there}

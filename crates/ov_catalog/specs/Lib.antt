@@ -1,6 +1,7 @@
 pub mod Numbers
 pub mod Events
 pub mod Extents
+pub mod Sources
 pub mod Raw
 pub mod Testing
 pub mod Planning

@@ -3,7 +3,6 @@
 --     left_of plan      the targets that weren't flipped yet
 use Rattle.std.specs.Prelude.{◌≡◌, ℕ, ◌+◌, ◌^◌, ◌≤◌, ◌<◌, Bool, true, false, List, [], ◌∷◌, ◌++◌, length, drop, slice_index_or, Option, Some, None}
 use Rattle.std.specs.List.{list_any}
-use Rattle.ov_host.specs.declared.area.Extent.{Extent}
 use Rattle.ov_layout.specs.declared.part.Part.{Part}
 use Rattle.ov_layout.specs.Flips.{AreBelow}
 use Rattle.ov_layout.specs.Parts.{has, Ascend, part_numbered}

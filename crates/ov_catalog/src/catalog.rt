@@ -13,6 +13,7 @@ ghost use Rattle.ov_catalog.specs.Raw.{event_in, place_in, shape_in};
 ghost use Rattle.ov_catalog.specs.Planning.{copy_off, flip_off, of_running, plan_off};
 ghost use Rattle.ov_catalog.specs.Ready.{Nothing, ForInit, ForCommit, ForPlan, ForCopy, ForFlip, HasRoom, IsForInit, IsSet};
 ghost use Rattle.ov_catalog.specs.Sets.{set_in, sets_in};
+ghost use Rattle.ov_catalog.specs.Sources.{IsApart};
 ghost use Rattle.ov_catalog.specs.Steps.{steps_left as steps_left_in};
 ghost use Rattle.ov_event.specs.declared.event.PlanTarget.{PlanTarget};
 
@@ -22,7 +23,7 @@ use crate::copies::{copy_in, room_for_copy};
 use crate::cvd::Cvd;
 use crate::error::ApplyErr;
 use crate::field::Field;
-use crate::flips::{flip_in, room_for_flip};
+use crate::flips::{flip_in, keeps_of_one, room_for_flip};
 use crate::freeing::{drop_from, room_for_drop};
 use crate::init::{begin, check_init, spare_of};
 use crate::plans::{begin_plan, room_for_plan};
@@ -106,6 +107,16 @@ impl Catalog {
             }
         }
         None
+    }
+
+    /// Where the event is a flip, what its target keeps is of one partition, which goes with it. So what it gives up and what
+    /// stays then are what was there. It changes nothing.
+    pub fn is_apart(&self, event: &Event)
+        ensures { IsApart event.now self.now.numbers }
+    {
+        if let Event::Flip { cvd } = event {
+            keeps_of_one(self.sets.as_slice(), *cvd);
+        }
     }
 
     /// Makes room for an event, so that applying it takes no memory: here, and behind `freed` for the extents that it

@@ -9,6 +9,7 @@ ghost use Rattle.ov_catalog.specs.Extents.{given_by};
 ghost use Rattle.ov_catalog.specs.Planning.{flip_off, of_running};
 ghost use Rattle.ov_catalog.specs.Ready.{IsSet, MayFlip, MayFlipIn};
 ghost use Rattle.ov_catalog.specs.Running.{HasCurrent, IsNextOf, current};
+ghost use Rattle.ov_catalog.specs.Sources.{FlipFits};
 ghost use Rattle.ov_catalog.specs.Sets.{numbers_of, plan_in, plan_numbers, set_in, sets_in};
 
 use crate::cvd::{Cvd, Plan};
@@ -168,5 +169,17 @@ pub fn flip_in(
 {
     if let Some(at) = place_of(sets, cvd) {
         flip(alloc, &mut sets[at], versions, freed);
+    }
+}
+
+/// What the current target of the dataset with this number keeps is of one partition, which goes with its flip.
+pub fn keeps_of_one(sets: &[Cvd], cvd: u32)
+    requires ascend { Ascend 0 (numbers_of sets.now) }
+    requires sound { All IsSet sets.now }
+    ensures { FlipFits cvd (sets_in sets.now) }
+{
+    if let Some(at) = place_of(sets, cvd) {
+        // No two of its partitions have one number.
+        let _ = sets[at].layout.parts();
     }
 }

@@ -1,5 +1,5 @@
 -- A change whose runs are written to free pages, at any World that the store is at.
-use Rattle.std.proofs.Common.{◌≡◌, ℕ, ◌+◌, ◌<◌, ◌≤◌, List, [], ◌∷◌, ◌++◌, None, Some, sym, ◌∙◌, ap, subst}
+use Rattle.std.proofs.Common.{◌≡◌, ℕ, ◌+◌, ◌<◌, ◌≤◌, List, [], ◌∷◌, ◌++◌, None, Some, sym, ◌∙◌, ap, subst, arith}
 use Rattle.ov_host.specs.declared.area.Extent.{Extent}
 use Rattle.ov_host.specs.Host.{State}
 use Rattle.ov_host.specs.Stops.{Only}
@@ -29,6 +29,7 @@ use Rattle.ov_core.specs.Held.{Held}
 use Rattle.ov_core.specs.Rooms.{ArePlaced}
 use Rattle.ov_core.proofs.Extents.{applies_placed, event_placed, list_small, run_extent, segment_small}
 use Rattle.ov_core.proofs.Ranges.{are_there, both_off, brought_placed, live_same, ranges_for, runs_apart, runs_inside, same_live, spells, written}
+use Rattle.ov_core.proofs.Reserving.{same_covers}
 use Rattle.ov_core.proofs.Storing as storing
 
 -- two runs, where they go and what they have
@@ -79,14 +80,13 @@ module _ (w : World) (held : Held) (s0 : State) (is : IsAtWorld w held s0) (m : 
 
   move : IsMove e m w (numbers_in is.events) (readings_of final)
   move =
-      let are : brought (event_in e) ≡ l ∷ extents_of s = brought_placed l s x.event unplaced.runs
+      let are : (page : ℕ) → covers (brought (event_in e)) page ≡ covers (l ∷ extents_of s) page =
+      same_covers (brought (event_in e)) (l ∷ extents_of s) (brought_placed extents x.list.items l s x.event unplaced.runs placed.list_run)
       in is_move is.events (readings_of final) w e m (storing.stands_over w held s0 is final same) brings.fits
       (applies_sound e (numbers_in is.events) applies_now)
       (ap Some (spells extents x.list.items x.segment.items l s placed pages x.event unplaced.runs) ∙ brings.says)
-      (λ page. subst (λ (es : List Extent). covers es page + covers extents page ≤ 1) (sym are)
-      (runs_apart extents x.list.items x.segment.items l s placed page (is.stands.stands.apart.once page)))
-      (λ page. subst (λ (es : List Extent). 1 ≤ covers es page → page < pages_in final) (sym are)
-      (runs_inside extents x.list.items x.segment.items l s placed pages page))
+      (λ page. omega (arith, are page, runs_apart extents x.list.items x.segment.items l s placed page (is.stands.stands.apart.once page)))
+      (λ page some. runs_inside extents x.list.items x.segment.items l s placed pages page (omega (arith, are page, some)))
 
   module _ (a b : Run) (carry : Carries x.list.items x.segment.items l s a b) (y : raw.Event) (same_event : y ≡ e) (s1 : State)
       (stops : (payloads : List (List ℕ)) (ranges : List (ℕ × ℕ)) → IsAt payloads held.journal s0 → IsFree ranges (ranges_of a b) s0.tape.disk

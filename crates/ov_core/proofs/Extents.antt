@@ -1,6 +1,6 @@
 -- An event whose extents are placed says the same otherwise: it applies, has a spelling, and as long a one.
 use Rattle.std.proofs.Common.{◌≡◌, ℕ, ◌+◌, ◌*◌, ◌%◌, ◌<◌, ◌≤◌, ◌^◌, Bool, true, false, ◌&&◌, ◌==◌, List, [], ◌∷◌, ◌++◌, length, refl, sym, ◌∙◌, ap, subst, arith, length-append}
-use Rattle.std.specs.Prelude.{Option, Some, None, nat_le}
+use Rattle.std.specs.Prelude.{Option, Some, None, nat_le, not}
 use Rattle.std.proofs.lemmas.Bool.Decides.{nat_tests}
 use Rattle.ov_host.specs.declared.area.Extent.{Extent}
 use Rattle.ov_host.specs.Extent.{pages_of}
@@ -8,7 +8,8 @@ use Rattle.ov_event.specs.declared.event.Event as raw
 use Rattle.ov_event.specs.declared.event.Event.TheVariants as says
 use Rattle.ov_event.specs.Fields.{u8, u32, text, extent, counted, IsExtent}
 use Rattle.ov_event.specs.Spelling.{spelling, schema, column, parents, place, IsEvent}
-use Rattle.ov_catalog.specs.Numbers.{SetNumbers, Numbers}
+use Rattle.ov_catalog.specs.Numbers.{PlanNumbers, SetNumbers, Numbers}
+use Rattle.ov_catalog.specs.Planning.{copy_off, of_running}
 use Rattle.ov_catalog.specs.Applying.{first_off, commit_off, of_live, set_numbered, is_extent, is_list, is_segment, is_same}
 use Rattle.ov_catalog.specs.Raw.{place_in}
 use Rattle.law_events.proofs.Asking.{applies_sound}
@@ -94,21 +95,23 @@ pub record Ends (e : raw.Event) (l s : Extent) : Type 0 where
   pub list : IsExtent l
   pub segment : IsExtent s
 
-pub ends_of : (l s : Extent) (e : raw.Event) → BringsRuns e → with_extents l s e ≡ e → IsEvent e → Ends e l s
+pub ends_of : (bytes : List ℕ) (s : Extent) (e : raw.Event) → BringsRuns e bytes → with_extents (extent_at 0 bytes) s e ≡ e → IsEvent e → Ends e (extent_at 0 bytes) s
 unfolding IsEvent
-ends_of l s (says.Init name columns rows list segment) brings same is =
-    let one : list ≡ l = cc in let two : segment ≡ s = cc in
+ends_of bytes s (says.Init name columns rows list segment) brings same is =
+    let one : list ≡ extent_at 0 bytes = cc in let two : segment ≡ s = cc in
     record { list = subst IsExtent one is.3; segment = subst IsExtent two is.4 }
-ends_of l s (says.Commit cvd vid message edges rows fresh placed added list segment) brings same is =
-    let one : list ≡ l = cc in let two : segment ≡ s = cc in
+ends_of bytes s (says.Commit cvd vid message edges rows fresh placed added list segment) brings same is =
+    let one : list ≡ extent_at 0 bytes = cc in let two : segment ≡ s = cc in
     record { list = subst IsExtent one is.8; segment = subst IsExtent two is.9 }
-ends_of l s (says.Plan cvd p q targets) brings same is = absurd brings
-ends_of l s (says.Copy cvd count segment) brings same is = absurd brings
-ends_of l s (says.Flip cvd) brings same is = absurd brings
-ends_of l s (says.Drop cvd) brings same is = absurd brings
-ends_of l s (says.Base next) brings same is = absurd brings
-ends_of l s (says.Whole set) brings same is = absurd brings
-ends_of l s (says.Wide cvd vid message columns edges rows fresh placed added list segment) brings same is = absurd brings
+ends_of bytes s (says.Plan cvd p q targets) brings same is = absurd brings
+ends_of bytes s (says.Copy cvd count segment) brings same is =
+    let two : segment ≡ s = cc in
+    record { list = subst (λ (xs : List ℕ). IsExtent (extent_at 0 xs)) (sym brings) (omega arith, omega arith); segment = subst IsExtent two is.2 }
+ends_of bytes s (says.Flip cvd) brings same is = absurd brings
+ends_of bytes s (says.Drop cvd) brings same is = absurd brings
+ends_of bytes s (says.Base next) brings same is = absurd brings
+ends_of bytes s (says.Whole set) brings same is = absurd brings
+ends_of bytes s (says.Wide cvd vid message columns edges rows fresh placed added list segment) brings same is = absurd brings
 
 extent_size : (page : ℕ) (bytes : List ℕ) → (extent_at page bytes).bytes ≡ length bytes
 extent_size page [] = refl
@@ -117,13 +120,13 @@ extent_size page (byte ∷ bytes) = refl
 pub list_small : (b : Brought) → IsUnplaced b → IsEvent b.event → length b.list.items < 2 ^ 32
 list_small b is event =
     let ends : Ends b.event (extent_at 0 b.list.items) (extent_at 0 b.segment.items) =
-    ends_of (extent_at 0 b.list.items) (extent_at 0 b.segment.items) b.event is.runs is.extents event
+    ends_of b.list.items (extent_at 0 b.segment.items) b.event is.runs is.extents event
     in omega (arith, ends.list.1, extent_size 0 b.list.items)
 
 pub segment_small : (b : Brought) → IsUnplaced b → IsEvent b.event → length b.segment.items < 2 ^ 32
 segment_small b is event =
     let ends : Ends b.event (extent_at 0 b.list.items) (extent_at 0 b.segment.items) =
-    ends_of (extent_at 0 b.list.items) (extent_at 0 b.segment.items) b.event is.runs is.extents event
+    ends_of b.list.items (extent_at 0 b.segment.items) b.event is.runs is.extents event
     in omega (arith, ends.segment.1, extent_size 0 b.segment.items)
 
 -- the extent of a run
@@ -183,7 +186,7 @@ module _ (live : List Extent) (b : Brought) (l s : Extent) (is : IsUnplaced b) (
   segment_page : is_extent s ≡ true
   segment_page = fits_page (l ∷ live) b.segment.items s placed.segment_run
 
-  applies_by : (e : raw.Event) (n : Numbers Extent Extent) → BringsRuns e → with_extents (extent_at 0 b.list.items) (extent_at 0 b.segment.items) e ≡ e → first_off e n ≡ None → first_off (with_extents l s e) n ≡ first_off e n
+  applies_by : (e : raw.Event) (n : Numbers Extent Extent) → BringsRuns e b.list.items → with_extents (extent_at 0 b.list.items) (extent_at 0 b.segment.items) e ≡ e → first_off e n ≡ None → first_off (with_extents l s e) n ≡ first_off e n
   applies_by (says.Init name columns rows list segment) n brings same h =
       let one : extent_at 0 b.list.items ≡ list = cc in
       let two : extent_at 0 b.segment.items ≡ segment = cc in
@@ -206,7 +209,22 @@ module _ (live : List Extent) (b : Brought) (l s : Extent) (is : IsUnplaced b) (
       by None test = refl
       by (Some d) test = rw test refl
   applies_by (says.Plan cvd p q targets) n brings same h = absurd brings
-  applies_by (says.Copy cvd count segment) n brings same h = absurd brings
+  applies_by (says.Copy cvd count segment) n brings same h =
+      let two : extent_at 0 b.segment.items ≡ segment = cc in
+      let sound = applies_sound (says.Copy cvd count segment) n h in
+      let some : not (s.bytes == 0) ≡ true = subst (λ (bytes : ℕ). not (bytes == 0) ≡ true) (sym (ap (λ (x : Extent). x.bytes) two) ∙ segment_size) sound.0 in
+      let test = both_true (not (s.bytes == 0)) (is_extent s) (not (segment.bytes == 0)) (is_extent segment) some segment_page sound.0 sound.1 in
+      by (set_numbered cvd n) test
+    where
+      of_plan : (plan : Option (PlanNumbers Extent)) → (not (s.bytes == 0) && is_extent s) ≡ (not (segment.bytes == 0) && is_extent segment)
+          → of_running (copy_off count s) plan ≡ of_running (copy_off count segment) plan
+      of_plan None test = refl
+      of_plan (Some plan) test = rw test refl
+
+      by : (found : Option (SetNumbers Extent Extent)) → (not (s.bytes == 0) && is_extent s) ≡ (not (segment.bytes == 0) && is_extent segment)
+          → of_live (λ d. of_running (copy_off count s) d.plan) found ≡ of_live (λ d. of_running (copy_off count segment) d.plan) found
+      by None test = refl
+      by (Some d) test = of_plan d.plan test
   applies_by (says.Flip cvd) n brings same h = absurd brings
   applies_by (says.Drop cvd) n brings same h = absurd brings
   applies_by (says.Base next) n brings same h = absurd brings
@@ -216,13 +234,13 @@ module _ (live : List Extent) (b : Brought) (l s : Extent) (is : IsUnplaced b) (
   pub applies_placed : (n : Numbers Extent Extent) → first_off b.event n ≡ None → first_off (with_extents l s b.event) n ≡ None
   applies_placed n h = applies_by b.event n is.runs is.extents h ∙ h
 
-pub brings_placed : (l s : Extent) (e : raw.Event) → BringsRuns e → BringsRuns (with_extents l s e)
-brings_placed l s (says.Init name columns rows list segment) brings = tt
-brings_placed l s (says.Commit cvd vid message edges rows fresh place added list segment) brings = tt
-brings_placed l s (says.Plan cvd p q targets) brings = absurd brings
-brings_placed l s (says.Copy cvd count segment) brings = absurd brings
-brings_placed l s (says.Flip cvd) brings = absurd brings
-brings_placed l s (says.Drop cvd) brings = absurd brings
-brings_placed l s (says.Base next) brings = absurd brings
-brings_placed l s (says.Whole set) brings = absurd brings
-brings_placed l s (says.Wide cvd vid message columns edges rows fresh place added list segment) brings = absurd brings
+pub brings_placed : (bytes : List ℕ) (l s : Extent) (e : raw.Event) → BringsRuns e bytes → BringsRuns (with_extents l s e) bytes
+brings_placed bytes l s (says.Init name columns rows list segment) brings = tt
+brings_placed bytes l s (says.Commit cvd vid message edges rows fresh place added list segment) brings = tt
+brings_placed bytes l s (says.Plan cvd p q targets) brings = absurd brings
+brings_placed bytes l s (says.Copy cvd count segment) brings = brings
+brings_placed bytes l s (says.Flip cvd) brings = absurd brings
+brings_placed bytes l s (says.Drop cvd) brings = absurd brings
+brings_placed bytes l s (says.Base next) brings = absurd brings
+brings_placed bytes l s (says.Whole set) brings = absurd brings
+brings_placed bytes l s (says.Wide cvd vid message columns edges rows fresh place added list segment) brings = absurd brings

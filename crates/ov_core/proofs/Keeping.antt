@@ -18,8 +18,8 @@ use Rattle.ov_catalog.specs.Events.{applied}
 use Rattle.ov_catalog.specs.Extents.{brought, covers, given_up, has_page, live}
 use Rattle.ov_catalog.specs.Numbers.{Numbers}
 use Rattle.ov_catalog.specs.Raw.{event_in}
+use Rattle.ov_catalog.specs.Sources.{IsApart}
 use Rattle.law_image.specs.Pages.{pages_in}
-use Rattle.ov_catalog.proofs.Covering.{IsApart}
 use Rattle.ov_catalog.proofs.FlipCounts.{total}
 use Rattle.ov_catalog.proofs.Serving.{all_apply, all_served, numbers_more, AllServed}
 use Rattle.ov_catalog.proofs.Weighing.{live_total}
@@ -50,28 +50,28 @@ replayed_more n e is h = record {
   are = ap (applied (event_in e)) is.are ∙ sym (numbers_more is.events e);
 }
 
-none_given_up : (l s : Extent) (e : raw.Event) (n : Numbers Extent Extent) → BringsRuns e → given_up (event_in (with_extents l s e)) n ≡ []
-none_given_up l s (says.Init name columns rows a b) n brings = refl
-none_given_up l s (says.Commit cvd vid message edges rows fresh place added a b) n brings = refl
-none_given_up l s (says.Plan cvd p q targets) n brings = absurd brings
-none_given_up l s (says.Copy cvd count segment) n brings = absurd brings
-none_given_up l s (says.Flip cvd) n brings = absurd brings
-none_given_up l s (says.Drop cvd) n brings = absurd brings
-none_given_up l s (says.Base next) n brings = absurd brings
-none_given_up l s (says.Whole set) n brings = absurd brings
-none_given_up l s (says.Wide cvd vid message columns edges rows fresh place added a b) n brings = absurd brings
+none_given_up : (bytes : List ℕ) (l s : Extent) (e : raw.Event) (n : Numbers Extent Extent) → BringsRuns e bytes → given_up (event_in (with_extents l s e)) n ≡ []
+none_given_up bytes l s (says.Init name columns rows a b) n brings = refl
+none_given_up bytes l s (says.Commit cvd vid message edges rows fresh place added a b) n brings = refl
+none_given_up bytes l s (says.Plan cvd p q targets) n brings = absurd brings
+none_given_up bytes l s (says.Copy cvd count segment) n brings = refl
+none_given_up bytes l s (says.Flip cvd) n brings = absurd brings
+none_given_up bytes l s (says.Drop cvd) n brings = absurd brings
+none_given_up bytes l s (says.Base next) n brings = absurd brings
+none_given_up bytes l s (says.Whole set) n brings = absurd brings
+none_given_up bytes l s (says.Wide cvd vid message columns edges rows fresh place added a b) n brings = absurd brings
 
 -- no such event is a flip
-pub apart_placed : (l s : Extent) (e : raw.Event) (n : Numbers Extent Extent) → BringsRuns e → IsApart (with_extents l s e) n
-apart_placed l s (says.Init name columns rows a b) n brings = tt
-apart_placed l s (says.Commit cvd vid message edges rows fresh place added a b) n brings = tt
-apart_placed l s (says.Plan cvd p q targets) n brings = absurd brings
-apart_placed l s (says.Copy cvd count segment) n brings = absurd brings
-apart_placed l s (says.Flip cvd) n brings = absurd brings
-apart_placed l s (says.Drop cvd) n brings = absurd brings
-apart_placed l s (says.Base next) n brings = absurd brings
-apart_placed l s (says.Whole set) n brings = absurd brings
-apart_placed l s (says.Wide cvd vid message columns edges rows fresh place added a b) n brings = absurd brings
+pub apart_placed : (bytes : List ℕ) (l s : Extent) (e : raw.Event) (n : Numbers Extent Extent) → BringsRuns e bytes → IsApart (with_extents l s e) n
+apart_placed bytes l s (says.Init name columns rows a b) n brings = tt
+apart_placed bytes l s (says.Commit cvd vid message edges rows fresh place added a b) n brings = tt
+apart_placed bytes l s (says.Plan cvd p q targets) n brings = absurd brings
+apart_placed bytes l s (says.Copy cvd count segment) n brings = tt
+apart_placed bytes l s (says.Flip cvd) n brings = absurd brings
+apart_placed bytes l s (says.Drop cvd) n brings = absurd brings
+apart_placed bytes l s (says.Base next) n brings = absurd brings
+apart_placed bytes l s (says.Whole set) n brings = absurd brings
+apart_placed bytes l s (says.Wide cvd vid message columns edges rows fresh place added a b) n brings = absurd brings
 
 -- an extent of no bytes counts for nothing
 empty_total : (w : Extent → ℕ) (segment : List ℕ) (s : Extent) → w nowhere ≡ 0 → s ≡ extent_at s.page segment → s.bytes ≡ length segment → total w (extents_of s) ≡ w s
@@ -106,9 +106,9 @@ module _ (n : Numbers Extent Extent) (replayed : IsReplayed n) (b : Brought) (un
   -- the new extents and the live ones are those that are live then
   pub live_same : AreSame (s ∷ l ∷ live n) (live (applied (event_in e) n))
   live_same w none =
-      let all = live_total w e n applies_now (apart_placed l s b.event n unplaced.runs) (served n replayed)
-      in let given : total w (given_up (event_in e) n) ≡ 0 = ap (total w) (none_given_up l s b.event n unplaced.runs)
-      in let come : total w (brought (event_in e)) ≡ w l + total w (extents_of s) = ap (total w) (brought_placed l s b.event unplaced.runs)
+      let all = live_total w e n applies_now (apart_placed b.list.items l s b.event n unplaced.runs) (served n replayed)
+      in let given : total w (given_up (event_in e) n) ≡ 0 = ap (total w) (none_given_up b.list.items l s b.event n unplaced.runs)
+      in let come : total w (brought (event_in e)) ≡ w l + total w (extents_of s) = brought_placed (live n) b.list.items l s b.event unplaced.runs placed.list_run w none
       in let last : total w (extents_of s) ≡ w s = empty_total w b.segment.items s none segment_is placed.segment_run.size
       in omega (arith, all, given, come, last)
 

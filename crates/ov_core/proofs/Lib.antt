@@ -6,6 +6,6 @@ pub mod Growing
 pub mod Storing
 pub mod Changing
 pub mod Keeping
-pub mod Dropping
+pub mod Bare
 pub mod Replaying
 pub mod Roomy

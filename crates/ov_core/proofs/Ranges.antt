@@ -12,7 +12,7 @@ use Rattle.ov_layout.specs.Changes.{extents_of}
 use Rattle.ov_publish.specs.Pages.{whole_pages, range_of, with_run, AreOff, AreThere, SameOn}
 use Rattle.ov_publish.proofs.Overwriting.{run_is_read, run_there, run_longer, first_read, both_same}
 use Rattle.ov_catalog.specs.Extents.{brought, covers, has_page}
-use Rattle.ov_catalog.specs.Events.{Init, Commit}
+use Rattle.ov_catalog.specs.Events.{Init, Commit, Copy}
 use Rattle.ov_catalog.specs.Raw.{event_in, place_in, shape_in}
 use Rattle.ov_catalog.specs.Stands.{seen_event}
 use Rattle.law_image.specs.Lists.{list_in}
@@ -21,6 +21,7 @@ use Rattle.law_image.specs.Segments.{segment_in}
 use Rattle.law_image.proofs.Standing.{same_pages}
 use Rattle.ov_core.specs.Brought.{content, segments_in, with_extents, BringsRuns}
 use Rattle.ov_core.specs.Rooms.{ArePlaced, IsRun}
+use Rattle.ov_core.proofs.Reserving.{AreSame, nowhere}
 
 abbrev pub ranges_for : List Extent → List (ℕ × ℕ)
 ranges_for [] = []
@@ -174,13 +175,13 @@ module _ (live : List Extent) (list segment : List ℕ) (l s : Extent) (placed :
           in ap (λ (b : Bool). map (readings_of (written old)).segment (if b then [] else s ∷ [])) test
           ∙ ap (λ r. r ∷ []) (whole_read segment_in (written old) segment s (segment_read old) placed.segment_run.size ∙ ap segment_in is)
 
-  pub spells : (old : List ℕ) (e : raw.Event) → BringsRuns e → seen_event (readings_of (written old)) (with_extents l s e) ≡ content (event_in e) list segment
+  pub spells : (old : List ℕ) (e : raw.Event) → BringsRuns e list → seen_event (readings_of (written old)) (with_extents l s e) ≡ content (event_in e) list segment
   spells old (says.Init name columns rows a b) brings =
       λ i. Init name (shape_in columns) rows (list_seen old i) (segments_seen old i)
   spells old (says.Commit cvd vid message edges rows fresh place added a b) brings =
       λ i. Commit cvd vid message edges rows fresh (place_in place) added (list_seen old i) (segments_seen old i)
   spells old (says.Plan cvd p q targets) brings = absurd brings
-  spells old (says.Copy cvd count segment) brings = absurd brings
+  spells old (says.Copy cvd count a) brings = λ i. Copy cvd count (segments_seen old i)
   spells old (says.Flip cvd) brings = absurd brings
   spells old (says.Drop cvd) brings = absurd brings
   spells old (says.Base next) brings = absurd brings
@@ -239,13 +240,19 @@ module _ (live : List Extent) (list segment : List ℕ) (l s : Extent) (placed :
   pub live_inside : (old : List ℕ) (page : ℕ) → page < pages_in old → page < pages_in (written old)
   live_inside old page there = omega (arith, there, longer old)
 
-pub brought_placed : (l s : Extent) (e : raw.Event) → BringsRuns e → brought (event_in (with_extents l s e)) ≡ l ∷ extents_of s
-brought_placed l s (says.Init name columns rows a b) brings = refl
-brought_placed l s (says.Commit cvd vid message edges rows fresh place added a b) brings = refl
-brought_placed l s (says.Plan cvd p q targets) brings = absurd brings
-brought_placed l s (says.Copy cvd count segment) brings = absurd brings
-brought_placed l s (says.Flip cvd) brings = absurd brings
-brought_placed l s (says.Drop cvd) brings = absurd brings
-brought_placed l s (says.Base next) brings = absurd brings
-brought_placed l s (says.Whole set) brings = absurd brings
-brought_placed l s (says.Wide cvd vid message columns edges rows fresh place added a b) brings = absurd brings
+-- what it brings are both extents; one of no bytes counts for nothing
+pub brought_placed : (live : List Extent) (bytes : List ℕ) (l s : Extent) (e : raw.Event) → BringsRuns e bytes → IsRun live bytes l
+    → AreSame (brought (event_in (with_extents l s e))) (l ∷ extents_of s)
+brought_placed live bytes l s (says.Init name columns rows a b) brings run w none = refl
+brought_placed live bytes l s (says.Commit cvd vid message edges rows fresh place added a b) brings run w none = refl
+brought_placed live bytes l s (says.Plan cvd p q targets) brings run w none = absurd brings
+brought_placed live bytes l s (says.Copy cvd count segment) brings run w none =
+    let page : l.page ≡ 0 = run.empty brings
+    in let size : l.bytes ≡ 0 = run.size ∙ ap length brings
+    in let is : l ≡ nowhere = λ i. record { page = page i; bytes = size i }
+    in omega (arith, ap w is, none)
+brought_placed live bytes l s (says.Flip cvd) brings run w none = absurd brings
+brought_placed live bytes l s (says.Drop cvd) brings run w none = absurd brings
+brought_placed live bytes l s (says.Base next) brings run w none = absurd brings
+brought_placed live bytes l s (says.Whole set) brings run w none = absurd brings
+brought_placed live bytes l s (says.Wide cvd vid message columns edges rows fresh place added a b) brings run w none = absurd brings

@@ -1,8 +1,11 @@
--- Events that bring a list and a segment.
+-- What events bring.
 --     with_extents list segment e      the event with these extents
+--     BringsRuns e list      it brings runs, and the list's has these bytes
 --     IsUnplaced b      the event's extents are those of the bytes, not placed yet
 --     content e list segment      what the event says, with what the bytes spell in its holes
 --     Brings m w b      it is the event of a move that fits, and the bytes are what the World asks for
+--     IsBare e      it brings no run
+--     Asks m w e      it is the event of a move that fits, and brings no bytes
 use Rattle.std.specs.Prelude.{◌≡◌, ℕ, List, [], ◌∷◌, length, Option, Some, None}
 use Rattle.ov_host.specs.declared.area.Extent.{Extent}
 use Rattle.ov_event.specs.declared.event.Event as raw
@@ -37,20 +40,20 @@ with_extents list segment (says.Whole said) = says.Whole said
 with_extents list segment (says.Wide cvd vid message columns parents rows fresh place added l s) =
     says.Wide cvd vid message columns parents rows fresh place added list segment
 
--- An Init or a Commit. A Wide brings a list and a segment as well, and a Copy a segment; they aren't stored yet.
-abbrev pub BringsRuns : raw.Event → Type 0
-BringsRuns (says.Init name schema rows list segment) = Unit {0}
-BringsRuns (says.Commit cvd vid message parents rows fresh place added list segment) = Unit {0}
-BringsRuns (says.Plan cvd p q targets) = ⊥
-BringsRuns (says.Copy cvd count segment) = ⊥
-BringsRuns (says.Flip cvd) = ⊥
-BringsRuns (says.Drop cvd) = ⊥
-BringsRuns (says.Base next) = ⊥
-BringsRuns (says.Whole said) = ⊥
-BringsRuns (says.Wide cvd vid message columns parents rows fresh place added list segment) = ⊥
+-- An Init or a Commit brings a list and a segment, a Copy a segment alone. A Wide brings both as well; it isn't stored yet.
+abbrev pub BringsRuns : raw.Event → List ℕ → Type 0
+BringsRuns (says.Init name schema rows l s) list = Unit {0}
+BringsRuns (says.Commit cvd vid message parents rows fresh place added l s) list = Unit {0}
+BringsRuns (says.Plan cvd p q targets) list = ⊥
+BringsRuns (says.Copy cvd count s) list = list ≡ []
+BringsRuns (says.Flip cvd) list = ⊥
+BringsRuns (says.Drop cvd) list = ⊥
+BringsRuns (says.Base next) list = ⊥
+BringsRuns (says.Whole said) list = ⊥
+BringsRuns (says.Wide cvd vid message columns parents rows fresh place added l s) list = ⊥
 
 pub record IsUnplaced (b : Brought) : Type 0 where
-  pub runs : BringsRuns b.event
+  pub runs : BringsRuns b.event b.list.items
   pub extents : with_extents (extent_at 0 b.list.items) (extent_at 0 b.segment.items) b.event ≡ b.event
 
 -- what the segments of these bytes spell: of none there is no segment
@@ -75,3 +78,19 @@ content (Wide cvd vid message columns parents rows fresh place added l s) list s
 pub record Brings (m : Move) (w : World) (b : Brought) : Type 0 where
   pub fits : Fits m w
   pub says : Some (content (event_in b.event) b.list.items b.segment.items) ≡ asked_event m w
+
+-- A Plan, a Flip or a Drop brings none.
+abbrev pub IsBare : raw.Event → Type 0
+IsBare (says.Init name schema rows list segment) = ⊥
+IsBare (says.Commit cvd vid message parents rows fresh place added list segment) = ⊥
+IsBare (says.Plan cvd p q targets) = Unit {0}
+IsBare (says.Copy cvd count segment) = ⊥
+IsBare (says.Flip cvd) = Unit {0}
+IsBare (says.Drop cvd) = Unit {0}
+IsBare (says.Base next) = ⊥
+IsBare (says.Whole said) = ⊥
+IsBare (says.Wide cvd vid message columns parents rows fresh place added list segment) = ⊥
+
+pub record Asks (m : Move) (w : World) (e : raw.Event) : Type 0 where
+  pub fits : Fits m w
+  pub says : Some (content (event_in e) [] []) ≡ asked_event m w

@@ -4,6 +4,7 @@
 --     HaveRuns live list segment      there are runs for both
 --     IsFull live list segment pages      one of them finds none
 --     IsWhy why held b old new      why a change isn't made
+--     IsWhyNotRecorded why held e old new      why one isn't that brings no run
 use Rattle.std.specs.Prelude.{◌≡◌, ◌⊎◌, ◌≤◌, ◌<◌, ℕ, ◌+◌, ◌/◌, ◌^◌, List, [], ◌∷◌, length}
 use Rattle.ov_host.specs.declared.area.Extent.{Extent}
 use Rattle.ov_host.specs.Host.{Rose, State}
@@ -14,6 +15,7 @@ use Rattle.ov_journal.specs.Held as journals
 use Rattle.ov_catalog.specs.Extents.{covers, live}
 use Rattle.ov_catalog.specs.Events.{applied}
 use Rattle.ov_catalog.specs.Raw.{event_in}
+use Rattle.ov_catalog.specs.Sources.{IsApart}
 use Rattle.ov_core.specs.declared.brought.Brought.{Brought}
 use Rattle.ov_core.specs.declared.errors.ChangeErr.{ChangeErr}
 use Rattle.ov_core.specs.declared.errors.ChangeErr.TheVariants as errors
@@ -85,19 +87,27 @@ pub record IsMade (old new : Held) (b : Brought) : Type 0 where
   pub fits : PassesJournal old b.event → ⊥
   pub applied_is : new.numbers ≡ applied (event_in (with_extents l s b.event)) old.numbers
 
--- ---- a drop
+-- ---- an event that brings no run
 
--- a drop asks for no run
+-- it asks for none
+abbrev pub IsWhyNotRecorded : ChangeErr → Held → raw.Event → State → State → Type 0
+IsWhyNotRecorded errors.Host held e old new = Rose old.faults new.faults
+IsWhyNotRecorded errors.Memory held e old new = Unit {0}
+IsWhyNotRecorded (errors.Full pages) held e old new = ⊥
+IsWhyNotRecorded errors.JournalFull held e old new = PassesJournal held e
+
+-- it was added: the journal had room, nothing that stays was given up, and the catalog applied it
+pub record IsRecorded (old new : Held) (e : raw.Event) : Type 0 where
+  pub fits : PassesJournal old e → ⊥
+  pub apart : IsApart e old.numbers
+  pub applied_is : new.numbers ≡ applied (event_in e) old.numbers
+
+-- a drop
 abbrev pub IsWhyKept : ChangeErr → Held → ℕ → State → State → Type 0
-IsWhyKept errors.Host held cvd old new = Rose old.faults new.faults
-IsWhyKept errors.Memory held cvd old new = Unit {0}
-IsWhyKept (errors.Full pages) held cvd old new = ⊥
-IsWhyKept errors.JournalFull held cvd old new = PassesJournal held (says.Drop cvd)
+IsWhyKept why held cvd old new = IsWhyNotRecorded why held (says.Drop cvd) old new
 
--- the dataset went: the journal had room, and the catalog applied the event
-pub record IsDropped (old new : Held) (cvd : ℕ) : Type 0 where
-  pub fits : PassesJournal old (says.Drop cvd) → ⊥
-  pub applied_is : new.numbers ≡ applied (event_in (says.Drop cvd)) old.numbers
+abbrev pub IsDropped : Held → Held → ℕ → Type 0
+IsDropped old new cvd = IsRecorded old new (says.Drop cvd)
 
 -- ---- in the parts of a change
 

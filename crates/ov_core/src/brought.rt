@@ -2,8 +2,8 @@
 
 use ov_event::Event;
 
-/// An event that brings a list and a segment, Init or Commit, and their bytes. The extents in the event have the numbers of
-/// these bytes and aren't placed yet: their page is 0.
+/// An event that brings runs, and their bytes: an Init or a Commit with a list and a segment, or a Copy with a segment and an
+/// empty list. The extents in the event have the numbers of these bytes and aren't placed yet: their page is 0.
 #[derive(Debug, Drop)]
 pub struct Brought {
     pub event: Event,

@@ -157,7 +157,7 @@ pub fn write_change<H: Host>(
     segment: Run,
 ) -> Result<(), ChangeErr>
     requires end { (H.state host.old).tells ≡ true → journal.old.end < length (area_bytes Area.Journal (H.state host.old)) }
-    requires brings { BringsRuns event }
+    requires brings { BringsRuns event list.bytes.now }
     requires applies { first_off event catalog.old.numbers ≡ None }
     requires spelled { Fits event }
     requires list { length list.bytes.now < 2 ^ 32 }

@@ -102,8 +102,8 @@ impl Cursor {
         ensures fetched { (H.state host.new).fetched + self.old.at ≤ (H.state host.old).fetched + self.new.at }
         ensures place { self.new.extent ≡ self.old.extent }
         ensures within { self.new.at ≤ self.old.extent.bytes }
-        ensures passed { IfOk result (λ found. Passes schema.now (H.state host.old) self.old (record { inside = ahead.old.inside; edges = ahead.old.edges.now }) kept.old
-            found self.new (record { inside = ahead.new.inside; edges = ahead.new.edges.now }) kept.new) }
+        ensures passed { IfOk result (λ found. Passes schema.now (H.state host.old) self.old (record { inside = ahead.old.inside; edges = ahead.old.edges }) kept.old
+            found self.new (record { inside = ahead.new.inside; edges = ahead.new.edges }) kept.new) }
         ensures err { (H.state host.old).tells ≡ true
             → IfErr result (λ e. RefusesNext e schema.now (page_bytes (H.state host.old)) self.old) }
     {

@@ -1,5 +1,5 @@
 -- Sets kept by their edges.
-use Rattle.std.proofs.Common.{◌≡◌, ℕ, zero, suc, ◌+◌, ◌-◌, ◌%◌, ◌<◌, ◌≤◌, ◌^◌, Bool, true, false, not, eqb, List, [], ◌∷◌, length, get_or, take, drop, refl, ap, subst, ◌∙◌, inl, inr, arith}
+use Rattle.std.proofs.Common.{◌≡◌, ℕ, zero, suc, ◌+◌, ◌-◌, ◌%◌, ◌<◌, ◌≤◌, ◌^◌, Bool, true, false, if◌then◌else◌, not, eqb, List, [], ◌∷◌, length, get_or, take, drop, refl, ap, subst, sym, ◌∙◌, inl, inr, arith}
 use Rattle.std.proofs.lemmas.Bool.{cases_lt, lt-ltb, le-ltb}
 use Rattle.std.proofs.lemmas.List.{length-append}
 use Rattle.std.proofs.Math.Seq.{take-length}
@@ -95,6 +95,41 @@ status-turned inside [] n (suc count) le below above = absurd (omega arith)
 status-turned inside (edge ∷ edges) n zero le below above = rw (lt-ltb n edge (above 0 (omega arith) (omega arith))) refl
 status-turned inside (edge ∷ edges) n (suc count) le below above =
     rw (le-ltb n edge (below 0 (omega arith))) (status-turned (not inside) edges n count (omega arith) (λ k lt. below (suc k) (omega arith)) (λ k from lt. above (suc k) (omega arith) (omega arith)))
+
+pub turned-parity : (count : ℕ) (inside : Bool) → turned count inside ≡ (if eqb (count % 2) 1 then not inside else inside)
+turned-parity zero inside = refl
+turned-parity (suc zero) inside = refl
+turned-parity (suc (suc count)) inside = let e : suc (suc count) % 2 ≡ count % 2 = omega arith in rw (e, not-not inside) (turned-parity count inside)
+
+-- behind edges that a number is past, it is in as before
+status-behind : (inside : Bool) (edges : List ℕ) (n count : ℕ) → count ≤ length edges → ((k : ℕ) → k < count → get_or edges k 0 ≤ n) → status (turned count inside) (drop count edges) n ≡ status inside edges n
+status-behind inside edges n zero le below = refl
+status-behind inside [] n (suc count) le below = absurd (omega arith)
+status-behind inside (edge ∷ edges) n (suc count) le below =
+    rw (le-ltb n edge (below 0 (omega arith))) (status-behind (not inside) edges n count (omega arith) (λ k lt. below (suc k) (omega arith)))
+
+-- the same of one edge
+pub status-past : (inside : Bool) (edges : List ℕ) (edge : ℕ) (rest : List ℕ) (n : ℕ) → edges ≡ edge ∷ rest → edge ≤ n → status (not inside) rest n ≡ status inside edges n
+status-past inside edges edge rest n is le = rw (is, le-ltb n edge le) refl
+
+pub Ascend-behind : (low : ℕ) (edges : List ℕ) (count : ℕ) → Ascend low edges → Ascend 0 (drop count edges)
+Ascend-behind low edges zero h = Ascend-weaker 0 low edges (omega arith) h
+Ascend-behind low [] (suc count) h = tt
+Ascend-behind low (edge ∷ edges) (suc count) h = Ascend-behind edge edges count h.2
+
+-- a leap over the edges up to a rid
+pub record Leaps (inside : Bool) (edges : List ℕ) (rid count : ℕ) (after : Bool) : Type 0 where
+  pub inside_is : after ≡ status inside edges rid
+  pub ahead_is : (n : ℕ) → rid ≤ n → status after (drop count edges) n ≡ status inside edges n
+
+pub leaps : (inside : Bool) (edges : List ℕ) (rid count : ℕ) (after : Bool) → count ≤ length edges → ((k : ℕ) → k < count → get_or edges k 0 ≤ rid) → ((k : ℕ) → count ≤ k → k < length edges → rid < get_or edges k 0) → after ≡ (if eqb (count % 2) 1 then not inside else inside)
+    → Leaps inside edges rid count after
+leaps inside edges rid count after le below above is =
+    let turns : after ≡ turned count inside = is ∙ sym (turned-parity count inside) in
+    record {
+      inside_is = turns ∙ sym (status-turned inside edges rid count le below above);
+      ahead_is = λ n from. rw turns (status-behind inside edges n count le (λ k lt. let one = below k lt in omega (arith, one, from)));
+    }
 
 -- one more pair of edges is counted
 pub record Counted (count total : ℕ) (edges : List ℕ) (first past : ℕ) (others : List ℕ) : Type 0 where

@@ -13,6 +13,11 @@ abbrev pub status : Bool → List ℕ → ℕ → Bool
 status inside [] number = inside
 status inside (edge ∷ edges) number = if nat_lt number edge then inside else status (not inside) edges number
 
+-- what is left of a set from some number on: its edges from there, and whether the numbers before the first of them are in
+pub record Left : Type 0 where
+  pub inside : Bool
+  pub edges : List ℕ
+
 -- whether the numbers past the last edge are in
 abbrev pub ends : Bool → List ℕ → Bool
 ends inside [] = inside

@@ -1,24 +1,70 @@
 //! A walk over the ranges of one set, from the least rid on.
 
-ghost use Rattle.std.specs.Prelude.{◌≡◌, ◌≤◌, ℕ};
-ghost use Rattle.ov_member.specs.Edges.{status};
+ghost use Rattle.std.specs.Prelude.{◌≡◌, ◌≤◌, ℕ, false};
+ghost use Rattle.ov_member.specs.Edges.{Ascend, status};
+
+use std::marker::Model;
+
+// How many edges are passed one by one. Where more are to be passed, they are searched by halves.
+const NEAR: usize = 8;
 
 /// What is ahead of a walk over a set: its edges from some rid on, and whether the rids before the first of them are
 /// in the set. `status` says of each rid from there on whether it is in the set.
-#[derive(Clone, Copy)]
+#[derive(Drop)]
 pub struct Ahead<'a> {
-    /// Whether the rids before the first edge are in the set.
-    pub inside: bool,
-    /// The edges that are left, ascending: where a range begins, and one past where it ends, in turn.
-    pub edges: &'a [u32],
+    // Whether the rids before the first edge are in the set.
+    inside: bool,
+    // The edges that are left, ascending: where a range begins, and one past where it ends, in turn.
+    edges: &'a [u32],
+}
+
+impl<'a> Model for Ahead<'a> {
+    ghost use Rattle.ov_member.specs.Edges.{Ascend, Left};
+
+    ghost Value = { Left };
+
+    ghost view = { λ a. record { inside = a.inside; edges = a.edges.now } };
+
+    ghost invariant = { λ a. Ascend 0 a.edges.now };
 }
 
 impl<'a> Ahead<'a> {
-    /// What is ahead from this rid on, where `inside` says whether the rid is in the set. It passes each edge once, so
-    /// that a walk over ascending rids takes the time of the rids and of the ranges.
-    pub fn at(self, rid: u32) -> Ahead<'a>
-        ensures inside { result.inside ≡ status self.entry.inside self.entry.edges.now rid }
-        ensures ahead { (n : ℕ) → rid ≤ n → status result.inside result.edges.now n ≡ status self.entry.inside self.entry.edges.now n }
+    /// What is ahead before the first of these edges.
+    pub(crate) fn before(edges: &'a [u32]) -> Ahead<'a>
+        requires { Ascend 0 edges.now }
+        ensures inside { result.inside ≡ false }
+        ensures edges { result.edges ≡ edges.now }
+    {
+        Ahead {
+            inside: false,
+            edges,
+        }
+    }
+
+    /// Whether the rids before the first edge are in the set.
+    pub fn is_inside(&self) -> bool
+        ensures { result ≡ self.now.inside }
+    {
+        self.inside
+    }
+
+    /// What is ahead from this rid on: it is inside where the rid is in the set. A walk over ascending rids passes each
+    /// edge once, and where it leaps over many, it takes the logarithm of their number.
+    pub fn at(&self, rid: u32) -> Ahead<'a>
+        ensures inside { result.inside ≡ status self.now.inside self.now.edges rid }
+        ensures ahead { (n : ℕ) → rid ≤ n → status result.inside result.edges n ≡ status self.now.inside self.now.edges n }
+    {
+        if self.edges.len() > NEAR && self.edges[NEAR] <= rid {
+            self.far(rid)
+        } else {
+            self.near(rid)
+        }
+    }
+
+    // The same, edge by edge.
+    fn near(&self, rid: u32) -> Ahead<'a>
+        ensures inside { result.inside ≡ status self.now.inside self.now.edges rid }
+        ensures ahead { (n : ℕ) → rid ≤ n → status result.inside result.edges n ≡ status self.now.inside self.now.edges n }
     {
         let mut inside = self.inside;
         let mut edges = self.edges;
@@ -29,6 +75,21 @@ impl<'a> Ahead<'a> {
             inside = !inside;
             edges = rest;
         }
+        Ahead { inside, edges }
+    }
+
+    // The same, by halves.
+    fn far(&self, rid: u32) -> Ahead<'a>
+        ensures inside { result.inside ≡ status self.now.inside self.now.edges rid }
+        ensures ahead { (n : ℕ) → rid ≤ n → status result.inside result.edges n ≡ status self.now.inside self.now.edges n }
+    {
+        let passed = self.edges.partition_point(|edge| *edge <= rid);
+        let edges = &self.edges[passed..];
+        let inside = if passed % 2 == 1 {
+            !self.inside
+        } else {
+            self.inside
+        };
         Ahead { inside, edges }
     }
 }

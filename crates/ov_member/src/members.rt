@@ -105,12 +105,9 @@ impl Members {
 
     /// A walk over the set, before its least rid.
     pub fn ahead(&self) -> Ahead<'_>
-        ensures { (n : ℕ) → status result.inside result.edges.now n ≡ has self.now n }
+        ensures { (n : ℕ) → status result.inside result.edges n ≡ has self.now n }
     {
-        Ahead {
-            inside: false,
-            edges: &self.edges,
-        }
+        Ahead::before(&self.edges)
     }
 
     /// The greatest rid; `None` where there is no rid.

@@ -44,7 +44,7 @@ pub record AsksTooMuch (a : Asked) (w : World) (ds : Dataset) (list_pages segmen
   pub segment : List ℕ
   pub says : Some (content (event_in event) list segment) ≡ asked_event (Commit a.set.number a.vids a.message [] a.rows) w
   pub sized : with_extents (extent_at 0 list) (extent_at 0 segment) event ≡ event
-  pub runs : BringsRuns event
+  pub runs : BringsRuns event list
   pub long : IsLong list_pages segment_pages list segment
   pub room : records_with a ds ≤ 2 ^ 31
 

@@ -46,7 +46,7 @@ fn places_of(alloc: Global, records: &Table, rids: &Members) -> Result<Vec<usize
     let mut ahead = rids.ahead();
     for place in 0..records.len() {
         ahead = ahead.at(records.rid(place));
-        if ahead.inside {
+        if ahead.is_inside() {
             places.push(place)?;
         }
     }

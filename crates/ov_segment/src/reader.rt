@@ -111,8 +111,8 @@ impl SegmentReader {
         table: &mut Table,
     ) -> Result<Kept, AllocError>
         requires { table.old.columns ≡ schema.now.columns }
-        ensures kept { IfOk result (λ kept. Keeps schema.now self.old (record { inside = ahead.old.inside; edges = ahead.old.edges.now }) table.old
-            kept self.new (record { inside = ahead.new.inside; edges = ahead.new.edges.now }) table.new) }
+        ensures kept { IfOk result (λ kept. Keeps schema.now self.old (record { inside = ahead.old.inside; edges = ahead.old.edges }) table.old
+            kept self.new (record { inside = ahead.new.inside; edges = ahead.new.edges }) table.new) }
         ensures reader { OnErr result (self.new ≡ self.old) }
         ensures table { OnErr result (table.new ≡ table.old) }
     {
@@ -127,7 +127,7 @@ impl SegmentReader {
             }
             Front::Record(rid, marked, row) => {
                 let next = ahead.at(rid);
-                put(table, next.inside, rid, marked, row)?;
+                put(table, next.is_inside(), rid, marked, row)?;
                 let len = row.len();
                 *ahead = next;
                 self.last = rid;
@@ -140,8 +140,8 @@ impl SegmentReader {
     /// The next record where `ahead` says that its rid is wanted, and else its rid alone; `ahead` then is what is ahead
     /// from this rid on. Only a wanted record takes memory. After want of memory the reader is as before.
     pub fn next_of(&mut self, schema: &Schema, ahead: &mut Ahead<'_>) -> Result<Sought, AllocError>
-        ensures found { IfOk result (λ found. Seeks schema.now self.old (record { inside = ahead.old.inside; edges = ahead.old.edges.now })
-            found self.new (record { inside = ahead.new.inside; edges = ahead.new.edges.now })) }
+        ensures found { IfOk result (λ found. Seeks schema.now self.old (record { inside = ahead.old.inside; edges = ahead.old.edges })
+            found self.new (record { inside = ahead.new.inside; edges = ahead.new.edges })) }
         ensures err { OnErr result (self.new ≡ self.old) }
     {
         if self.over {
@@ -152,7 +152,7 @@ impl SegmentReader {
             return Ok(Sought::More);
         }
         let next = ahead.at(rid_of(held));
-        if next.inside {
+        if next.is_inside() {
             let alloc = *self.buffer.allocator();
             let (found, taken) = record_at(alloc, schema, self.last, held)?;
             match found {

@@ -1,13 +1,17 @@
 //! A row where its bytes lie.
 
-ghost use Rattle.std.specs.Prelude.{◌≡◌, ◌↔◌, ◌≤◌, List, length, IsTrue};
+ghost use Rattle.std.specs.Prelude.{◌≡◌, ◌≢◌, ◌↔◌, ◌≤◌, List, length, IsTrue, IfSome, IsSomeAnd};
+ghost use Rattle.std.specs.Ordering.{int_cmp};
+ghost use Rattle.std.specs.declared.cmp.Ordering.TheVariants as order;
 ghost use Rattle.ov_value.specs.declared.column.Column.{Column as ColumnValue};
 ghost use Rattle.ov_value.specs.Cells.{value_of};
 ghost use Rattle.ov_value.specs.Rows.{HasKinds, key_cmp, value_at};
 ghost use Rattle.ov_value.specs.Spelling.{row_spelling};
-ghost use Rattle.ov_value.specs.Decoding.{row_of, AreRow};
+ghost use Rattle.ov_value.specs.Decoding.{front_value, row_of, AreRow};
+ghost use Rattle.ov_value.specs.declared.column.Kind.TheVariants as kind;
+ghost use Rattle.ov_value.specs.declared.value.Value.TheVariants.{Int};
 
-use ov_value::{CellRef, Cells, Column, Schema};
+use ov_value::{CellRef, Cells, Column, Kind, Schema};
 use std::cmp::Ordering;
 use std::marker::Model;
 
@@ -86,9 +90,64 @@ impl<'a> RowRef<'a> {
     pub fn cmp_key(&self, schema: &Schema, other: &RowRef<'_>) -> Ordering
         ensures { result ≡ key_cmp schema.now self.now other.now }
     {
+        // Most keys begin with an int in the first column, and differ there.
+        let order = cmp_fronts(schema, self, other);
+        if order != Ordering::Equal {
+            return order;
+        }
         let a = self.cells();
         let b = other.cells();
         cmp_cells(schema, &a, &b)
+    }
+
+    // The value in the first column, where it is an int and no marks stand before it.
+    fn front_int(&self) -> Option<i64>
+        ensures { IfSome result (λ n. value_at self.now 0 ≡ Int n) }
+    {
+        int_in_front(self.columns, self.marked, self.bytes)
+    }
+}
+
+fn int_in_front(columns: &[Column], marked: bool, bytes: &[u8]) -> Option<i64>
+    ensures { IfSome result (λ n. value_at (row_of columns.now marked bytes.now) 0 ≡ Int n) }
+{
+    if marked || bytes.len() < 8 {
+        return None;
+    }
+    let (column, _) = columns.split_first()?;
+    match column.kind {
+        Kind::Int => Some(first_int(bytes)),
+        _ => None,
+    }
+}
+
+fn first_int(bytes: &[u8]) -> i64
+    requires { 8 ≤ length bytes.now }
+    ensures { Int result ≡ front_value kind.Int bytes.now }
+{
+    u64::from_be_bytes([
+        bytes[0], bytes[1], bytes[2], bytes[3], bytes[4], bytes[5], bytes[6], bytes[7],
+    ])
+    .cast_signed()
+}
+
+// The order of two keys by the ints that they begin with; equal where these are, or where one doesn't begin so.
+fn cmp_fronts(schema: &Schema, a: &RowRef<'_>, b: &RowRef<'_>) -> Ordering
+    ensures { result ≢ order.Equal → key_cmp schema.now a.now b.now ≡ result }
+{
+    match schema.key() {
+        [0, ..] => cmp_ints(a.front_int(), b.front_int()),
+        _ => Ordering::Equal,
+    }
+}
+
+// The order of two ints; equal where one is missing.
+fn cmp_ints(a: Option<i64>, b: Option<i64>) -> Ordering
+    ensures { result ≢ order.Equal → IsSomeAnd a (λ x. IsSomeAnd b (λ y. result ≡ int_cmp x y)) }
+{
+    match (a, b) {
+        (Some(x), Some(y)) => x.cmp(&y),
+        _ => Ordering::Equal,
     }
 }
 

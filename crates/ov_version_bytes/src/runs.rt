@@ -102,7 +102,7 @@ fn unheld(alloc: Global, records: &[Listed], held: &Members) -> Result<Vec<Liste
     let mut ahead = held.ahead();
     for one in records {
         ahead = ahead.at(one.rid);
-        if !ahead.inside {
+        if !ahead.is_inside() {
             left.push(*one)?;
         }
     }

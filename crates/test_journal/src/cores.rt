@@ -49,7 +49,7 @@ fn has_no_place(extent: &Extent, bytes: &[u8]) -> bool
 fn is_unplaced(event: &Event, list: &[u8], segment: &[u8]) -> bool
     requires list { 0 < length list.now }
     requires segment { 0 < length segment.now }
-    ensures runs { result ≡ true → BringsRuns event.now }
+    ensures runs { result ≡ true → BringsRuns event.now list.now }
     ensures extents { result ≡ true → with_extents (extent_at 0 list.now) (extent_at 0 segment.now) event.now ≡ event.now }
 {
     match event {

@@ -21,8 +21,8 @@ loop-place-preserved c =
     let r : Record = get_or records k no_record in
     let here : r ≡ get_or records k r = same_default records k no_record r low in
     let are = c.loop-place.invariant in
-    let ahead : Walk = record { inside = c.loop-place.ahead.inside; edges = c.loop-place.ahead.edges.now } in
-    let after : Walk = record { inside = c.at-ahead.result.inside; edges = c.at-ahead.result.edges.now } in
+    let ahead : Walk = record { inside = c.loop-place.ahead.inside; edges = c.loop-place.ahead.edges } in
+    let after : Walk = record { inside = c.at-ahead.result.inside; edges = c.at-ahead.result.edges } in
     let same : k ≤ k = omega arith in
     let inside : c.at-ahead.result.inside ≡ has rids r.rid =
     c.at-ahead.ensures.inside ∙ ap (λ n. status ahead.inside ahead.edges n) (c.rid.ensures no_record) ∙ are.2 k same low in

@@ -7,4 +7,4 @@ use Rattle.ov_read.proofs.ordering.places_of.Given as goal
 abbrev pub invariant-loop-place : goal.invariant-loop-place
 invariant-loop-place l =
     (l.places.items ≡ places_of_rids (take l.place l.records.records) l.rids) × AllStand l.records.records l.places.items
-    × SaysFrom (record { inside = l.ahead.inside; edges = l.ahead.edges.now }) l.rids l.records.records l.place
+    × SaysFrom (record { inside = l.ahead.inside; edges = l.ahead.edges }) l.rids l.records.records l.place

@@ -9,5 +9,5 @@ use Rattle.ov_version_bytes.proofs.runs.unheld.Given as goal
 abbrev pub invariant-loop-one : goal.invariant-loop-one
 invariant-loop-one l = record {
   so_far : l.left.items ≡ left_of l.held (take l.one-index l.records);
-  says : (k n : ℕ) → l.one-index ≤ k → k < length l.records → (get_or l.records k none).rid ≤ n → status l.ahead.inside l.ahead.edges.now n ≡ has l.held n;
+  says : (k n : ℕ) → l.one-index ≤ k → k < length l.records → (get_or l.records k none).rid ≤ n → status l.ahead.inside l.ahead.edges n ≡ has l.held n;
 }

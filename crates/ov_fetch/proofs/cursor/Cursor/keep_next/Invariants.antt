@@ -4,8 +4,8 @@ use Rattle.ov_fetch.proofs.cursor.Cursor.keep_next.Given as goal
 
 abbrev pub invariant-loop-next : goal.invariant-loop-next
 invariant-loop-next g l = record {
-  passing : IsPassing l.schema (g.H.Host.state l.fn.host) (g.H.Host.state l.host) l.fn.self (record { inside = l.fn.ahead.inside; edges = l.fn.ahead.edges.now }) l.fn.kept
-      l.next l.self (record { inside = l.ahead.inside; edges = l.ahead.edges.now }) l.kept;
+  passing : IsPassing l.schema (g.H.Host.state l.fn.host) (g.H.Host.state l.host) l.fn.self (record { inside = l.fn.ahead.inside; edges = l.fn.ahead.edges }) l.fn.kept
+      l.next l.self (record { inside = l.ahead.inside; edges = l.ahead.edges }) l.kept;
   room : length l.piece ≡ 61440;
 }
 

@@ -13,10 +13,10 @@ loop-rids-init g c = record {
 
 pub loop-rids-preserved : goal.loop-rids-preserved
 loop-rids-preserved g c =
-    let passed : PassesRecord c.args.schema.now (g.H.Host.state c.loop-rids.host) c.loop-rids.self (record { inside = c.loop-rids.ahead.inside; edges = c.loop-rids.ahead.edges.now }) c.loop-rids.kept c.in-Some.rid
-    c.keep_next.new.self (record { inside = c.keep_next.new.ahead.inside; edges = c.keep_next.new.ahead.edges.now }) c.keep_next.new.kept =
-    subst (λ (f : Option ℕ). Passes c.args.schema.now (g.H.Host.state c.loop-rids.host) c.loop-rids.self (record { inside = c.loop-rids.ahead.inside; edges = c.loop-rids.ahead.edges.now }) c.loop-rids.kept f
-    c.keep_next.new.self (record { inside = c.keep_next.new.ahead.inside; edges = c.keep_next.new.ahead.edges.now }) c.keep_next.new.kept) c.in-Some.is c.in_ok-rid.ensures.passed in
+    let passed : PassesRecord c.args.schema.now (g.H.Host.state c.loop-rids.host) c.loop-rids.self (record { inside = c.loop-rids.ahead.inside; edges = c.loop-rids.ahead.edges }) c.loop-rids.kept c.in-Some.rid
+    c.keep_next.new.self (record { inside = c.keep_next.new.ahead.inside; edges = c.keep_next.new.ahead.edges }) c.keep_next.new.kept =
+    subst (λ (f : Option ℕ). Passes c.args.schema.now (g.H.Host.state c.loop-rids.host) c.loop-rids.self (record { inside = c.loop-rids.ahead.inside; edges = c.loop-rids.ahead.edges }) c.loop-rids.kept f
+    c.keep_next.new.self (record { inside = c.keep_next.new.ahead.inside; edges = c.keep_next.new.ahead.edges }) c.keep_next.new.kept) c.in-Some.is c.in_ok-rid.ensures.passed in
     record {
       keeps = keeps_next c.args.schema.now (g.H.Host.state c.args.host.now) (g.H.Host.state c.loop-rids.host) (g.H.Host.state c.keep_next.new.host) c.args.self.now.extent c.loop-rids.self c.keep_next.new.self c.args.wanted.now
           _ c.args.kept.now c.loop-rids.kept c.loop-rids.rids.items c.in-Some.rid _ c.keep_next.new.kept c.push.new.self.items c.loop-rids.invariant.keeps c.in_ok-rid.ensures.looked c.in_ok-rid.ensures.fetched c.in_ok-rid.ensures.place passed c.in_ok-push.ensures.items;

@@ -5,7 +5,7 @@ use Rattle.ov_fetch.proofs.cursor.Cursor.keep_wanted.Given as goal
 
 abbrev pub invariant-loop-rids : goal.invariant-loop-rids
 invariant-loop-rids g l = record {
-  keeps : KeepsWanted l.schema (g.H.Host.state l.fn.host) (g.H.Host.state l.host) l.fn.self.extent l.self l.wanted (record { inside = l.ahead.inside; edges = l.ahead.edges.now }) l.fn.kept l.kept l.rids.items;
+  keeps : KeepsWanted l.schema (g.H.Host.state l.fn.host) (g.H.Host.state l.host) l.fn.self.extent l.self l.wanted (record { inside = l.ahead.inside; edges = l.ahead.edges }) l.fn.kept l.kept l.rids.items;
   room : length l.piece ≡ 61440;
 }
 

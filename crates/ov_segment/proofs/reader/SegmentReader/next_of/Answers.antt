@@ -19,7 +19,7 @@ returns-in-Record-clause-found c =
       answers = step_answers c.args.schema.now c.args.self.now c.self.inside.buffer.items _ start c.in_ok-found.taken c.self.inside.last c.self.inside.over c.in-Record.one c.self.view_is c.if-self.false slice reads.0;
       tells = record {
         answer_is = refl;
-        wanted = rw (← rid, ← c.at-next.ensures.inside) c.if-next.true;
+        wanted = rw (← rid, ← c.at-next.ensures.inside, ← c.is_inside.ensures) c.if-is_inside.true;
         on = λ n le. c.at-next.ensures.ahead n (omega (arith, rid, le));
       };
     }
@@ -38,7 +38,7 @@ returns-in-Record-front_at-clause-found c =
         other = one;
         answer_is = refl;
         rid_is = refl;
-        unwanted = rw (← rid, ← c.at-next.ensures.inside) c.if-next.false;
+        unwanted = rw (← rid, ← c.at-next.ensures.inside, ← c.is_inside.ensures) c.if-is_inside.false;
         on = λ n le. c.at-next.ensures.ahead n (omega (arith, rid, le));
       };
     }

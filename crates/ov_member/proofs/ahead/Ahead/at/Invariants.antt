@@ -1,9 +1,0 @@
-use Rattle.std.proofs.Common.{◌≡◌, ◌≤◌, ℕ, length}
-use Rattle.ov_member.specs.Edges.{status}
-use Rattle.ov_member.proofs.ahead.Ahead.at.Given as goal
-
-abbrev pub invariant-loop-edge : goal.invariant-loop-edge
-invariant-loop-edge l = (n : ℕ) → l.rid ≤ n → status l.inside l.edges n ≡ status l.fn.self.inside l.fn.self.edges.now n
-
-abbrev pub decreases-loop-edge : goal.decreases-loop-edge
-decreases-loop-edge l = length l.edges
