@@ -1,5 +1,5 @@
 //! Ends in memory, and runs over them, as the tests of runs and of files make them.
-use crate::scripts::FILES;
+use crate::scripts::{FILES, File};
 use ov_memhost::{MemHost, MemSource, MemStage};
 use ov_top::{Status, run};
 use ov_value::Txt;
@@ -15,10 +15,15 @@ pub fn only(alloc: Global, number: u64) -> Result<Vec<u64>, AllocError> {
 
 /// The files of the scripts.
 pub fn files(alloc: Global) -> Result<Vec<(String, Vec<u8>)>, AllocError> {
+    files_of(alloc, &FILES)
+}
+
+/// These files.
+pub fn files_of(alloc: Global, list: &[File]) -> Result<Vec<(String, Vec<u8>)>, AllocError> {
     let mut all = Vec::new(alloc);
-    for (name, bytes) in FILES {
-        let name = String::from_str(alloc, name)?;
-        all.push((name, Vec::from_slice(alloc, bytes)?))?;
+    for (name, bytes) in list {
+        let name = String::from_str(alloc, *name)?;
+        all.push((name, Vec::from_slice(alloc, *bytes)?))?;
     }
     Ok(all)
 }

@@ -20,6 +20,8 @@ mod lines;
 #[cfg(test)]
 mod listings;
 #[cfg(test)]
+mod migrations;
+#[cfg(test)]
 mod runs;
 #[cfg(test)]
 mod scripts;

@@ -13,12 +13,12 @@ use std::test::Fail;
 
 /// The bytes of a script, and those that it prints.
 #[derive(Drop)]
-struct Text {
-    script: Vec<u8>,
-    printed: Vec<u8>,
+pub struct Text {
+    pub script: Vec<u8>,
+    pub printed: Vec<u8>,
 }
 
-fn joined(alloc: Global, lines: &[Line]) -> Result<Text, AllocError> {
+pub fn joined(alloc: Global, lines: &[Line]) -> Result<Text, AllocError> {
     let mut script = Vec::new(alloc);
     let mut printed = Vec::new(alloc);
     for (line, reply) in lines {
