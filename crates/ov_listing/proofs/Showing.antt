@@ -11,7 +11,7 @@ use Rattle.ov_model.specs.World.{Dataset, World, first_set, named, set_named}
 use Rattle.ov_model.proofs.Growing.{recs_more, length_recs}
 use Rattle.ov_catalog.specs.Applying.{is_named}
 use Rattle.ov_catalog.specs.Numbers.{VersionNumbers, SetNumbers, Numbers, each_version, each_set}
-use Rattle.ov_catalog.specs.Shown.{Rids, Records, list_of, shown_version, shown_versions, shown_set}
+use Rattle.ov_catalog.specs.Shown.{Rids, Records, shown_versions, shown_set}
 use Rattle.ov_catalog.specs.Stands.{Readings, asked, seen}
 use Rattle.ov_listing.specs.Listed.{version_line, version_lines, shown_log, set_line, shown_cvds}
 

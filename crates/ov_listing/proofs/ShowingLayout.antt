@@ -1,5 +1,5 @@
 -- The layout that the numbers of a World show is the World's.
-use Rattle.std.proofs.Common.{◌≡◌, ℕ, ◌+◌, ◌*◌, ◌-◌, List, [], ◌∷◌, length, map, refl, sym, ◌∙◌, ap, subst, arith}
+use Rattle.std.proofs.Common.{◌≡◌, ℕ, ◌+◌, ◌*◌, List, [], ◌∷◌, length, map, refl, sym, ◌∙◌, ap}
 use Rattle.std.specs.Prelude.{Option, Some, None, find}
 use Rattle.std.specs.List.{sum, sum_by}
 use Rattle.std.specs.Option.{option_map}
@@ -9,29 +9,24 @@ use Rattle.ov_host.specs.declared.area.Extent.{Extent}
 use Rattle.ov_layout.specs.declared.part.Part as kept
 use Rattle.ov_layout.specs.Parts.{cost_of}
 use Rattle.ov_model.specs.Act.{Session, layout_deed, part_shown, plan_shown, tells}
-use Rattle.ov_model.specs.Lists.{IsIn, joined}
-use Rattle.ov_model.specs.Plans as plans
+use Rattle.ov_model.specs.Lists.{IsIn}
 use Rattle.ov_model.specs.Records.{Rec, order_of}
 use Rattle.ov_model.specs.World.{Part, Dataset, World, copied_records, held, set_named}
 use Rattle.ov_model.specs.World as worlds
-use Rattle.ov_model.specs.declared.reply.PartLine.{PartLine}
-use Rattle.ov_model.specs.declared.reply.PlanLine.{PlanLine}
-use Rattle.ov_model.specs.declared.reply.Reply.{Reply}
 use Rattle.ov_model.specs.declared.reply.Reply.TheVariants as says
 use Rattle.ov_catalog.specs.Applying.{is_named}
-use Rattle.ov_catalog.specs.Events.{current}
 use Rattle.ov_catalog.specs.Numbers.{PartNumbers, PlanNumbers, SetNumbers, Numbers, each_part, each_plan, each_set}
 use Rattle.ov_catalog.specs.Reached.{Reached}
 use Rattle.ov_catalog.specs.Sets.{part_in}
-use Rattle.ov_catalog.specs.Shown.{Rids, Records, shown_part, shown_plan, shown_set, shown_target, segment_of}
+use Rattle.ov_catalog.specs.Shown.{Records, shown_part, shown_plan, shown_set, shown_target}
 use Rattle.ov_catalog.specs.Stands.{Readings, asked, seen}
 use Rattle.ov_catalog.specs.Steps.{plan_steps}
-use Rattle.ov_catalog.specs.Testing.{copied_in, stored}
+use Rattle.ov_catalog.specs.Testing.{copied_in}
 use Rattle.ov_catalog.proofs.Migrating.{plan_numbers}
 use Rattle.law_partitions.proofs.CourseNumbers.{named_in}
 use Rattle.law_events.proofs.Left.{plan_left, plan_wanted}
-use Rattle.ov_listing.specs.Listed.{part_line, plan_line, cost, shown_layout}
-use Rattle.ov_listing.proofs.Showing.{found_same, set_asked, set_seen, sets_same}
+use Rattle.ov_listing.specs.Listed.{part_line, plan_line, shown_layout}
+use Rattle.ov_listing.proofs.Showing.{found_same, sets_same}
 
 -- ---- the partitions that the code keeps
 

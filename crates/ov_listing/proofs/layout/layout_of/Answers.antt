@@ -1,6 +1,4 @@
-use Rattle.std.proofs.Common.{◌≡◌, ◌∙◌, List, map, sym, ap}
-use Rattle.ov_layout.specs.declared.part.Part.{Part}
-use Rattle.ov_model.specs.declared.reply.PartLine.{PartLine}
+use Rattle.std.proofs.Common.{◌∙◌, map, sym, ap}
 use Rattle.ov_model.specs.declared.reply.Reply.TheVariants as says
 use Rattle.ov_catalog.specs.Sets.{part_in}
 use Rattle.ov_listing.specs.Listed.{part_line}
