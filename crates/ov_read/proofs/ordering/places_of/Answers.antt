@@ -8,7 +8,7 @@ use Rattle.ov_segment.specs.Keeping.{Walk}
 use Rattle.ov_fetch.proofs.Gathered.{same_default}
 use Rattle.ov_read.proofs.PickFacts.{line_more}
 use Rattle.ov_read.proofs.Walking.{SaysFrom, no_record, says_on}
-use Rattle.ov_read.proofs.ordering.places_of.Goals.{then-ahead+in_ok-push, else-ahead}
+use Rattle.ov_read.proofs.ordering.places_of.Goals.{then-is_inside+in_ok-push, else-is_inside}
 use Rattle.ov_read.proofs.ordering.places_of.Goals as goal
 
 pub loop-place-preserved : goal.loop-place-preserved
@@ -27,9 +27,9 @@ loop-place-preserved c =
     let inside : c.at-ahead.result.inside ≡ has rids r.rid =
     c.at-ahead.ensures.inside ∙ ap (λ n. status ahead.inside ahead.edges n) (c.rid.ensures no_record) ∙ are.2 k same low in
     let says : SaysFrom after rids records (k + 1) = says_on ahead after rids records k c.rid.result c.requires low (c.rid.ensures no_record) are.2 c.at-ahead.ensures.ahead in
-    elim c.if-ahead.branch [
-      | then-ahead+in_ok-push w ↦
+    elim c.if-is_inside.branch [
+      | then-is_inside+in_ok-push w ↦
           rw (w.places-is, w.in_ok-push.ensures.items)
-          (line_more records rids k r true places low here (sym inside ∙ w.if-ahead.true) are.0, All-push (λ p. p < length records) places k are.1 low, says)
-      | else-ahead w ↦ rw w.places-is (sym (append-nil places) ∙ line_more records rids k r false places low here (sym inside ∙ w.if-ahead.false) are.0, are.1, says)
+          (line_more records rids k r true places low here (sym inside ∙ sym c.is_inside.ensures ∙ w.if-is_inside.true) are.0, All-push (λ p. p < length records) places k are.1 low, says)
+      | else-is_inside w ↦ rw w.places-is (sym (append-nil places) ∙ line_more records rids k r false places low here (sym inside ∙ sym c.is_inside.ensures ∙ w.if-is_inside.false) are.0, are.1, says)
     ]
