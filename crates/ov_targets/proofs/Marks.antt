@@ -44,7 +44,7 @@ pub no_lasts : (place : ℕ → ℕ) → ((vid : ℕ) → place vid ≡ 0) → A
 no_lasts place none = record { last = λ at vid lt one. absurd (omega (arith, lt)); there = λ at vid is. absurd (omega (arith, is, none vid)) }
 
 pub lasts_more : (parts : List (List ℕ)) (part : List ℕ) (old new : ℕ → ℕ) (n : ℕ) → length parts ≡ n → AreLasts parts old
-    → ((vid : ℕ) → new vid ≡ (if is_one part vid then suc n else old vid)) → AreLasts (parts ++ part ∷ []) new
+    → ((vid : ℕ) → new vid ≡ (if is_one part vid then n + 1 else old vid)) → AreLasts (parts ++ part ∷ []) new
 lasts_more parts part old new n long are marked = record { last = last; there = there }
   where
     all : List (List ℕ)
@@ -62,7 +62,7 @@ lasts_more parts part old new n long are marked = record { last = last; there = 
         nothing : (m : ℕ) → m - m ≡ 0
         nothing m = omega arith
 
-    low : (at vid : ℕ) (b : Bool) → new vid ≡ (if b then suc n else old vid) → at < n → at < old vid → at < new vid
+    low : (at vid : ℕ) (b : Bool) → new vid ≡ (if b then n + 1 else old vid) → at < n → at < old vid → at < new vid
     low at vid true e lt lower = omega (arith, e, lt)
     low at vid false e lt lower = omega (arith, e, lower)
 
@@ -73,16 +73,16 @@ lasts_more parts part old new n long are marked = record { last = last; there = 
       | inr le ↦
           let same : at ≡ n = omega (arith, lt, le, count) in
           let mine : is_one part vid ≡ true = ap (λ p. is_one p vid) (sym own) ∙ subst (λ m. is_one (get_or all m []) vid ≡ true) same one in
-          omega (arith, same, marked vid ∙ ap (λ (b : Bool). if b then suc n else old vid) mine)
+          omega (arith, same, marked vid ∙ ap (λ (b : Bool). if b then n + 1 else old vid) mine)
     ]
 
     there : (at vid : ℕ) → new vid ≡ suc at → (at < length all) × (is_one (get_or all at []) vid ≡ true)
     there at vid is = elim (cases_Bool (is_one part vid)) [
       | inl mine ↦
-          let same : n ≡ at = omega (arith, is, marked vid ∙ ap (λ (b : Bool). if b then suc n else old vid) mine) in
+          let same : n ≡ at = omega (arith, is, marked vid ∙ ap (λ (b : Bool). if b then n + 1 else old vid) mine) in
           (omega (arith, same, count), subst (λ m. is_one (get_or all m []) vid ≡ true) same (ap (λ p. is_one p vid) own ∙ mine))
       | inr other ↦
-          let old_is : old vid ≡ suc at = sym (marked vid ∙ ap (λ (b : Bool). if b then suc n else old vid) other) ∙ is in
+          let old_is : old vid ≡ suc at = sym (marked vid ∙ ap (λ (b : Bool). if b then n + 1 else old vid) other) ∙ is in
           let was = are.there at vid old_is in
           let less : at < n = omega (arith, was.0, long) in
           (omega (arith, less, count), ap (λ p. is_one p vid) (before at less) ∙ was.1)

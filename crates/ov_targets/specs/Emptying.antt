@@ -3,6 +3,8 @@ use Rattle.std.specs.Prelude.{◌≡◌, ◌<◌, ℕ, suc, nat_lt, ◌==◌, if
 use Rattle.std.specs.declared.alloc.Global.{Global}
 use Rattle.ov_event.specs.declared.event.PlanTarget.{PlanTarget}
 use Rattle.ov_match.specs.declared.choosing.Candidate.{Candidate}
+use Rattle.ov_match.specs.Matching.{NumbersAscend}
+use Rattle.ov_model.specs.Lists.{IsIn}
 use Rattle.ov_model.specs.World.{is_one}
 use Rattle.ov_targets.specs.declared.candidates.Partition.{Partition}
 use Rattle.ov_targets.specs.Targets.{IsWanted, IsSaid, candidate_in}
@@ -35,8 +37,8 @@ emptied_at place at partitions = map candidate_in (filter (λ partition. greates
 abbrev pub candidates_in : Vec Candidate Global → List Candidate
 candidates_in emptied = emptied.items
 
--- what is said of the target of these versions, which empties these partitions
+-- What is said of the target of these versions, which empties these partitions, among all that have them.
 pub record IsBegun (lists : List (List ℕ)) (versions : List ℕ) (emptied : List Candidate) (t : PlanTarget) : Type 0 where
   pub wanted : List ℕ
   pub together : IsWanted lists versions wanted
-  pub said : IsSaid wanted emptied emptied t
+  pub said : (all : List Candidate) → NumbersAscend 0 all → ((one : Candidate) → IsIn emptied one → IsIn all one) → IsSaid wanted emptied all t
