@@ -1,5 +1,5 @@
 -- A partition whose versions' greatest place is that of a target is one that it empties.
-use Rattle.std.proofs.Common.{◌≡◌, ◌≤◌, ◌<◌, ◌⊎◌, ℕ, zero, suc, ◌+◌, ◌-◌, Bool, true, false, ◌&&◌, ◌||◌, ◌==◌, List, [], ◌∷◌, ◌++◌, length, get_or, take, drop, set, map, append_assoc, refl, sym, ◌∙◌, ap, subst, inl, inr, arith}
+use Rattle.std.proofs.Common.{◌≡◌, ◌≤◌, ◌<◌, ℕ, zero, suc, ◌+◌, Bool, true, false, ◌&&◌, ◌||◌, ◌==◌, List, [], ◌∷◌, ◌++◌, length, get_or, drop, set, map, append_assoc, refl, sym, ◌∙◌, ap, subst, inl, inr, arith}
 use Rattle.std.specs.Prelude.{not, filter, if◌then◌else◌, Vec}
 use Rattle.std.specs.declared.alloc.Global.{Global}
 use Rattle.std.specs.List.{All, list_any}
@@ -13,7 +13,7 @@ use Rattle.ov_model.specs.World.{is_one}
 use Rattle.ov_match.specs.declared.choosing.Candidate.{Candidate}
 use Rattle.ov_targets.specs.declared.candidates.Partition.{Partition}
 use Rattle.ov_targets.specs.Emptying.{AreLasts, candidates_in, greatest, emptied_at}
-use Rattle.ov_targets.specs.Targets.{AreBelow, AreVids, candidate_in, empties, emptied_by}
+use Rattle.ov_targets.specs.Targets.{AreBelow, AreVids, candidate_in, emptied_by}
 use Rattle.ov_targets.proofs.Marks.{greatest_most, greatest_there}
 
 or_right : (a b : Bool) → b ≡ true → (a || b) ≡ true

@@ -1,11 +1,11 @@
 -- Marks of versions, and the greatest of them.
-use Rattle.std.proofs.Common.{◌≡◌, ◌≢◌, ◌≤◌, ◌<◌, ◌⊎◌, ℕ, zero, suc, ◌+◌, ◌-◌, Bool, true, false, ◌||◌, ◌==◌, eqb, List, [], ◌∷◌, ◌++◌, length, get_or, take, drop, set, refl, sym, ◌∙◌, ap, subst, inl, inr, arith}
-use Rattle.std.specs.Prelude.{nat_lt, if◌then◌else◌}
+use Rattle.std.proofs.Common.{◌≡◌, ◌≤◌, ◌<◌, ◌⊎◌, ℕ, zero, suc, ◌+◌, ◌-◌, Bool, true, false, ◌||◌, ◌==◌, eqb, List, [], ◌∷◌, ◌++◌, length, get_or, take, drop, set, refl, sym, ◌∙◌, ap, subst, inl, inr, arith}
+use Rattle.std.specs.Prelude.{if◌then◌else◌}
 use Rattle.std.proofs.lemmas.Bool.{cases_Bool, cases_lt, eqb-true, eq-eqb, lt-ltb, le-ltb}
 use Rattle.std.proofs.lemmas.List.{get_or_append_left, get_or-append_right, get_or-set_same, get_or-set_other, length-append, drop_more}
-use Rattle.ov_layout.proofs.VidLemmas.{has-get, has-more}
+use Rattle.ov_layout.proofs.VidLemmas.{has-more}
 use Rattle.ov_model.specs.World.{is_one}
-use Rattle.ov_targets.specs.Emptying.{place_in, AreMarked, AreLasts, greater, greatest}
+use Rattle.ov_targets.specs.Emptying.{AreMarked, AreLasts, greater, greatest}
 use Rattle.ov_targets.specs.Targets.{AreBelow}
 
 pub below_at : (limit : ℕ) (ns : List ℕ) (k d : ℕ) → AreBelow limit ns → k < length ns → get_or ns k d < limit

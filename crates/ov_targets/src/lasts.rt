@@ -19,7 +19,11 @@ fn mark(lasts: &mut Vec<usize>, versions: &[u32], place: usize)
 
 /// Of each version below a limit the place of the last part that has it, counted from 1; 0 where none has it. It walks the parts
 /// once.
-pub(crate) fn lasts_of(alloc: Global, limit: usize, parts: &[Vec<u32>]) -> Result<Vec<usize>, AllocError>
+pub(crate) fn lasts_of(
+    alloc: Global,
+    limit: usize,
+    parts: &[Vec<u32>],
+) -> Result<Vec<usize>, AllocError>
     requires { All (λ part. AreBelow limit part.items) parts.now }
     ensures long { IfOk result (λ lasts. length lasts.items ≡ limit) }
     ensures lasts { IfOk result (λ lasts. AreLasts (map versions_in parts.now) (place_in lasts.items)) }

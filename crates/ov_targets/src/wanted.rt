@@ -8,7 +8,11 @@ use std::alloc::{AllocError, Global};
 
 /// The rids of these versions together. It unites halves, so that its time is that of the ranges of all lists times the logarithm
 /// of their number.
-pub(crate) fn wanted_of(alloc: Global, lists: &[Members], vids: &[u32]) -> Result<Members, AllocError>
+pub(crate) fn wanted_of(
+    alloc: Global,
+    lists: &[Members],
+    vids: &[u32],
+) -> Result<Members, AllocError>
     requires { AreVids (length lists.now) vids.now }
     ensures { IfOk result (IsWanted lists.now vids.now) }
 {

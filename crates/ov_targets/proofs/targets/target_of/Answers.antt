@@ -1,7 +1,6 @@
 use Rattle.std.proofs.Common.{refl, sym, ap, ◌∙◌, subst}
 use Rattle.std.specs.Option.{IfSome}
 use Rattle.ov_match.specs.Matching.{IsChoice, number_of}
-use Rattle.ov_model.specs.Plans.{source_of}
 use Rattle.ov_targets.proofs.Said.{none_said, some_said}
 use Rattle.ov_targets.proofs.targets.target_of.Goals as goal
 

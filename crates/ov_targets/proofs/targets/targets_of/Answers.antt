@@ -1,10 +1,9 @@
-use Rattle.std.proofs.Common.{◌≡◌, ◌<◌, ◌≤◌, ◌+◌, ◌++◌, ◌∷◌, [], suc, ℕ, List, length, map, get_or, drop, refl, sym, subst, ap, ◌∙◌, arith}
+use Rattle.std.proofs.Common.{◌≡◌, ◌<◌, ◌+◌, ◌∷◌, [], suc, length, map, get_or, drop, refl, sym, subst, ap, ◌∙◌, arith}
 use Rattle.std.proofs.lemmas.List.{get_or-map, length-map, length-append}
 use Rattle.ov_match.specs.Matching.{AllSound, NumbersAscend}
-use Rattle.ov_match.specs.declared.choosing.Candidate.{Candidate}
-use Rattle.ov_targets.specs.Emptying.{AreLasts, candidates_in, emptied_at, greatest, place_in}
-use Rattle.ov_targets.specs.Targets.{AreBelow, IsTarget, candidate_in, emptied_by, versions_in}
-use Rattle.ov_targets.proofs.Buckets.{places_most, same_emptied, some_ascend, some_in, some_sound, vids_below}
+use Rattle.ov_targets.specs.Emptying.{AreLasts, candidates_in, place_in}
+use Rattle.ov_targets.specs.Targets.{IsTarget, versions_in}
+use Rattle.ov_targets.proofs.Buckets.{places_most, same_emptied, some_ascend, some_sound, vids_below}
 use Rattle.ov_targets.proofs.Said.{AreFirst, begun_is, first_all, first_more}
 use Rattle.ov_targets.proofs.targets.targets_of.Goals as goal
 
@@ -26,7 +25,7 @@ target_of-requires-clause-numbers c =
     let at = c.loop-at.at in
     let low : at < length c.in_ok-emptied.emptied.items = omega (arith, c.loop-at-test.true, c.in_ok-emptied.ensures.long) in
     let own = c.deref-in-loop-at-2.ensures.value ∙ ap candidates_in c.index.ensures
-        ∙ sym (get_or-map candidates_in c.in_ok-emptied.emptied.items at c.index.result.now [] low) ∙ c.in_ok-emptied.ensures.emptied at c.loop-at-test.true in
+    ∙ sym (get_or-map candidates_in c.in_ok-emptied.emptied.items at c.index.result.now [] low) ∙ c.in_ok-emptied.ensures.emptied at c.loop-at-test.true in
     subst (NumbersAscend 0) (sym own) (some_ascend _ 0 c.args.partitions.items c.requires.numbers)
 
 pub target_of-requires-clause-segments : goal.target_of-requires-clause-segments
@@ -34,7 +33,7 @@ target_of-requires-clause-segments c =
     let at = c.loop-at.at in
     let low : at < length c.in_ok-emptied.emptied.items = omega (arith, c.loop-at-test.true, c.in_ok-emptied.ensures.long) in
     let own = c.deref-in-loop-at-2.ensures.value ∙ ap candidates_in c.index.ensures
-        ∙ sym (get_or-map candidates_in c.in_ok-emptied.emptied.items at c.index.result.now [] low) ∙ c.in_ok-emptied.ensures.emptied at c.loop-at-test.true in
+    ∙ sym (get_or-map candidates_in c.in_ok-emptied.emptied.items at c.index.result.now [] low) ∙ c.in_ok-emptied.ensures.emptied at c.loop-at-test.true in
     subst AllSound (sym own) (some_sound _ c.args.partitions.items c.requires.segments)
 
 pub loop-at-preserved : goal.loop-at-preserved
@@ -51,12 +50,12 @@ loop-at-preserved c =
     let count : at < length vids = omega (arith, c.loop-at-test.true, length-map parts versions_in) in
     let low : at < length c.in_ok-emptied.emptied.items = omega (arith, c.loop-at-test.true, c.in_ok-emptied.ensures.long) in
     let own = c.deref-in-loop-at-2.ensures.value ∙ ap candidates_in c.index.ensures
-        ∙ sym (get_or-map candidates_in c.in_ok-emptied.emptied.items at c.index.result.now [] low) ∙ c.in_ok-emptied.ensures.emptied at c.loop-at-test.true
-        ∙ same_emptied vids place at partitions lasts count in
+    ∙ sym (get_or-map candidates_in c.in_ok-emptied.emptied.items at c.index.result.now [] low) ∙ c.in_ok-emptied.ensures.emptied at c.loop-at-test.true
+    ∙ same_emptied vids place at partitions lasts count in
     let mine : c.deref-in-loop-at.result.now ≡ get_or vids at [] =
-        c.deref-in-loop-at.ensures.value ∙ ap versions_in c.index-parts-at.is ∙ sym (get_or-map versions_in parts at c.index-parts-at.result [] c.loop-at-test.true) in
+    c.deref-in-loop-at.ensures.value ∙ ap versions_in c.index-parts-at.is ∙ sym (get_or-map versions_in parts at c.index-parts-at.result [] c.loop-at-test.true) in
     let is : IsTarget lists partitions (get_or vids at []) (drop (at + 1) vids) t =
-        begun_is lists partitions (get_or vids at []) (drop (at + 1) vids) _ _ t mine own c.requires.numbers c.in_ok-target_of.ensures in
+    begun_is lists partitions (get_or vids at []) (drop (at + 1) vids) _ _ t mine own c.requires.numbers c.in_ok-target_of.ensures in
     let next : at + 1 ≡ suc at = omega arith in
     let pushed = c.in_ok-push.ensures.items in
     record {
