@@ -1,3 +1,4 @@
 pub mod Marks
 pub mod Buckets
 pub mod Said
+pub mod Agreeing
