@@ -3,7 +3,7 @@ use Rattle.std.proofs.Common.{◌≡◌, ◌≤◌, ◌^◌, ℕ, zero, suc, ◌
 use Rattle.std.specs.Prelude.{not, nat_le, filter, if◌then◌else◌}
 use Rattle.std.specs.List.{list_all, list_any}
 use Rattle.std.proofs.lemmas.Bool.{cases_Bool, eqb-true, eq-eqb, ne_eqb}
-use Rattle.std.proofs.lemmas.List.{length-append, length-map}
+use Rattle.std.proofs.lemmas.List.{length-append, length-map, map-append}
 use Rattle.std.proofs.lemmas.List.Elements.{filter-append}
 use Rattle.ov_event.specs.declared.event.PlanTarget.{PlanTarget}
 use Rattle.ov_match.specs.Matching as matching
@@ -14,21 +14,22 @@ use Rattle.ov_member.proofs.RidLemmas.{has-append, same_from}
 use Rattle.ov_model.specs.Lists.{IsIn, joined}
 use Rattle.ov_model.specs.Plans as plans
 use Rattle.ov_model.specs.Plans.{records_in, pieces_of, pieces_at, cheaper, source_of}
+use Rattle.ov_model.specs.Placed.{times}
 use Rattle.ov_model.specs.Records.{Rec, is_same_rec, is_among, recs, of_version, order_of, rid_in}
 use Rattle.ov_model.specs.World.{Part, Dataset, held}
-use Rattle.ov_model.proofs.Counting.{one_if}
+use Rattle.ov_model.proofs.Counting.{one_if, times-append, not_listed}
 use Rattle.ov_model.proofs.Growing.{same_rec-refl}
 use Rattle.ov_model.proofs.Holds.{same_recs, at_known}
 use Rattle.ov_model.proofs.Ordering.{of_filter}
 use Rattle.ov_model.proofs.Origins.{all_known}
-use Rattle.law_partitions.specs.Pieces.{NoTwice, HasPieces, PartsArePieces, IsOfOne, AreOf}
+use Rattle.law_partitions.specs.Pieces.{rec_times, NoTwice, HasPieces, PartsArePieces, IsOfOne, AreOf}
 use Rattle.law_partitions.proofs.PieceTimes.{one_self, in_times, all_once}
 use Rattle.ov_catalog.specs.Shown.{put_by, sorted_by, list_of, said_of, shown_target}
 use Rattle.ov_catalog.proofs.Members.{left_in, right_in, of_append}
 use Rattle.ov_catalog.proofs.Ranking.{are_in_at, place_same}
 use Rattle.ov_catalog.proofs.Rising as rising
 use Rattle.ov_targets.specs.declared.candidates.Partition.{Partition}
-use Rattle.ov_targets.specs.Telling.{AreParts, AreOfSet, targets_said}
+use Rattle.ov_targets.specs.Telling.{AllApart, HasApart, AreParts, AreOfSet, targets_said}
 use Rattle.ov_targets.specs.Targets.{IsWanted, IsTarget, AreTargets, candidate_in, empties, emptied_by, list_at, segments_of}
 
 or_right : (a b : Bool) → b ≡ true → (a || b) ≡ true
@@ -486,6 +487,58 @@ module _ (d : Dataset) (known : HasPieces d) where
     all_are [] (t ∷ ts) is = absurd is
     all_are (versions ∷ later) [] is = absurd is
     all_are (versions ∷ later) (t ∷ ts) is = λ i. one_is versions later t is.0 i ∷ all_are later ts is.1 i
+
+  -- ---- segments share no rid
+
+  times_put : (x : ℕ) (xs : List ℕ) (n : ℕ) → times (put x xs) n ≡ one_if (x == n) + times xs n
+  times_put x [] n = refl
+  times_put x (y ∷ ys) n = by (nat_le x y) (times_put x ys n)
+    where
+      by : (b : Bool) → times (put x ys) n ≡ one_if (x == n) + times ys n
+          → times (if b then x ∷ y ∷ ys else y ∷ put x ys) n ≡ one_if (x == n) + (one_if (y == n) + times ys n)
+      by true rest = refl
+      by false rest = omega (arith, rest)
+
+  times_sorted : (xs : List ℕ) (n : ℕ) → times (sorted xs) n ≡ times xs n
+  times_sorted [] n = refl
+  times_sorted (x ∷ xs) n = times_put x (sorted xs) n ∙ ap (λ m. one_if (x == n) + m) (times_sorted xs n)
+
+  times_joined : (pieces : List (List Rec)) (n : ℕ) → times (joined (map rids pieces)) n ≡ times (map rid (joined pieces)) n
+  times_joined [] n = refl
+  times_joined (piece ∷ pieces) n =
+      omega (
+        arith,
+        times-append (rids piece) (joined (map rids pieces)) n,
+        times_sorted (map rid piece) n,
+        times_joined pieces n,
+        times-append (map rid piece) (map rid (joined pieces)) n,
+        ap (λ l. times l n) (map-append rid piece (joined pieces)),
+      )
+
+  times_named : (r : Rec) (rs : List Rec) → IsIn all r → Known rs → times (map rid rs) (rid r) ≡ rec_times rs r
+  times_named r [] is there = refl
+  times_named r (s ∷ rs) is there = rw (tell r s is (there s (inl refl)), times_named r rs is (λ x here. there x (inr here))) refl
+
+  times_once : (rs : List Rec) (n : ℕ) → Known rs → NoTwice rs → times (map rid rs) n ≤ 1
+  times_once rs n there once = elim (cases_Bool (has (map rid rs) n)) [
+    | inl here ↦
+        let one = has_some rs n here in
+        omega (arith, once one.0, ap (times (map rid rs)) one.1.1, times_named one.0 rs (there one.0 one.1.0) there)
+    | inr other ↦ omega (arith, not_listed (map rid rs) n other)
+  ]
+
+  pub parts_apart : (parts : List Part) (partitions : List Partition) → PartsArePieces done parts → AreParts all parts partitions → AllApart partitions
+  parts_apart [] [] are of = tt
+  parts_apart [] (p ∷ partitions) are of = absurd of
+  parts_apart (part ∷ parts) [] are of = absurd of
+  parts_apart (part ∷ parts) (p ∷ partitions) are of = (
+    λ n. subst (λ ss. times (joined ss) n ≤ 1) (sym of.0.segments)
+        (omega (arith, times_joined part.pieces n, times_once (held part) n (of_known part.holds (held part) are.0.only) are.0.once)),
+    parts_apart parts partitions are.1 of.1,
+  )
+
+pub segments_apart : (d : Dataset) → HasPieces d → HasApart d
+segments_apart d known lists partitions are = parts_apart d known d.parts partitions known.parts are.parts
 
 pub targets_are : (d : Dataset) (lists : List (List ℕ)) (partitions : List Partition) (parts : List (List ℕ)) (ts : List PlanTarget) → HasPieces d
     → AreOfSet d lists partitions → AreTargets lists partitions parts ts → ts ≡ targets_said d parts

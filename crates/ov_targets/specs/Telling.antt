@@ -4,6 +4,7 @@
 use Rattle.std.specs.Prelude.{◌≡◌, ℕ, List, [], ◌∷◌, map}
 use Rattle.ov_event.specs.declared.event.PlanTarget.{PlanTarget}
 use Rattle.ov_catalog.specs.Shown.{list_of, said_of, shown_target}
+use Rattle.ov_match.specs.Matching.{AreApart}
 use Rattle.ov_model.specs.Plans.{targets_of}
 use Rattle.ov_model.specs.Records.{Rec, recs, order_of}
 use Rattle.ov_model.specs.World.{Part, Dataset}
@@ -28,6 +29,14 @@ pub record AreOfSet (d : Dataset) (lists : List (List ℕ)) (partitions : List P
 
 abbrev pub targets_said : Dataset → List (List ℕ) → List PlanTarget
 targets_said d parts = map (λ t. said_of (shown_target d t)) (targets_of d parts)
+
+-- no rid is in two segments of one partition, nor twice in one
+abbrev pub AllApart : List Partition → Type 0
+AllApart [] = Unit {0}
+AllApart (partition ∷ partitions) = AreApart partition.segments.items × AllApart partitions
+
+abbrev pub HasApart : Dataset → Type 0
+HasApart d = (lists : List (List ℕ)) (partitions : List Partition) → AreOfSet d lists partitions → AllApart partitions
 
 -- what is said by rids is said by the plan's event
 abbrev pub Agree : Dataset → Type 0
