@@ -2,3 +2,4 @@ pub mod Marks
 pub mod Buckets
 pub mod Said
 pub mod Agreeing
+pub mod Sorting
