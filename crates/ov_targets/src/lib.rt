@@ -3,8 +3,10 @@
 
 mod candidates;
 mod lasts;
+mod laws;
 mod targets;
 mod wanted;
 
 pub use candidates::Partition;
+pub use laws::targets_agree;
 pub use targets::targets_of;
