@@ -26,8 +26,8 @@ use std::alloc::Global;
 /// the bytes as they read, in this order: `NotAStore`, `Format`, `Damaged` in the journal, `Damaged` in the pages. After these
 /// the bytes are as they were. Where the bytes stand for a World, the core is at it.
 ///
-/// In time linear in the journal and the live extents, but for the searches of each event by halves, the sorting of the
-/// extents, and each flip, which goes over the partitions of its dataset and the versions that are left in those it takes from.
+/// In time linear in the journal and the live extents, but for the searches of each event by halves and the sorting of the
+/// extents.
 pub fn open<H: Host>(alloc: Global, host: &mut H) -> Result<Core, OpenErr>
     ensures passes { Passes (H.state host.old) (H.state host.new) }
     ensures cause { IsErrOf result OpenErr.Host → Rose (H.state host.old).faults (H.state host.new).faults }

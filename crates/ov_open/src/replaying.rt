@@ -32,8 +32,7 @@ impl From<AllocError> for ReplayErr {
 /// The catalog that a journal's payloads say. `Damaged` exactly at the first payload that spells no event, or an event that
 /// doesn't follow those before it, unless memory is wanting.
 ///
-/// In time linear in the payloads, but for the searches of each event by halves, and each flip, which goes over the partitions of
-/// its dataset and the versions that are left in those it takes from.
+/// In time linear in the payloads, but for the searches of each event by halves.
 pub fn replay(alloc: Global, payloads: &[Payload]) -> Result<Catalog, ReplayErr>
     ensures { MatchResult result (λ catalog. IsReplay payloads.now catalog.numbers) (RefusesPayloads payloads.now) }
 {

@@ -30,9 +30,8 @@ use std::alloc::Global;
 /// partition. The page is that of one such damage: the first one of the list or the segment.
 ///
 /// Each list is read once, and so is each partition that serves one of the versions; for no versions no call of the host is
-/// made, and nothing but memory can be wanting. Time beside that: one step for each version of the dataset and each partition,
-/// and for each version asked for one look at each record that is read of its partition, and the sorting of its rows where
-/// these don't stand in the order of their keys yet.
+/// made, and nothing but memory can be wanting. Time beside that: one step for each version of the dataset and each partition, and for each version asked for one look at each record that is read of its
+/// partition and the sorting of its rows.
 pub fn scan_versions<H: Host>(
     alloc: Global,
     host: &mut H,
