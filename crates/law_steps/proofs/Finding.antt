@@ -1,28 +1,30 @@
 -- The first dataset with a plan in the catalog is the World's first in which a plan runs, and its numbers say what the plan is.
-use Rattle.std.proofs.Common.{◌≡◌, ℕ, Bool, true, false, List, [], ◌∷◌, length, map, cond, refl, sym, ◌∙◌, ap, subst}
+use Rattle.std.proofs.Common.{◌≡◌, ℕ, ◌+◌, ◌-◌, Bool, true, false, List, [], ◌∷◌, length, map, cond, refl, sym, ◌∙◌, ap, subst}
 use Rattle.std.specs.Prelude.{if◌then◌else◌, is_some, Option, Some, None}
 use Rattle.std.specs.List.{find}
 use Rattle.std.proofs.lemmas.List.{length-map}
 use Rattle.ov_host.specs.declared.area.Extent.{Extent}
 use Rattle.ov_model.specs.Lists.{joined}
 use Rattle.ov_model.specs.Moves as moves
-use Rattle.ov_model.specs.Plans.{current}
+use Rattle.ov_model.specs.Plans.{current, missing}
 use Rattle.ov_model.specs.Records.{order_of}
 use Rattle.ov_model.specs.Steps.{step_or, first_step, next_step}
 use Rattle.ov_model.specs.World.{Plan, Dataset, World, first_set}
 use Rattle.ov_catalog.specs.Events as numbers
-use Rattle.ov_catalog.specs.Numbers.{PlanNumbers, Numbers as Catalog, each_plan, each_set}
+use Rattle.ov_catalog.specs.Numbers.{PlanNumbers, TargetNumbers, Numbers as Catalog, each_plan, each_set}
+use Rattle.ov_catalog.specs.Planning as lacked
 use Rattle.ov_catalog.specs.Reached.{Reached}
 use Rattle.ov_catalog.specs.Shown.{Records, segment_of, shown_plan, shown_set}
 use Rattle.ov_catalog.specs.Stands.{asked, seen}
 use Rattle.ov_catalog.proofs.Members.{heads, tails}
 use Rattle.ov_catalog.proofs.Migrating.{plan_numbers, current_shown}
 use Rattle.law_image.specs.Pages.{readings_of}
-use Rattle.law_reads.proofs.Founds.{Shows, some_is}
+use Rattle.law_events.proofs.Left.{plan_missing}
+use Rattle.law_reads.proofs.Founds.{Shows, first_in, some_is}
 use Rattle.ov_read.specs.Agreement.{Numbers}
 use Rattle.ov_read.specs.OfWorld.{IsSetOf}
 use Rattle.law_steps.specs.Turns.{IsPlanSeen, IsSeenTurn, IsTurn, running, runs}
-use Rattle.law_steps.proofs.Turning.{turn_of}
+use Rattle.law_steps.proofs.Firsts.{turn_of}
 
 -- ---- a plan runs in both or in neither
 
@@ -96,11 +98,15 @@ no_turn w n area shows is = finds_none area n.sets w.sets (ap (λ x. x.sets) sho
 
 -- ---- what the numbers say of a plan
 
+abbrev lacked_of : TargetNumbers → ℕ → ℕ
+lacked_of t copied = t.size - (t.kept_records + copied)
+
 plan_if : (area : List ℕ) (s : Numbers) (d : Dataset) (plan : Plan) (found : Option (PlanNumbers Extent)) → s.plan ≡ found
-    → each_plan (readings_of area).segment found ≡ each_plan Some (Some (plan_numbers d plan)) → IsPlanSeen s d plan
-plan_if area s d plan None is shows = cc
-plan_if area s d plan (Some found) is shows =
+    → lacked.missing (plan_numbers d plan) ≡ length (missing d plan) → each_plan (readings_of area).segment found ≡ each_plan Some (Some (plan_numbers d plan)) → IsPlanSeen s d plan
+plan_if area s d plan None is lacks shows = cc
+plan_if area s d plan (Some found) is lacks shows =
     let same : each found ≡ wanted = some_is (each found) wanted shows
+    in let here : numbers.current found ≡ numbers.current (plan_numbers d plan) = ap (λ x. numbers.current x) same
     in record {
       seen = found;
       is = is;
@@ -108,11 +114,12 @@ plan_if area s d plan (Some found) is shows =
       q = ap (λ x. x.q) same;
       targets = ap (λ x. x.targets) same;
       at = ap (λ x. x.at) same;
-      current = ap (λ x. numbers.current x) same ∙ current_shown d plan;
+      current = here ∙ current_shown d plan;
       copied = ap (λ x. x.copied) same;
       segments =
           sym (length-map found.segments (readings_of area).segment) ∙ ap (λ x. length x.segments) same
           ∙ length-map (map (segment_of (order_of d.cvd.versions)) plan.copied) Some ∙ length-map plan.copied (segment_of (order_of d.cvd.versions));
+      missing = (λ i. lacked_of (here i) (ap (λ x. x.copied) same i)) ∙ lacks;
     }
   where
     each : PlanNumbers Extent → PlanNumbers (Option Records)
@@ -130,4 +137,5 @@ plan_if area s d plan (Some found) is shows =
 
 pub plan_seen : (w : World) (area : List ℕ) (s : Numbers) (d : Dataset) (plan : Plan) → IsSetOf w d area s → d.plan ≡ Some plan → IsPlanSeen s d plan
 plan_seen w area s d plan of_world runs =
-    plan_if area s d plan s.plan refl (ap (λ x. x.plan) of_world.shows ∙ ap (λ o. each_plan Some (shown_plan d o)) runs)
+    plan_if area s d plan s.plan refl (plan_missing w d plan (plan_numbers d plan) of_world.reached (first_in (moves.numbered s.number) w.sets d of_world.among) runs (ap (shown_plan d) runs))
+    (ap (λ x. x.plan) of_world.shows ∙ ap (λ o. each_plan Some (shown_plan d o)) runs)

@@ -43,11 +43,11 @@ module _ (read : Extent → Option Records) (seg : List Rec → Records) where
   abbrev AreRead : List Extent → List (List Rec) → Type 0
   AreRead es pieces = map read es ≡ map Some (map seg pieces)
 
-  heads : (a b : Option Records) (as bs : List (Option Records)) → a ∷ as ≡ b ∷ bs → a ≡ b
-  heads a b as bs e = cc
+  heads : (a b : Option Records) (rest more : List (Option Records)) → a ∷ rest ≡ b ∷ more → a ≡ b
+  heads a b rest more e = cc
 
-  tails : (a b : Option Records) (as bs : List (Option Records)) → a ∷ as ≡ b ∷ bs → as ≡ bs
-  tails a b as bs e = cc
+  tails : (a b : Option Records) (rest more : List (Option Records)) → a ∷ rest ≡ b ∷ more → rest ≡ more
+  tails a b rest more e = cc
 
   one_read : (es : List Extent) (pieces : List (List Rec)) (place : ℕ) → AreRead es pieces → place < length pieces
       → map read (one_at es place) ≡ Some (seg (slice_index_or pieces place [])) ∷ []

@@ -1,4 +1,4 @@
-pub mod Turning
+pub mod Firsts
 pub mod Finding
 pub mod Lacking
 pub mod Taking

@@ -11,7 +11,7 @@ use Rattle.ov_model.specs.Records.{Rec, of_version, order_of, recs, rid_in}
 use Rattle.ov_model.specs.World.{Dataset}
 use Rattle.ov_model.proofs.Ordering.{of_filter}
 use Rattle.ov_model.proofs.Widening.{same_bool}
-use Rattle.law_partitions.specs.Pieces.{HaveNoRowTwice, IsOfOne, NoTwice}
+use Rattle.law_partitions.specs.Pieces.{HaveNoRowTwice, IsOfOne, NoTwice, rec_times}
 use Rattle.law_partitions.proofs.PiecePlan.{records_of_some}
 use Rattle.law_partitions.proofs.PieceTimes.{all_once, times-filter}
 use Rattle.law_events.proofs.Lacks.{together}
@@ -76,7 +76,7 @@ module _ (d : Dataset) where
     ours_once : HaveNoRowTwice d.cvd.versions → NoTwice ours
     ours_once rows r = omega (arith, within r, all_once d.cvd.versions rows r)
       where
-        within : (q : Rec) → _
+        within : (q : Rec) → rec_times ours q ≤ rec_times all q
         within q = times-filter _ all q
 
     same_has : (rid : ℕ) → is_wanted vids rid ≡ has (list_of all ours) rid

@@ -9,11 +9,12 @@ use Rattle.std.specs.List.{find}
 use Rattle.ov_host.specs.declared.area.Extent.{Extent}
 use Rattle.ov_model.specs.Lists.{joined}
 use Rattle.ov_model.specs.Moves.{Move, numbered}
-use Rattle.ov_model.specs.Plans.{current}
+use Rattle.ov_model.specs.Plans.{current, missing}
 use Rattle.ov_model.specs.Steps.{step_of, next_step}
 use Rattle.ov_model.specs.World.{Plan, Dataset, World, first_set}
 use Rattle.ov_catalog.specs.Events as numbers
 use Rattle.ov_catalog.specs.Numbers.{PlanNumbers, Numbers as Catalog}
+use Rattle.ov_catalog.specs.Planning as lacked
 use Rattle.ov_catalog.specs.Shown.{shown_target}
 use Rattle.ov_read.specs.Agreement.{Numbers}
 use Rattle.ov_read.specs.OfWorld.{IsSetOf}
@@ -43,7 +44,8 @@ pub record IsSeenTurn (w : World) (area : List ℕ) (s : Numbers) : Type 0 where
   pub turn : IsTurn w set plan
   pub of_world : IsSetOf w set area s
 
--- a plan runs in the numbers too: at the same threshold, with the same targets, as far on, and with as many records copied
+-- a plan runs in the numbers too: at the same threshold, with the same targets, as far on, with as many records copied and
+-- as many missing
 pub record IsPlanSeen (s : Numbers) (d : Dataset) (plan : Plan) : Type 0 where
   pub seen : PlanNumbers Extent
   pub is : s.plan ≡ Some seen
@@ -54,3 +56,4 @@ pub record IsPlanSeen (s : Numbers) (d : Dataset) (plan : Plan) : Type 0 where
   pub current : numbers.current seen ≡ shown_target d (current plan)
   pub copied : seen.copied ≡ length (joined plan.copied)
   pub segments : length seen.segments ≡ length plan.copied
+  pub missing : lacked.missing seen ≡ length (missing d plan)

@@ -1,4 +1,4 @@
-use Rattle.law_steps.proofs.Turning.{next_fits, next_of, copy_of_next}
+use Rattle.law_steps.proofs.Firsts.{next_fits, next_of, copy_of_next}
 use Rattle.law_steps.proofs.turning.the_next_step_fits.Goals as goal
 
 pub returns-clause-fits : goal.returns-clause-fits
