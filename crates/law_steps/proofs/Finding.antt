@@ -6,7 +6,7 @@ use Rattle.std.proofs.lemmas.List.{length-map}
 use Rattle.ov_host.specs.declared.area.Extent.{Extent}
 use Rattle.ov_model.specs.Lists.{joined}
 use Rattle.ov_model.specs.Moves as moves
-use Rattle.ov_model.specs.Plans.{current, missing}
+use Rattle.ov_model.specs.Plans.{missing}
 use Rattle.ov_model.specs.Records.{order_of}
 use Rattle.ov_model.specs.Steps.{step_or, first_step, next_step}
 use Rattle.ov_model.specs.World.{Plan, Dataset, World, first_set}
@@ -23,7 +23,7 @@ use Rattle.law_events.proofs.Left.{plan_missing}
 use Rattle.law_reads.proofs.Founds.{Shows, first_in, some_is}
 use Rattle.ov_read.specs.Agreement.{Numbers}
 use Rattle.ov_read.specs.OfWorld.{IsSetOf}
-use Rattle.law_steps.specs.Turns.{IsPlanSeen, IsSeenTurn, IsTurn, running, runs}
+use Rattle.law_steps.specs.Turns.{IsPlanSeen, IsSeenTurn, running, runs}
 use Rattle.law_steps.proofs.Firsts.{turn_of}
 
 -- ---- a plan runs in both or in neither

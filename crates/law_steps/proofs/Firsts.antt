@@ -1,6 +1,6 @@
 -- The next step is of the first dataset in which a plan runs, and fits.
-use Rattle.std.proofs.Common.{◌≡◌, ◌<◌, ℕ, suc, Bool, true, false, ◌==◌, List, [], ◌∷◌, length, refl, sym, ◌∙◌, ap, subst, inl, inr, arith}
-use Rattle.std.specs.Prelude.{◌⊎◌, if◌then◌else◌, is_some, Option, Some, None}
+use Rattle.std.proofs.Common.{◌≡◌, ◌<◌, ℕ, Bool, true, false, ◌==◌, List, [], ◌∷◌, length, refl, sym, ◌∙◌, ap, subst, inl, inr, arith}
+use Rattle.std.specs.Prelude.{if◌then◌else◌, is_some, Option, Some, None}
 use Rattle.std.proofs.lemmas.Bool.{eqb-true, eq-eqb}
 use Rattle.ov_model.specs.Lists.{IsIn}
 use Rattle.ov_model.specs.Moves.{Move, Copy, Flip, numbered}
@@ -72,12 +72,15 @@ found_by_number (x ∷ sets) d distinct is =
 pub turn_of : (w : World) (d : Dataset) → Reached w → first_set runs w.sets ≡ Some d → (plan : Plan) × IsTurn w d plan
 turn_of w d reached first =
     let step : Steps w.sets d = step_by w.sets d first
-    in (step.0, record {
-      first = first;
-      found = found_by_number w.sets d (good w reached).distinct (first_in runs w.sets d first);
-      runs = step.1.0;
-      next = step.1.1;
-    })
+    in (
+      step.0,
+      record {
+        first = first;
+        found = found_by_number w.sets d (good w reached).distinct (first_in runs w.sets d first);
+        runs = step.1.0;
+        next = step.1.1;
+      },
+    )
 
 pub next_of : (w : World) (m : Move) → Reached w → next_step w ≡ Some m → IsNext w m
 next_of w m reached next =

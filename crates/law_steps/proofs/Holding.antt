@@ -1,13 +1,12 @@
 -- A partition that serves a version holds its records.
 use Rattle.std.proofs.Common.{◌≡◌, ◌≤◌, ℕ, ◌+◌, Bool, true, false, ◌==◌, List, [], ◌∷◌, refl, sym, subst, inl, inr, arith}
 use Rattle.std.specs.Prelude.{if◌then◌else◌}
-use Rattle.std.proofs.lemmas.Bool.{cases_Bool, eqb-true}
+use Rattle.std.proofs.lemmas.Bool.{eqb-true}
 use Rattle.ov_model.specs.Holding.{VersionsAreIn, PartsHold, IsHeld, AreHeld}
 use Rattle.ov_model.specs.Lists.{IsIn, AreIn}
 use Rattle.ov_model.specs.Placed.{times}
 use Rattle.ov_model.specs.Records.{Rec, of_version, recs}
 use Rattle.ov_model.specs.World.{Part, Dataset, World, held}
-use Rattle.ov_model.proofs.Counting.{one_if}
 use Rattle.ov_catalog.specs.Reached.{Reached}
 use Rattle.ov_catalog.proofs.Good.{good}
 use Rattle.ov_catalog.proofs.Ranking.{are_in_at}

@@ -1,6 +1,6 @@
 -- What is read of the segments that a target keeps.
-use Rattle.std.proofs.Common.{◌≡◌, ◌<◌, ℕ, zero, suc, ◌-◌, Bool, true, false, ◌==◌, List, [], ◌∷◌, ◌++◌, length, map, refl, sym, ◌∙◌, ap, subst, arith}
-use Rattle.std.specs.Prelude.{if◌then◌else◌, slice_index_or, Option, Some}
+use Rattle.std.proofs.Common.{◌≡◌, ◌<◌, ℕ, zero, suc, ◌-◌, true, false, ◌==◌, List, [], ◌∷◌, ◌++◌, length, map, refl, sym, ◌∙◌, ap, subst, arith}
+use Rattle.std.specs.Prelude.{slice_index_or, Option, Some}
 use Rattle.std.proofs.lemmas.Bool.{ne_eqb}
 use Rattle.std.proofs.lemmas.List.{length-map, map-append}
 use Rattle.ov_host.specs.declared.area.Extent.{Extent}
@@ -18,7 +18,6 @@ use Rattle.law_partitions.proofs.PieceMore.{current_kept}
 use Rattle.law_partitions.proofs.PlanExact.{known_one}
 use Rattle.law_events.proofs.Lacks.{together as all_together}
 use Rattle.ov_catalog.specs.Events.{chosen, one_at, segments_at}
-use Rattle.ov_catalog.specs.Numbers.{PartNumbers, each_part}
 use Rattle.ov_catalog.specs.Shown.{Records, segment_of, shown_part, shown_target}
 use Rattle.ov_catalog.proofs.Filling.{segments_each}
 use Rattle.ov_catalog.proofs.Members.{in_map, of_map}

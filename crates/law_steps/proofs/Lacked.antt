@@ -1,5 +1,5 @@
 -- What is missing for a target, by rids.
-use Rattle.std.proofs.Common.{◌≡◌, ℕ, List, [], ◌++◌, length, map, take, drop, refl, sym, ◌∙◌, ap, subst}
+use Rattle.std.proofs.Common.{◌≡◌, ℕ, List, [], length, map, take, drop, sym, ◌∙◌, ap}
 use Rattle.std.specs.Prelude.{Some}
 use Rattle.std.specs.List.{list_any}
 use Rattle.std.proofs.lemmas.List.{append-nil, drop-map, take-map, length-map}
@@ -7,7 +7,7 @@ use Rattle.ov_member.specs.Rids.{AreRids, has, left_out}
 use Rattle.ov_model.specs.Lists.{IsIn, joined}
 use Rattle.ov_model.specs.Plans.{current, kept_pieces, missing, missing_of, records_in}
 use Rattle.ov_model.specs.Records.{Rec, lacking, order_of, recs, rid_in}
-use Rattle.ov_model.specs.World.{Plan, Dataset, Target, World}
+use Rattle.ov_model.specs.World.{Plan, Dataset, World}
 use Rattle.ov_model.proofs.Origins.{all_known}
 use Rattle.law_partitions.specs.Pieces.{HasPieces, IsKept}
 use Rattle.law_partitions.proofs.PieceLists.{is_of}

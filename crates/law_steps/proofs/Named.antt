@@ -1,5 +1,5 @@
 -- A record is among others exactly where its rid is among theirs.
-use Rattle.std.proofs.Common.{◌≡◌, ℕ, Bool, true, false, ◌==◌, List, [], ◌∷◌, map, filter, refl, sym, ◌∙◌, ap, subst, inl, inr}
+use Rattle.std.proofs.Common.{◌≡◌, ℕ, Bool, true, false, List, [], ◌∷◌, map, refl, sym, ◌∙◌, ap, subst, inl, inr}
 use Rattle.std.specs.Prelude.{if◌then◌else◌, not}
 use Rattle.ov_member.specs.Rids.{has, left_out}
 use Rattle.ov_model.specs.Lists.{IsIn}

@@ -7,7 +7,7 @@ use Rattle.ov_model.specs.Moves.{Move, moved}
 use Rattle.ov_model.specs.Plans.{missing_of, missing, current}
 use Rattle.ov_model.specs.World.{Plan, Dataset, World, empty_world_of}
 use Rattle.law_partitions.specs.Pieces.{HasPieces, ArePieces, IsUnderWay, PlanIsUnderWay}
-use Rattle.ov_catalog.specs.Reached.{Fits, Suits, Leads, Reached}
+use Rattle.ov_catalog.specs.Reached.{Suits, Leads, Reached}
 use Rattle.ov_catalog.proofs.Good.{IsGood, good, good_moved}
 use Rattle.law_steps.proofs.Lacking.{drop_front}
 use Rattle.law_steps.proofs.Taking.{IsTaken, PlanIsTaken, AreTaken, goes_on, moved_taken}

@@ -1,5 +1,5 @@
 -- What was copied for a target are the first of the records that it lacked when its turn came, move by move.
-use Rattle.std.proofs.Common.{◌≡◌, ◌<◌, ℕ, zero, suc, ◌+◌, Bool, true, false, ◌==◌, List, [], ◌∷◌, ◌++◌, length, map, filter, take, drop, get_or, refl, sym, ◌∙◌, ap, subst, inl, inr, arith}
+use Rattle.std.proofs.Common.{◌≡◌, ◌<◌, ℕ, zero, suc, ◌+◌, Bool, true, false, List, [], ◌∷◌, ◌++◌, length, filter, take, drop, get_or, refl, sym, ◌∙◌, ap, subst, arith}
 use Rattle.std.specs.Prelude.{if◌then◌else◌, not, nat_lt, Option, Some, None}
 use Rattle.std.proofs.lemmas.List.{append-nil, take-append-drop}
 use Rattle.ov_model.specs.Book.{Version}
@@ -12,7 +12,7 @@ use Rattle.ov_model.specs.Records.{Rec, lacking, ordered_records}
 use Rattle.ov_model.specs.World.{Target, Plan, Dataset, World}
 use Rattle.ov_model.proofs.Placing.{target_at}
 use Rattle.ov_model.proofs.Wanted.{records_in_more}
-use Rattle.law_partitions.specs.Pieces.{AreBelow, NoTwice, IsKept, IsUnderWay, PlanIsUnderWay, HaveNoRowTwice, HasPieces, ArePieces}
+use Rattle.law_partitions.specs.Pieces.{AreBelow, NoTwice, IsKept, PlanIsUnderWay, HaveNoRowTwice, HasPieces, ArePieces}
 use Rattle.law_partitions.proofs.MissingAfter.{missing_once}
 use Rattle.law_partitions.proofs.PieceFlip.{picked}
 use Rattle.law_partitions.proofs.PieceLists.{append_assoc, joined-append}
