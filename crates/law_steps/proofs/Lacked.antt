@@ -1,16 +1,16 @@
 -- What is missing for a target, by rids.
-use Rattle.std.proofs.Common.{◌≡◌, ℕ, List, [], length, map, take, drop, sym, ◌∙◌, ap}
+use Rattle.std.proofs.Common.{◌≡◌, ℕ, List, [], length, map, take, drop, sym, ◌∙◌, ap, ◌∷◌, inl, inr, refl}
 use Rattle.std.specs.Prelude.{Some}
 use Rattle.std.specs.List.{list_any}
 use Rattle.std.proofs.lemmas.List.{append-nil, drop-map, take-map, length-map}
 use Rattle.ov_member.specs.Rids.{AreRids, has, left_out}
-use Rattle.ov_model.specs.Lists.{IsIn, joined}
+use Rattle.ov_model.specs.Lists.{IsIn, AreIn, joined}
 use Rattle.ov_model.specs.Plans.{current, kept_pieces, missing, missing_of, records_in}
 use Rattle.ov_model.specs.Records.{Rec, lacking, order_of, recs, rid_in}
 use Rattle.ov_model.specs.World.{Plan, Dataset, World}
 use Rattle.ov_model.proofs.Origins.{all_known}
 use Rattle.law_partitions.specs.Pieces.{HasPieces, IsKept}
-use Rattle.law_partitions.proofs.PieceLists.{is_of}
+use Rattle.law_partitions.proofs.PieceLists.{in_filtered, in_taken, is_of}
 use Rattle.law_partitions.proofs.PieceMore.{current_kept}
 use Rattle.law_partitions.proofs.PieceTimes.{all_once}
 use Rattle.law_partitions.proofs.PlanExact.{known_one}
@@ -85,3 +85,15 @@ module _ (w : World) (d : Dataset) (reached : Reached w) (is : IsIn w.sets d) wh
 
     pub ordered : segment_of all (take 256 (missing d plan)) ≡ map (kept_as all) (take 256 (missing d plan))
     ordered = segmented all 1 (take 256 (missing d plan)) (climbs_take (rid_in all) 256 1 (missing d plan) climb_missing)
+
+-- ---- the next copy's records are the dataset's
+
+each_in : (rs whole : List Rec) → ((r : Rec) → IsIn rs r → IsIn whole r) → AreIn rs whole
+each_in [] whole each = tt
+each_in (r ∷ rs) whole each = (each r (inl refl), each_in rs whole (λ q is. each q (inr is)))
+
+pub next_known : (d : Dataset) (plan : Plan) → AreIn (take 256 (missing d plan)) (order_of d.cvd.versions)
+next_known d plan =
+    let ours : List Rec = records_in d.cvd (current plan).versions
+    in each_in (take 256 (missing d plan)) (order_of d.cvd.versions)
+    (λ r there. ours_known d (current plan).versions r (in_filtered _ ours r (in_taken 256 (missing d plan) r there)).0)

@@ -2,7 +2,7 @@
 ghost use Rattle.std.specs.Prelude.{◌≡◌, ◌≤◌, [], ℕ, List, Some, drop, length, map, take};
 ghost use Rattle.std.specs.List.{list_any};
 ghost use Rattle.ov_member.specs.Rids.{AreRids, has, left_out};
-ghost use Rattle.ov_model.specs.Lists.{IsIn, joined};
+ghost use Rattle.ov_model.specs.Lists.{AreIn, IsIn, joined};
 ghost use Rattle.ov_model.specs.Placed.{times};
 ghost use Rattle.ov_model.specs.Plans.{current, missing as lacking, missing_of};
 ghost use Rattle.ov_model.specs.Records.{Rec, of_version, order_of, recs};
@@ -21,7 +21,8 @@ pub fn what_is_missing_comes_behind_what_was_copied()
 
 /// The same by rids. Rids that are those of some versions' lists together are those of their records together. Of the rids that
 /// a target wants, those that no kept piece has are as many as it lacked when its turn came; behind as many as were copied come
-/// the missing ones. The first 256 of these are the next copy's, and in its segment its records stand in that order.
+/// the missing ones. The first 256 of these are the next copy's; its records are the dataset's, and in its segment they stand in
+/// that order.
 pub fn what_is_missing_is_seen_by_rids()
     ensures wanted { (w : World) (d : Dataset) (vids wanted : List ℕ) → Reached w → IsIn w.sets d → AreRids wanted
         → ((rid : ℕ) → has wanted rid ≡ list_any (λ vid. has (rids_in d vid) rid) vids) → wanted ≡ wanted_rids d vids }
@@ -33,6 +34,7 @@ pub fn what_is_missing_is_seen_by_rids()
         → drop (length (joined plan.copied)) (left_out wanted kept) ≡ missing_rids d plan }
     ensures next { (w : World) (d : Dataset) (plan : Plan) → Reached w → IsIn w.sets d → d.plan ≡ Some plan
         → take 256 (missing_rids d plan) ≡ list_of (order_of d.cvd.versions) (take 256 (lacking d plan)) }
+    ensures known { (d : Dataset) (plan : Plan) → AreIn (take 256 (lacking d plan)) (order_of d.cvd.versions) }
     ensures ordered { (w : World) (d : Dataset) (plan : Plan) → Reached w → IsIn w.sets d → d.plan ≡ Some plan
         → segment_of (order_of d.cvd.versions) (take 256 (lacking d plan)) ≡ map (kept_as (order_of d.cvd.versions)) (take 256 (lacking d plan)) }
 {}
