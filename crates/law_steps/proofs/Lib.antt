@@ -9,3 +9,4 @@ pub mod Wanted
 pub mod Lacked
 pub mod Holding
 pub mod Kept
+pub mod Worked

@@ -14,4 +14,4 @@ pub use missing::{
     what_is_missing_is_seen_by_rids,
 };
 pub use targets::the_current_target_is_seen;
-pub use turning::{the_next_step_fits, the_running_plan_is_found};
+pub use turning::{a_first_plan_is_found, the_next_step_fits, the_running_plan_is_found};

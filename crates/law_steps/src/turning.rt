@@ -9,9 +9,11 @@ ghost use Rattle.ov_catalog.specs.Reached.{Fits, IfRunning, IfThere, Reached};
 ghost use Rattle.ov_catalog.specs.Shown.{copy_event, event_of};
 ghost use Rattle.ov_catalog.specs.Stands.{asked, seen};
 ghost use Rattle.law_image.specs.Pages.{readings_of};
+ghost use Rattle.law_image.specs.Worked.{the_pages};
 ghost use Rattle.ov_read.specs.Agreement.{Numbers};
 ghost use Rattle.ov_read.specs.OfWorld.{IsSetOf};
 ghost use Rattle.law_steps.specs.Turns.{IsNext, IsPlanSeen, IsSeenTurn, running};
+ghost use Rattle.law_steps.specs.Worked.{the_planned};
 
 /// The step that is next fits. It is of the first dataset in which a plan runs, which its number finds; and the event of a copy
 /// is that of this dataset and its plan.
@@ -31,4 +33,9 @@ pub fn the_running_plan_is_found()
         → running n ≡ None → next_step w ≡ None }
     ensures numbers { (w : World) (area : List ℕ) (s : Numbers) (d : Dataset) (plan : Plan) → IsSetOf w d area s → d.plan ≡ Some plan
         → IsPlanSeen s d plan }
+{}
+
+/// What these laws ask for can be met: where a plan begins in a store with one dataset, its turn is seen in the store's bytes.
+pub fn a_first_plan_is_found()
+    ensures { (s : Numbers) × IsSeenTurn the_planned the_pages s }
 {}
