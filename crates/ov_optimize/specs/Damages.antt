@@ -7,6 +7,7 @@ use Rattle.std.specs.List.{All, Contains}
 use Rattle.ov_host.specs.declared.area.Extent.{Extent}
 use Rattle.ov_segment.specs.declared.numbered.Record.{Record}
 use Rattle.ov_value.specs.Shapes.{Shape}
+use Rattle.ov_model.specs.Lists.{IsIn}
 use Rattle.ov_catalog.specs.Numbers.{PartNumbers}
 use Rattle.ov_fetch.specs.declared.errors.FetchErr.{FetchErr}
 use Rattle.ov_fetch.specs.declared.errors.FetchErr.TheVariants.{Host, Memory, Damaged}
@@ -46,7 +47,7 @@ RefusesPart (Damaged page) area s part = IsBadPart area s part page
 
 pub record HasBadPart (area : List ℕ) (s : Numbers) (page : ℕ) : Type 0 where
   pub part : PartNumbers Extent
-  pub among : Contains s.parts part
+  pub among : IsIn s.parts part
   pub bad : IsBadPart area s part page
 
 abbrev pub IsPlanDamage : List ℕ → Numbers → ℕ → Type 0
