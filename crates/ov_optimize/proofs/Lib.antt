@@ -5,3 +5,5 @@ pub mod Applying
 pub mod Worlds
 pub mod SegmentSets
 pub mod Partitions
+pub mod VersionLists
+pub mod Making

@@ -1,6 +1,6 @@
 -- How many rids sets have, and the sets of a partition's segments.
 use Rattle.std.proofs.Common.{◌≡◌, ◌<◌, ◌≤◌, ◌^◌, ℕ, zero, suc, ◌+◌, ◌-◌, Bool, true, false, not, cond, ◌||◌, ◌==◌, List, [], ◌∷◌, ◌++◌, length, refl, sym, ◌∙◌, ap, subst, inl, inr, arith}
-use Rattle.std.specs.Prelude.{filter, if◌then◌else◌}
+use Rattle.std.specs.Prelude.{MatchOption, Option, None, Some, filter, if◌then◌else◌, is_some}
 use Rattle.std.specs.List.{All}
 use Rattle.std.proofs.lemmas.Bool.{cases_Bool, cond-true, or_cases, eqb-true}
 use Rattle.std.proofs.lemmas.List.{length-append}
@@ -15,7 +15,7 @@ use Rattle.ov_fetch.proofs.Counted.{filtered_le}
 use Rattle.ov_match.specs.Matching.{AreApart, AreSegments}
 use Rattle.ov_match.proofs.Counts.{parted, rise_once, shared_turned}
 use Rattle.ov_read.specs.Agreement as agreement
-use Rattle.ov_read.specs.Agreement.{AreTogether, PartAgrees}
+use Rattle.ov_read.specs.Agreement.{AreTogether, IsBorneOut, PartAgrees}
 use Rattle.ov_optimize.specs.Reading.{AreFilled}
 
 pub or_right : (a b : Bool) → b ≡ true → (a || b) ≡ true
@@ -121,3 +121,9 @@ sound_sets count last sets low are filled agrees = record {
   few = omega (arith, few_sets sets agrees.all are filled agrees.together, agrees.borne_out.count_is, low);
   apart = apart sets agrees.all are agrees.together;
 }
+
+-- what stands together where something was found
+pub together_agrees : (found : Option (List ℕ)) (count last : ℕ) (sets : List (List ℕ))
+    → MatchOption found (PartAgrees count last sets → ⊥) (λ all. AreTogether sets all × IsBorneOut count last all) → is_some found ≡ true → PartAgrees count last sets
+together_agrees None count last sets h some = cc
+together_agrees (Some all) count last sets h some = record { all = all; together = h.0; borne_out = h.1 }

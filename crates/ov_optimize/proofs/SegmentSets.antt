@@ -1,8 +1,8 @@
 -- Segments of a partition, one after another, and the partition that they make.
-use Rattle.std.proofs.Common.{◌≡◌, ◌<◌, ◌≤◌, ◌+◌, ◌*◌, ◌/◌, ℕ, true, List, [], ◌∷◌, ◌++◌, length, take, get_or, map, refl, sym, ◌∙◌, ap, subst, inl, inr, arith}
+use Rattle.std.proofs.Common.{◌≡◌, ◌<◌, ◌≤◌, ◌+◌, ◌*◌, ◌/◌, ◌⊎◌, ℕ, suc, true, List, [], ◌∷◌, ◌++◌, length, take, get_or, map, refl, sym, ◌∙◌, ap, subst, inl, inr, arith}
 use Rattle.std.specs.List.{All, Contains, sum_by}
 use Rattle.std.proofs.lemmas.List.{length-append, map-append}
-use Rattle.std.proofs.lemmas.List.Elements.{All-nil, All-push}
+use Rattle.std.proofs.lemmas.List.Elements.{All-cons, All-nil, All-push}
 use Rattle.std.proofs.lemmas.List.Sums.{sum_by_more_le, sum_by_push}
 use Rattle.ov_fetch.specs.declared.errors.FetchErr.{FetchErr}
 use Rattle.ov_fetch.specs.declared.errors.FetchErr.TheVariants.{Host, Memory, Damaged}
@@ -16,8 +16,12 @@ use Rattle.ov_host.specs.Host.{State}
 use Rattle.ov_member.specs.Rids.{AreRids}
 use Rattle.ov_segment.specs.declared.numbered.Record.{Record}
 use Rattle.ov_value.specs.Shapes.{Shape}
+use Rattle.ov_read.specs.Agreement.{PartAgrees}
+use Rattle.ov_read.specs.Damages.{PartDisagrees}
 use Rattle.ov_read.specs.Sizes.{pages_in}
 use Rattle.ov_read.proofs.Listing.{bytes_below}
+use Rattle.ov_optimize.specs.Damages.{HasEmptySegment}
+use Rattle.ov_optimize.specs.Reading.{AreFilled}
 
 segments_push : (schema : Shape) (area : List ℕ) (segments : List Extent) (contents : List (List Record)) (e : Extent) (rs : List Record) → AreSegments schema area segments contents
     → IsSegment schema area e rs → AreSegments schema area (segments ++ e ∷ []) (contents ++ rs ∷ [])
@@ -78,3 +82,27 @@ within segments k before now more d low h one = omega (arith, h, one, sum_by_mor
 -- so far no more than all of them
 pub so_far : (segments : List Extent) (k before now : ℕ) (d : Extent) → k < length segments → now ≤ before + 4096 * pages_in (take k segments) → now ≤ before + 4096 * pages_in segments
 so_far segments k before now d low h = omega (arith, h, sum_by_more_le pages_of segments k d low)
+
+-- ---- sets that are off
+
+abbrev HasSome : List ℕ → Type 0
+HasSome rids = 1 ≤ length rids
+
+filled_or_not : (contents : List (List Record)) → AreFilled (map rids_of contents) ⊎ Contains contents []
+filled_or_not [] = inl (All-nil HasSome)
+filled_or_not ([] ∷ cs) = inr (0, omega arith, refl)
+filled_or_not ((r ∷ rs) ∷ cs) = elim (filled_or_not cs) [
+  | inl filled ↦ inl (All-cons HasSome (rids_of (r ∷ rs)) (map rids_of cs) (omega arith) filled)
+  | inr empty ↦ inr (suc empty.0, omega (arith, empty.1), empty.2)
+]
+
+pub sets_off : (schema : Shape) (area : List ℕ) (segments : List Extent) (count last : ℕ) (sets : List (List ℕ)) → HaveRids schema area segments sets
+    → ((AreFilled sets × PartAgrees count last sets) → ⊥) → PartDisagrees schema area segments count last ⊎ HasEmptySegment schema area segments
+sets_off schema area segments count last sets have not_both = elim (filled_or_not have.contents) [
+  | inl filled ↦ inl (record {
+      contents = have.contents;
+      read = have.read;
+      off = λ agrees. not_both (subst AreFilled (sym have.sets_are) filled, subst (PartAgrees count last) (sym have.sets_are) agrees);
+    })
+  | inr empty ↦ inr (record { contents = have.contents; read = have.read; empty = empty })
+]

@@ -41,7 +41,6 @@ use Rattle.ov_catalog.specs.Stands.{asked_as}
 use Rattle.ov_catalog.proofs.Members.{heads, of_map, of_sorted, tails}
 use Rattle.ov_catalog.proofs.Ranking.{are_in_at}
 use Rattle.ov_core.specs.Brought.{content}
-use Rattle.law_events.proofs.Holes.{graph_each}
 use Rattle.law_events.proofs.Lacks.{new_lacks}
 use Rattle.law_image.specs.Pages.{readings_of}
 use Rattle.ov_read.specs.Agreement.{IsThere, Numbers}
@@ -49,7 +48,7 @@ use Rattle.ov_read.specs.Agreement as agreement
 use Rattle.ov_read.specs.Damages.{HasBadList}
 use Rattle.ov_read.specs.OfWorld.{IsSetOf, IsSpared, rids_in}
 use Rattle.ov_read.proofs.Shows.{lists_shown, not_bad}
-use Rattle.law_reads.specs.Sights.{contents_of, records_in as kept_in}
+use Rattle.law_reads.specs.Sights.{contents_of, record_in, records_in as kept_in}
 use Rattle.law_reads.proofs.Counted.{numbers}
 use Rattle.law_reads.proofs.Listed as listed
 use Rattle.law_reads.proofs.Orders.{all_of, rid_low, sorted_long}
@@ -66,7 +65,7 @@ use Rattle.ov_optimize.specs.Counting.{IsCounted, sizes_said, steps_said}
 use Rattle.ov_optimize.specs.Damages.{HasBadPart, HasHighRid, IsBadPart, IsPlanDamage, RefusesPlan}
 use Rattle.ov_optimize.specs.Planned.{IsMade, IsPlanned, IsReport, Says}
 use Rattle.ov_optimize.specs.Reading.{IsListAt, IsPartitionAt, all_vids}
-use Rattle.ov_optimize.proofs.Applying.{vid_at}
+use Rattle.ov_optimize.proofs.VersionLists.{all_there}
 
 -- ---- all versions
 
@@ -74,23 +73,22 @@ map_vids : {X Y : Type 0} (g : ℕ → Y) (f : X → Y) (xs : List X) (from : �
     → map g (range_with_len from (length xs)) ≡ map f xs
 map_vids g f [] from same = refl
 map_vids g f (x ∷ xs) from same =
-    let first : g from ≡ f x = same 0 x (omega arith) in
+    let first : g from ≡ f x = ap g (plus from) ∙ same 0 x (omega arith) in
     let rest : map g (range_with_len (from + 1) (length xs)) ≡ map f xs =
     map_vids g f xs (from + 1) (λ k d low. ap g (next from k) ∙ same (suc k) d (omega (arith, low))) in
     λ i. first i ∷ rest i
   where
+    plus : (n : ℕ) → n ≡ n + 0
+    plus n = omega arith
+
     next : (n k : ℕ) → n + 1 + k ≡ n + suc k
     next n k = omega arith
 
-all_from : (P : ℕ → Type 0) (from count : ℕ) → ((n : ℕ) → from ≤ n → n < from + count → P n) → All P (range_with_len from count)
-all_from P from count each k d low =
-    let short : k < count = omega (arith, low, length-range_with_len from count) in
-    subst P (sym (vid_at from count k d short)) (each (from + k) (omega arith) (omega (arith, short)))
-
-pub all_there : (s : Numbers) → All (IsThere s) (all_vids s)
-all_there s = all_from (IsThere s) 1 (length s.versions) (λ n some most. (some, omega (arith, most)))
-
 -- ---- the tree
+
+graph_each : {L M : Type 0} (f : L → M) (vs : List (VersionNumbers L)) → events.graph_of (map (each_version f) vs) ≡ events.graph_of vs
+graph_each f [] = refl
+graph_each f (v ∷ vs) = ap (λ rest. record { records = v.rows; parents = v.parents } ∷ rest) (graph_each f vs)
 
 graph_shown : (all : List Rec) (done : List (List Rec)) (vs : List Version) → events.graph_of (shown_versions all done vs) ≡ plans.graph_of vs done
 graph_shown all done [] = refl
@@ -129,7 +127,7 @@ none_empty all pieces full there = at pieces there.0 full there.1 (ap length the
   where
     at : (ps : List (List Rec)) (k : ℕ) → AllFull ps → k < length (map (kept_in all) ps) → length (get_or (map (kept_in all) ps) k []) ≡ 0 → ⊥
     at [] k full low none = omega (arith, low)
-    at (p ∷ ps) zero full low none = omega (arith, full.0, none, sorted_long (λ (r : Record). r.rid) _, length-map p _)
+    at (p ∷ ps) zero full low none = omega (arith, full.0, none, sorted_long (λ (r : Record). r.rid) (map (record_in all) p), length-map p (record_in all))
     at (p ∷ ps) (suc k) full low none = at ps k full.1 (omega (arith, low)) none
 
 rids_kept : (all : List Rec) (pieces : List (List Rec)) → map rids_of (map (kept_in all) pieces) ≡ map (list_of all) pieces
