@@ -7,7 +7,7 @@ use Rattle.std.proofs.lemmas.List.{length-map}
 use Rattle.std.proofs.lemmas.List.Elements.{All-from_recursion, recursion_from_All}
 use Rattle.ov_event.specs.declared.event.Event.TheVariants as says
 use Rattle.ov_event.specs.declared.event.PlanTarget.{PlanTarget}
-use Rattle.ov_event.specs.Fields.{IsU32}
+use Rattle.ov_event.specs.Fields.{AreFew, IsU32}
 use Rattle.ov_event.specs.Spelling.{IsEvent, IsTarget}
 use Rattle.ov_host.specs.declared.area.Extent.{Extent}
 use Rattle.ov_layout.specs.declared.part.Part.{Part}
@@ -123,16 +123,13 @@ module _ (d : Cvd) (is : IsSet d) (sound : AreParts d.layout.parts d.layout.next
           (targets_long (set_in d) lists partitions listed parted ascend (lists_of parts) ts are ∙ ap length split.parts_are))
           (ap (λ ps. are_targets (set_in d) (targets_of ps ts)) (sym split.parts_are) ∙ fit)))
 
-      pub spelled : d.number < 2 ^ 32 → p < 2 ^ 32 → q < 2 ^ 32 → d.layout.next ≤ 4294000000 → IsEvent (says.Plan d.number p q ts)
-      unfolding IsEvent
-      spelled number low_p low_q numbers =
-          (
-            number,
-            low_p,
-            low_q,
-            (
-              omega (arith, targets_paired, parts_count),
-              all_spelled (set_in d) lists partitions listed parted ascend (lists_of parts) ts vids_there are is.records
-                  (λ r there. omega (arith, ids_below d.records 1 d.layout.next d.layout.parts partitions r sound.sound parted there, numbers)),
-            ),
-          )
+      pub spelled : d.layout.next ≤ 4294000000 → AreFew 32 IsTarget ts
+      spelled numbers = (
+        omega (arith, targets_paired, parts_count),
+        all_spelled (set_in d) lists partitions listed parted ascend (lists_of parts) ts vids_there are is.records
+            (λ r there. omega (arith, ids_below d.records 1 d.layout.next d.layout.parts partitions r sound.sound parted there, numbers)),
+      )
+
+pub plan_spelled : (cvd p q : ℕ) (ts : List PlanTarget) → IsU32 cvd → IsU32 p → IsU32 q → AreFew 32 IsTarget ts → IsEvent (says.Plan cvd p q ts)
+unfolding IsEvent
+plan_spelled cvd p q ts number low_p low_q few = (number, low_p, low_q, few)

@@ -2,7 +2,9 @@
 
 ghost use Rattle.std.specs.Prelude.{◌≡◌, ◌≤◌, ◌+◌, ℕ, [], true, None, Some, map, IsTrue, IsErrOf, IfOk, MatchResult};
 ghost use Rattle.std.specs.List.{AllZip};
-ghost use Rattle.ov_event.specs.Spelling.{IsEvent};
+ghost use Rattle.ov_event.specs.declared.event.Event.TheVariants as says;
+ghost use Rattle.ov_event.specs.Fields.{AreFew};
+ghost use Rattle.ov_event.specs.Spelling.{IsEvent, IsTarget};
 ghost use Rattle.ov_host.specs.declared.area.Extent.{Extent};
 ghost use Rattle.ov_host.specs.Host.{Rose};
 ghost use Rattle.ov_model.specs.Act.{is_threshold};
@@ -28,7 +30,7 @@ use crate::parting::all_partitions;
 use crate::report::{Report, report_of};
 use crate::tree::tree_of;
 use ov_catalog::Cvd;
-use ov_event::{Event, Items};
+use ov_event::{Event, Items, PlanTarget};
 use ov_fetch::FetchErr;
 use ov_host::Host;
 use ov_lyre::split;
@@ -41,6 +43,20 @@ use std::alloc::{AllocError, Global};
 pub struct Planned {
     pub event: Event,
     pub report: Report,
+}
+
+/// The event that begins a plan with these targets.
+fn event_of(cvd: u32, p: u32, q: u32, targets: Vec<PlanTarget>) -> Event
+    requires { AreFew 32 IsTarget targets.items }
+    ensures event { IsEvent result }
+    ensures is { result ≡ says.Plan cvd p q targets.items }
+{
+    Event::Plan {
+        cvd,
+        p,
+        q,
+        targets: Items::new(targets),
+    }
 }
 
 /// The plan of the split at p / q, from the lists of all versions and from the partitions.
@@ -68,12 +84,7 @@ fn made_of(
     let _ = d.layout.parts();
     let targets = targets_of(alloc, lists, partitions, &split.parts)?;
     let report = report_of(&tree, &split, &targets);
-    let event = Event::Plan {
-        cvd: d.number,
-        p,
-        q,
-        targets: Items::new(targets),
-    };
+    let event = event_of(d.number, p, q, targets);
     Ok(Planned { event, report })
 }
 

@@ -72,8 +72,8 @@ report_of-report-requires-clause-paired c =
     ap length c.deref-3.ensures.value
     ∙ targets_paired d c.requires.sound c.parts.ensures.sound c.args.lists.now c.args.partitions.items c.requires.lists c.requires.parted c.args.p c.args.q parts split c.in_ok-targets.targets.items are
 
-pub returns-clause-event : goal.returns-clause-event
-returns-clause-event c =
+pub event_of-event-requires : goal.event_of-event-requires
+event_of-event-requires c =
     let d = c.args.d.now in
     let parts : List (Vec ℕ Global) = c.in_ok-split.split.parts.items in
     let ts : List PlanTarget = c.in_ok-targets.targets.items in
@@ -83,12 +83,7 @@ returns-clause-event c =
     split-is (set_in d) c.args.p c.args.q c.in_ok-tree.tree.nodes.items (lists_of parts) nodes c.in_ok-split.ensures.parts c.in_ok-split.ensures.division in
     let are : AreTargets c.args.lists.now c.args.partitions.items (lists_of c.in_ok-split.split.parts.items) c.in_ok-targets.targets.items =
     subst (λ ps. AreTargets c.args.lists.now c.args.partitions.items (map versions_in ps) c.in_ok-targets.targets.items) c.deref-2.ensures.value c.in_ok-targets.ensures in
-    let number : c.args.d.now.number < 2 ^ 32 = search rules in
-    let low_p : c.args.p < 2 ^ 32 = search rules in
-    let low_q : c.args.q < 2 ^ 32 = search rules in
-    subst (λ us. IsEvent (says.Plan d.number c.args.p c.args.q us)) (sym c.new.ensures)
-    (spelled d c.requires.sound c.parts.ensures.sound c.args.lists.now c.args.partitions.items c.requires.lists c.requires.parted c.args.p c.args.q parts split ts are
-    number low_p low_q c.requires.numbers)
+    spelled d c.requires.sound c.parts.ensures.sound c.args.lists.now c.args.partitions.items c.requires.lists c.requires.parted c.args.p c.args.q parts split ts are c.requires.numbers
 
 pub returns-clause-applies : goal.returns-clause-applies
 returns-clause-applies c n found =
@@ -101,7 +96,7 @@ returns-clause-applies c n found =
     split-is (set_in d) c.args.p c.args.q c.in_ok-tree.tree.nodes.items (lists_of parts) nodes c.in_ok-split.ensures.parts c.in_ok-split.ensures.division in
     let are : AreTargets c.args.lists.now c.args.partitions.items (lists_of c.in_ok-split.split.parts.items) c.in_ok-targets.targets.items =
     subst (λ ps. AreTargets c.args.lists.now c.args.partitions.items (map versions_in ps) c.in_ok-targets.targets.items) c.deref-2.ensures.value c.in_ok-targets.ensures in
-    subst (λ us. first_off (says.Plan d.number c.args.p c.args.q us) n ≡ None) (sym c.new.ensures)
+    subst (λ e. first_off e n ≡ None) (sym c.event_of-event.ensures.is)
     (ap (of_live (plan_off c.args.p c.args.q ts)) found
     ∙ applies d c.requires.sound c.parts.ensures.sound c.args.lists.now c.args.partitions.items c.requires.lists c.requires.parted c.args.p c.args.q parts split ts are
     c.requires.idle c.requires.threshold c.requires.numbers)

@@ -18,10 +18,9 @@ use Rattle.ov_optimize.proofs.planning.plan_of.Goals as goal
 
 pub returns-in_err-lists-clause-world : goal.returns-in_err-lists-clause-world
 returns-in_err-lists-clause-world g c told w ds of =
-    let area : List ℕ = page_bytes (g.H.Host.state c.args.host.now) in
     passed_on (λ made. (Some (content (event_in made.event) [] []) ≡ Some (asked_as (plan_event ds.cvd.number c.args.p c.args.q ds))) × IsReport ds c.args.p c.args.q made.report) IsSpared
-    c.from_residual-in_err-lists.result c.in_err-lists.field-0.0 c.from_residual-in_err-lists.ensures
-    (spared w ds area (set_in c.args.d.now) of c.in_err-lists.field-0.0 (c.in_err-lists.ensures.answer told))
+    c.from_residual.result c.in_err-lists.field-0.0 c.from_residual.ensures
+    (spared w ds (page_bytes (g.H.Host.state c.args.host.now)) (set_in c.args.d.now) of c.in_err-lists.field-0.0 (c.in_err-lists.ensures.answer told))
 
 pub returns-in_err-partitions-clause-world : goal.returns-in_err-partitions-clause-world
 returns-in_err-partitions-clause-world g c told w ds of =
