@@ -137,8 +137,8 @@ pub all_bytes : (d : Cvd) (count : ℕ) → ArePartsFrom 1 d.layout.next d.layou
     → 4096 * sum_by part_pages d.layout.parts ≡ segment_bytes_for (set_in d) (vids count)
 all_bytes d count sound new none =
     ap (λ n. 4096 * n) (sym (all_read (vids count) d.layout.parts (λ part is.
-        is_served count part.versions (some_versions 1 d.layout.next d.layout.parts part sound is)
-        (parts_there count 1 d.layout.next d.layout.parts part sound new none is))))
+    is_served count part.versions (some_versions 1 d.layout.next d.layout.parts part sound is)
+    (parts_there count 1 d.layout.next d.layout.parts part sound new none is))))
 
 pub within : (parts : List Part) (k before now more all : ℕ) (part : Part) → k < length parts → part ≡ get_or parts k part → 4096 * sum_by part_pages parts ≡ all
     → now ≤ before + 4096 * sum_by part_pages (take k parts) → more ≤ now + 4096 * pages_in part.segments → more ≤ before + all

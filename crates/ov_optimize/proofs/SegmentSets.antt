@@ -100,9 +100,9 @@ pub sets_off : (schema : Shape) (area : List ℕ) (segments : List Extent) (coun
     → ((AreFilled sets × PartAgrees count last sets) → ⊥) → PartDisagrees schema area segments count last ⊎ HasEmptySegment schema area segments
 sets_off schema area segments count last sets have not_both = elim (filled_or_not have.contents) [
   | inl filled ↦ inl (record {
-      contents = have.contents;
-      read = have.read;
-      off = λ agrees. not_both (subst AreFilled (sym have.sets_are) filled, subst (PartAgrees count last) (sym have.sets_are) agrees);
-    })
+    contents = have.contents;
+    read = have.read;
+    off = λ agrees. not_both (subst AreFilled (sym have.sets_are) filled, subst (PartAgrees count last) (sym have.sets_are) agrees);
+  })
   | inr empty ↦ inr (record { contents = have.contents; read = have.read; empty = empty })
 ]

@@ -68,8 +68,7 @@ pub parts_there : (count least next : ℕ) (parts : List Part) (part : Part) →
     → (vid : ℕ) → has part.versions vid ≡ true → (1 ≤ vid) × (vid ≤ count)
 parts_there count least next [] part sound new none is vid there = absurd is
 parts_there count least next (p ∷ parts) part sound new none (inl same) vid there =
-    let own : has p.versions vid ≡ true = ap (λ (x : Part). has x.versions vid) (sym same) ∙ there in
-    (
+    let own : has p.versions vid ≡ true = ap (λ (x : Part). has x.versions vid) (sym same) ∙ there in (
       some_vid p.versions vid (or_none (has p.versions 0) (is_placed parts 0) none).0 own,
       omega (arith, below_new (count + 1) p.holds vid new.0 (sound.1.held vid own)),
     )

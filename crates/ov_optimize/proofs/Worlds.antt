@@ -188,8 +188,7 @@ module _ (w : World) (ds : Dataset) (area : List ℕ) (s : Numbers) (of : IsSetO
   parts_are (p ∷ ps) (q ∷ qs) (r ∷ rs) same ps_in qs_in are =
       let first : each_part (readings_of area).segment p ≡ each_part Some (shown_part all q) = heads _ _ _ _ same in
       let id : p.id ≡ q.id = ap (λ x. x.id) first in
-      let pieces : pieces_of ds.parts p.id ≡ q.pieces = ap (pieces_of ds.parts) id ∙ pieces_at ds.parts q fact.placed.ids_once (qs_in q (inl refl)) in
-      (
+      let pieces : pieces_of ds.parts p.id ≡ q.pieces = ap (pieces_of ds.parts) id ∙ pieces_at ds.parts q fact.placed.ids_once (qs_in q (inl refl)) in (
         record {
           id = are.0.is.id ∙ id;
           versions = are.0.is.versions ∙ ap (λ x. x.versions) first;
@@ -276,14 +275,14 @@ module _ (w : World) (ds : Dataset) (area : List ℕ) (s : Numbers) (of : IsSetO
   rids_low vid =
       all_of (λ rid. rid ≤ s.records) (rids_in ds vid)
       (λ rid there.
-          let one = of_map (rid_in all) (of_version (recs ds.cvd.versions []) vid) rid (of_sorted (λ (n : ℕ). n) (map (rid_in all) (of_version (recs ds.cvd.versions []) vid)) rid there) in
-          omega (
-            arith,
-            one.1.1,
-            rid_low all one.0
-                (are_in_at (of_version (recs ds.cvd.versions []) vid) all one.0 (at_known (recs ds.cvd.versions []) (vid - 1) all (all_known ds.cvd.versions)) one.1.0),
-            (numbers w area s ds of).records,
-          ))
+      let one = of_map (rid_in all) (of_version (recs ds.cvd.versions []) vid) rid (of_sorted (λ (n : ℕ). n) (map (rid_in all) (of_version (recs ds.cvd.versions []) vid)) rid there) in
+      omega (
+        arith,
+        one.1.1,
+        rid_low all one.0
+            (are_in_at (of_version (recs ds.cvd.versions []) vid) all one.0 (at_known (recs ds.cvd.versions []) (vid - 1) all (all_known ds.cvd.versions)) one.1.0),
+        (numbers w area s ds of).records,
+      ))
 
   no_high : (page : ℕ) → HasHighRid area s page → ⊥
   no_high page is =

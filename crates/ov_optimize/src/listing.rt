@@ -35,6 +35,7 @@ fn is_within(rids: &Members, last: u32) -> bool
     ensures within { IsTrue result ↔ All (λ rid. rid ≤ last) rids.now }
     ensures set { AreRids rids.now }
 {
+    // Only this call says that rids ascend, each once.
     let _ = rids.len();
     match rids.greatest() {
         Some(rid) => rid <= last,

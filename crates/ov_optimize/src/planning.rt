@@ -81,6 +81,7 @@ fn made_of(
 {
     let tree = tree_of(alloc, &d.versions)?;
     let split = split(alloc, &tree, p, q)?;
+    // A layout's partitions stand by their numbers, and each has versions.
     let _ = d.layout.parts();
     let targets = targets_of(alloc, lists, partitions, &split.parts)?;
     let report = report_of(&tree, &split, &targets);
