@@ -1,8 +1,8 @@
 -- A plan made of what was read: what its parts, its targets and its event have to be.
-use Rattle.std.proofs.Common.{◌≡◌, ◌<◌, ◌≤◌, ◌^◌, ℕ, ◌+◌, Bool, true, ◌&&◌, ◌==◌, List, [], ◌∷◌, length, get_or, map, Vec, Global, refl, sym, ◌∙◌, ap, subst, inl, inr, arith}
+use Rattle.std.proofs.Common.{◌≡◌, ◌≤◌, ℕ, true, ◌&&◌, ◌==◌, List, [], ◌∷◌, length, map, Vec, Global, refl, sym, ◌∙◌, ap, subst, inl, inr, arith}
 use Rattle.std.specs.Prelude.{None, nat_le, is_none}
 use Rattle.std.specs.List.{All, AllByRecursion, AllZip}
-use Rattle.std.proofs.lemmas.Bool.{and_from, eq-eqb, le-leb, leb-true}
+use Rattle.std.proofs.lemmas.Bool.{and_from, eq-eqb, le-leb}
 use Rattle.std.proofs.lemmas.List.{length-map}
 use Rattle.std.proofs.lemmas.List.Elements.{All-from_recursion, recursion_from_All}
 use Rattle.ov_event.specs.declared.event.Event.TheVariants as says
@@ -13,7 +13,6 @@ use Rattle.ov_graph.specs.declared.nodes.Node.{Node}
 use Rattle.ov_graph.specs.Splits.{IsDivision, parts_of}
 use Rattle.ov_graph.specs.Versions.{reduced}
 use Rattle.ov_host.specs.declared.area.Extent.{Extent}
-use Rattle.ov_layout.specs.declared.part.Part.{Part}
 use Rattle.ov_layout.specs.Parts.{AreParts}
 use Rattle.ov_lyre.specs.Parts.{lists_of}
 use Rattle.ov_match.specs.Matching.{AllSound, NumbersAscend}

@@ -1,5 +1,5 @@
 -- The partitions of a dataset, one after another.
-use Rattle.std.proofs.Common.{◌≡◌, ◌<◌, ◌≤◌, ◌+◌, ◌-◌, ◌*◌, ◌||◌, ◌==◌, ℕ, zero, suc, Bool, true, false, cond, List, [], ◌∷◌, ◌++◌, length, take, get_or, map, refl, sym, ◌∙◌, ap, subst, inl, inr, arith}
+use Rattle.std.proofs.Common.{◌≡◌, ◌<◌, ◌≤◌, ◌+◌, ◌*◌, ◌||◌, ◌==◌, ℕ, zero, suc, true, false, cond, List, [], ◌∷◌, ◌++◌, length, take, get_or, map, refl, sym, ◌∙◌, ap, subst, inl, inr, arith}
 use Rattle.std.specs.List.{AllZip, list_any, range_with_len, sum_by}
 use Rattle.std.proofs.lemmas.Bool.{cases_Bool, cond-true, eq-eqb, eqb-true, or_cases}
 use Rattle.std.proofs.lemmas.List.{map-append}
@@ -22,7 +22,7 @@ use Rattle.ov_catalog.specs.Sets.{part_in, set_in}
 use Rattle.ov_read.specs.Sizes.{pages_in, segment_bytes_for, serves_one}
 use Rattle.ov_targets.specs.declared.candidates.Partition.{Partition}
 use Rattle.ov_optimize.specs.Damages.{RefusesPart, RefusesPlan}
-use Rattle.ov_optimize.specs.Reading.{IsPartitionAt, IsPartitionOf, all_vids}
+use Rattle.ov_optimize.specs.Reading.{IsPartitionAt, IsPartitionOf}
 use Rattle.ov_optimize.proofs.RidSets.{or_right}
 use Rattle.ov_optimize.proofs.Vids.{parts_there}
 

@@ -1,12 +1,12 @@
 -- How many rids sets have, and the sets of a partition's segments.
-use Rattle.std.proofs.Common.{◌≡◌, ◌<◌, ◌≤◌, ◌^◌, ℕ, zero, suc, ◌+◌, ◌-◌, Bool, true, false, not, cond, ◌||◌, ◌==◌, List, [], ◌∷◌, ◌++◌, length, refl, sym, ◌∙◌, ap, subst, inl, inr, arith}
-use Rattle.std.specs.Prelude.{MatchOption, Option, None, Some, filter, if◌then◌else◌, is_some}
+use Rattle.std.proofs.Common.{◌≡◌, ◌<◌, ◌≤◌, ◌^◌, ℕ, suc, ◌+◌, ◌-◌, Bool, true, false, not, cond, ◌||◌, ◌==◌, List, [], ◌∷◌, length, refl, sym, ◌∙◌, ap, inl, inr, arith}
+use Rattle.std.specs.Prelude.{MatchOption, Option, None, Some, if◌then◌else◌, is_some}
 use Rattle.std.specs.List.{All}
 use Rattle.std.proofs.lemmas.Bool.{cases_Bool, cond-true, or_cases, eqb-true}
 use Rattle.std.proofs.lemmas.List.{length-append}
 use Rattle.std.proofs.lemmas.List.Elements.{All-head, All-tail}
 use Rattle.std.proofs.lemmas.List.Sums.{sum_by-cons}
-use Rattle.ov_member.specs.Rids.{AreRids, RiseFrom, has, left_out, shared}
+use Rattle.ov_member.specs.Rids.{AreRids, RiseFrom, has, left_out}
 use Rattle.ov_member.proofs.RidLemmas.{has-append, has-head}
 use Rattle.ov_model.specs.Lists.{joined}
 use Rattle.ov_model.specs.Placed.{times}

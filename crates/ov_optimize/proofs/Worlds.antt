@@ -6,7 +6,6 @@ use Rattle.std.specs.List.{All, AllZip, Contains, range_with_len}
 use Rattle.std.proofs.lemmas.Bool.{eq-eqb}
 use Rattle.std.proofs.lemmas.List.{length-map}
 use Rattle.std.proofs.lemmas.List.Elements.{All-contains}
-use Rattle.std.proofs.lemmas.List.FromFn.{length-range_with_len}
 use Rattle.ov_event.specs.declared.event.Event.{Event}
 use Rattle.ov_event.specs.declared.event.Event.TheVariants as says
 use Rattle.ov_event.specs.declared.event.PlanTarget.{PlanTarget}
@@ -19,8 +18,8 @@ use Rattle.ov_graph.specs.Versions.{reduced}
 use Rattle.ov_host.specs.declared.area.Extent.{Extent}
 use Rattle.ov_segment.specs.declared.numbered.Record.{Record}
 use Rattle.ov_model.specs.Book.{Version}
-use Rattle.ov_model.specs.Lists.{IsIn, joined}
-use Rattle.ov_model.specs.Placed.{IsPlaced, id_times}
+use Rattle.ov_model.specs.Lists.{IsIn}
+use Rattle.ov_model.specs.Placed.{id_times}
 use Rattle.ov_model.specs.Plans as plans
 use Rattle.ov_model.specs.Plans.{nodes_of_set, pieces_of, planned, plan_steps, records_in, sizes_of, target_steps}
 use Rattle.ov_model.specs.Records.{Rec, of_version, order_of, records_of, recs, rid_in}
@@ -31,12 +30,12 @@ use Rattle.ov_model.proofs.Counting.{one_if}
 use Rattle.ov_model.proofs.Growing.{length_recs}
 use Rattle.ov_model.proofs.Holds.{at_known}
 use Rattle.ov_model.proofs.Origins.{all_known}
-use Rattle.law_partitions.specs.Pieces.{AllFull, HasPieces, PartsArePieces}
+use Rattle.law_partitions.specs.Pieces.{AllFull, PartsArePieces}
 use Rattle.law_partitions.proofs.PiecePlan.{target_kept}
 use Rattle.ov_catalog.specs.Events as events
 use Rattle.ov_catalog.specs.Numbers.{PartNumbers, VersionNumbers, each_part, each_version}
 use Rattle.ov_catalog.specs.Raw.{event_in}
-use Rattle.ov_catalog.specs.Shown.{list_of, plan_event, said_of, shown_part, shown_target, shown_versions}
+use Rattle.ov_catalog.specs.Shown.{list_of, plan_event, shown_part, shown_versions}
 use Rattle.ov_catalog.specs.Stands.{asked_as}
 use Rattle.ov_catalog.proofs.Members.{heads, of_map, of_sorted, tails}
 use Rattle.ov_catalog.proofs.Ranking.{are_in_at}
@@ -45,7 +44,6 @@ use Rattle.law_events.proofs.Lacks.{new_lacks}
 use Rattle.law_image.specs.Pages.{readings_of}
 use Rattle.ov_read.specs.Agreement.{IsThere, Numbers}
 use Rattle.ov_read.specs.Agreement as agreement
-use Rattle.ov_read.specs.Damages.{HasBadList}
 use Rattle.ov_read.specs.OfWorld.{IsSetOf, IsSpared, rids_in}
 use Rattle.ov_read.proofs.Shows.{lists_shown, not_bad}
 use Rattle.law_reads.specs.Sights.{contents_of, record_in, records_in as kept_in}
@@ -57,13 +55,13 @@ use Rattle.law_reads.proofs.Served.{no_part_damage, segments_stand}
 use Rattle.law_reads.proofs.Together.{rids_listed}
 use Rattle.ov_targets.specs.declared.candidates.Partition.{Partition}
 use Rattle.ov_targets.specs.Targets.{AreTargets}
-use Rattle.ov_targets.specs.Telling.{AreOfSet, AreParts, targets_said}
+use Rattle.ov_targets.specs.Telling.{AreParts, targets_said}
 use Rattle.ov_targets.proofs.Agreeing.{targets_are}
 use Rattle.ov_optimize.specs.declared.planning.Planned.{Planned}
 use Rattle.ov_optimize.specs.declared.report.Report.{Report}
 use Rattle.ov_optimize.specs.Counting.{IsCounted, sizes_said, steps_said}
 use Rattle.ov_optimize.specs.Damages.{HasBadPart, HasHighRid, IsBadPart, IsPlanDamage, RefusesPlan}
-use Rattle.ov_optimize.specs.Planned.{IsMade, IsPlanned, IsReport, Says}
+use Rattle.ov_optimize.specs.Planned.{IsMade, IsPlanned, IsReport}
 use Rattle.ov_optimize.specs.Reading.{IsListAt, IsPartitionAt, all_vids}
 use Rattle.ov_optimize.proofs.VersionLists.{all_there}
 

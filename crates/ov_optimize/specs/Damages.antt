@@ -2,7 +2,7 @@
 --     HasHighRid area s page      a version's list has a rid over the number of the dataset's records
 --     IsBadPart area s part page      a partition is damaged, or doesn't bear out its numbers
 --     RefusesPlan e area s      why there is no plan
-use Rattle.std.specs.Prelude.{◌≡◌, ◌⊎◌, ◌≤◌, ℕ, List, [], map}
+use Rattle.std.specs.Prelude.{◌≡◌, ◌⊎◌, ◌≤◌, ℕ, List, []}
 use Rattle.std.specs.List.{All, Contains}
 use Rattle.ov_host.specs.declared.area.Extent.{Extent}
 use Rattle.ov_segment.specs.declared.numbered.Record.{Record}

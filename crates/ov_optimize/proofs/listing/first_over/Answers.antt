@@ -1,4 +1,4 @@
-use Rattle.std.proofs.Common.{◌≡◌, ◌≤◌, ◌+◌, true, ℕ, List, length, take, subst, sym, rules, arith}
+use Rattle.std.proofs.Common.{◌≡◌, ◌≤◌, true, ℕ, List, subst, rules, arith}
 use Rattle.std.specs.List.{All}
 use Rattle.std.proofs.lemmas.List.{take_all}
 use Rattle.std.proofs.lemmas.List.Elements.{All-more}

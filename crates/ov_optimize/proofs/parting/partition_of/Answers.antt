@@ -1,5 +1,4 @@
 use Rattle.std.proofs.Common.{◌≡◌, false, true, ℕ, List, sym, ◌∙◌, ap, subst, inr, rules}
-use Rattle.ov_catalog.specs.Sets.{part_in, set_in}
 use Rattle.ov_fetch.specs.Extents.{page_bytes}
 use Rattle.ov_fetch.specs.Rows.{HaveRids}
 use Rattle.ov_read.specs.Agreement.{PartAgrees}

@@ -1,4 +1,4 @@
-use Rattle.std.proofs.Common.{◌≡◌, true, ℕ, List, [], ◌∙◌, map, subst, sym}
+use Rattle.std.proofs.Common.{◌≡◌, [], ◌∙◌, map, subst}
 use Rattle.std.specs.Prelude.{Some}
 use Rattle.std.specs.List.{AllZip}
 use Rattle.ov_catalog.specs.Raw.{event_in}

@@ -1,5 +1,4 @@
-use Rattle.std.proofs.Common.{◌≡◌, ◌<◌, ◌^◌, true, sym, ◌∙◌, rules, arith}
-use Rattle.ov_optimize.specs.Reading.{AreFilled}
+use Rattle.std.proofs.Common.{◌≡◌, true, sym, ◌∙◌, rules, arith}
 use Rattle.ov_optimize.proofs.RidSets.{sound_sets, together_agrees}
 use Rattle.ov_optimize.proofs.segments.are_borne_out.Goals as goal
 

@@ -1,5 +1,4 @@
 use Rattle.std.proofs.Common.{◌≡◌, ◌<◌, ℕ, zero, suc, List, [], ◌∷◌, length, map, take, get_or, refl, sym, ◌∙◌, ap, subst, arith}
-use Rattle.std.proofs.lemmas.List.{length-map}
 use Rattle.ov_graph.specs.Versions as graph
 use Rattle.ov_graph.specs.Versions.{MayFollow, no_version}
 use Rattle.ov_catalog.specs.declared.cvd.Version.{Version}
