@@ -40,10 +40,10 @@ IsBadPart area s part page =
     ⊎ ((page ≡ first_page part.segments)
     × (PartDisagrees s.schema area part.segments part.records s.records ⊎ HasEmptySegment s.schema area part.segments))
 
-abbrev pub RefusesPart : FetchErr → List ℕ → Numbers → PartNumbers Extent → Type 0
-RefusesPart Host area s part = Unit {0}
-RefusesPart Memory area s part = Unit {0}
-RefusesPart (Damaged page) area s part = IsBadPart area s part page
+abbrev pub RefusesPartition : FetchErr → List ℕ → Numbers → PartNumbers Extent → Type 0
+RefusesPartition Host area s part = Unit {0}
+RefusesPartition Memory area s part = Unit {0}
+RefusesPartition (Damaged page) area s part = IsBadPart area s part page
 
 pub record HasBadPart (area : List ℕ) (s : Numbers) (page : ℕ) : Type 0 where
   pub part : PartNumbers Extent

@@ -7,7 +7,7 @@ ghost use Rattle.ov_catalog.specs.Ready.{IsSet};
 ghost use Rattle.ov_catalog.specs.Sets.{part_in, set_in};
 ghost use Rattle.ov_fetch.specs.Extents.{Looked, page_bytes};
 ghost use Rattle.ov_read.specs.Sizes.{pages_in, segment_bytes_for};
-ghost use Rattle.ov_optimize.specs.Damages.{RefusesPart, RefusesPlan};
+ghost use Rattle.ov_optimize.specs.Damages.{RefusesPartition, RefusesPlan};
 ghost use Rattle.ov_optimize.specs.Reading.{IsPartitionAt, IsPartitionOf, all_vids};
 
 use crate::segments::{are_borne_out, first_page, sets_of};
@@ -32,7 +32,7 @@ fn partition_of<H: Host>(
     ensures is { IfOk result (IsPartitionOf d.now.records (part_in part.now)) }
     ensures answer { (H.state host.old).tells ≡ true → MatchResult result
         (IsPartitionAt (page_bytes (H.state host.old)) (set_in d.now) (part_in part.now))
-        (λ e. RefusesPart e (page_bytes (H.state host.old)) (set_in d.now) (part_in part.now)) }
+        (λ e. RefusesPartition e (page_bytes (H.state host.old)) (set_in d.now) (part_in part.now)) }
 {
     let segments = part.segments.as_slice();
     let sets = sets_of(alloc, host, &d.schema, segments)?;
