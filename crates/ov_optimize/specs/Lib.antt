@@ -1,0 +1,4 @@
+pub mod Reading
+pub mod Damages
+pub mod Counting
+pub mod Planned
