@@ -5,6 +5,7 @@ use Rattle.std.specs.List.{All, AllZip, Contains}
 use Rattle.std.proofs.lemmas.Bool.{cases_Bool, eq-eqb, ne_eqb}
 use Rattle.ov_host.specs.declared.area.Extent.{Extent}
 use Rattle.ov_member.specs.Rids.{has}
+use Rattle.ov_member.proofs.RidLemmas.{has-head}
 use Rattle.ov_value.specs.Shapes.{Shape}
 use Rattle.ov_segment.specs.declared.numbered.Record.{Record}
 use Rattle.ov_segment.specs.Segments.{AreRecords}
@@ -152,7 +153,7 @@ module _ (s : Numbers) (versions : List ℕ) (lists : List (List ℕ)) (served :
 
   first_rid : (set : List ℕ) → 0 < length set → has set (get_or set 0 0) ≡ true
   first_rid [] some = absurd (omega (arith, some))
-  first_rid (rid ∷ set) some = ap (λ b. b || has set rid) (eq-eqb rid rid refl)
+  first_rid (rid ∷ set) some = has-head rid set
 
   bad_segment : (area : List ℕ) (rids : List ℕ) (segments extents : List Extent) (sets : List (List ℕ)) (page : ℕ) → ((vid : ℕ) → has served vid ≡ true → segments_of s vid ≡ segments)
       → AllZip (IsPartOf s versions lists served) extents sets → ((rid : ℕ) → is_asked sets rid ≡ true → has rids rid ≡ true) → 0 < length sets

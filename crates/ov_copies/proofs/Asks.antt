@@ -1,12 +1,12 @@
 -- What is asked of a partition, one version more.
-use Rattle.std.proofs.Common.{◌≡◌, ◌<◌, ℕ, zero, suc, Bool, true, false, not, ◌&&◌, ◌||◌, ◌==◌, Some, None, List, [], ◌∷◌, ◌++◌, length, get_or, refl, sym, ◌∙◌, ap, subst, arith}
+use Rattle.std.proofs.Common.{◌≡◌, ◌<◌, ℕ, zero, suc, Bool, true, false, not, ◌&&◌, ◌||◌, ◌==◌, Option, Some, None, List, [], ◌∷◌, ◌++◌, length, get_or, refl, sym, ◌∙◌, ap, subst, arith}
 use Rattle.std.specs.List.{AllZip}
 use Rattle.std.proofs.lemmas.Bool.{eqb-true}
 use Rattle.std.proofs.lemmas.List.{append-nil}
 use Rattle.std.proofs.lemmas.List.Folds.{list_any-append}
 use Rattle.ov_host.specs.declared.area.Extent.{Extent}
 use Rattle.ov_member.specs.Rids.{AreRids, has, left_out, shared}
-use Rattle.ov_member.proofs.RidLemmas.{RiseFrom-filter, has-append, has-filter, same_from}
+use Rattle.ov_member.proofs.RidLemmas.{RiseFrom-filter, has-append, has-filter, has-head, same_from}
 use Rattle.ov_fetch.specs.Rows.{is_asked}
 use Rattle.ov_read.specs.Agreement.{Numbers, list_of}
 use Rattle.ov_read.specs.Gathering.{ArePlaces, place_at}
@@ -197,11 +197,7 @@ skips s versions lists served passed left after asked vid nowhere h = record {
 -- a member of a list
 pub member_at : (xs : List ℕ) (k : ℕ) → k < length xs → has xs (get_or xs k 0) ≡ true
 member_at [] k low = absurd (omega (arith, low))
-member_at (x ∷ xs) zero low = by (x == x) refl
-  where
-    by : (b : Bool) → (x == x) ≡ b → (b || has xs x) ≡ true
-    by true e = refl
-    by false e = absurd cc
+member_at (x ∷ xs) zero low = has-head x xs
 member_at (x ∷ xs) (suc k) low = by (x == get_or xs k 0) (member_at xs k (omega (arith, low)))
   where
     by : (b : Bool) → has xs (get_or xs k 0) ≡ true → (b || has xs (get_or xs k 0)) ≡ true

@@ -4,3 +4,4 @@ pub mod Passing
 pub mod Counting
 pub mod Spelling
 pub mod Worlds
+pub mod Same

@@ -9,6 +9,7 @@ use Rattle.std.proofs.lemmas.List.{append-nil, length-map, take_more}
 use Rattle.ov_event.specs.Fields.{IsExtent}
 use Rattle.ov_host.specs.declared.area.Extent.{Extent}
 use Rattle.ov_value.specs.Shapes.{Shape}
+use Rattle.ov_value.specs.declared.value.Value.{Value}
 use Rattle.ov_value.specs.Spelling.{row_spelling}
 use Rattle.ov_segment.specs.declared.numbered.Record.{Record}
 use Rattle.ov_segment.specs.Segments.{AreRecords, record_bytes, segment_spelling, with_mark}
@@ -51,6 +52,9 @@ small schema rs are = all_of (λ r. length (row_spelling r.row).bytes ≤ 65536)
 
 pub none : Record
 none = record { rid = 0; row = [] }
+
+pub one_of : (rid : ℕ) (row : List Value) (r : Record) → rid ≡ r.rid → row ≡ r.row → ◌≡◌ {A = Record} (record { rid = rid; row = row }) r
+one_of rid row r same rows = λ i. record { rid = same i; row = rows i }
 
 pub spelled_more : (rs : List Record) (i : ℕ) → i < length rs → segment_spelling (take (i + 1) rs) ≡ segment_spelling (take i rs) ++ record_bytes (get_or rs i none)
 spelled_more rs i low =
