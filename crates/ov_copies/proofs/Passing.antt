@@ -9,6 +9,7 @@ use Rattle.ov_host.specs.Host.{State}
 use Rattle.ov_layout.specs.declared.part.Part.{Part}
 use Rattle.ov_layout.specs.Parts.{is_placed, serves as serves_in, times_placed}
 use Rattle.ov_member.specs.Rids.{AreRids, has}
+use Rattle.ov_member.proofs.RidLemmas.{has-head}
 use Rattle.ov_value.specs.Shapes.{Shape}
 use Rattle.ov_segment.specs.declared.numbered.Record.{Record}
 use Rattle.ov_segment.specs.Tables.{Content}
@@ -170,8 +171,18 @@ listed_at [] rid is = absurd (no is)
 listed_at (list ∷ lists) rid is = by (has list rid) refl is (λ later. listed_at lists rid later)
   where
     by : (b : Bool) → has list rid ≡ b → (b || is_asked lists rid) ≡ true → (is_asked lists rid ≡ true → IsAt lists rid) → IsAt (list ∷ lists) rid
-    by true e yes rest = record { place = 0; low = omega arith; member = e }
-    by false e yes rest = let at = rest yes in record { place = suc at.place; low = omega (arith, at.low); member = at.member }
+    by true e some rest = record { place = 0; low = omega arith; member = e }
+    by false e some rest = let at = rest some in record { place = suc at.place; low = omega (arith, at.low); member = at.member }
+
+first_in : (rids : List ℕ) → 1 ≤ length rids → has rids (get_or rids 0 0) ≡ true
+first_in [] some = absurd (omega (arith, some))
+first_in (rid ∷ rids) some = has-head rid rids
+
+pub some_versions : (versions : List ℕ) (lists : List (List ℕ)) (rids : List ℕ) → 1 ≤ length rids → ((rid : ℕ) → has rids rid ≡ true → is_asked lists rid ≡ true)
+    → length lists ≡ length versions → 1 ≤ length versions
+some_versions versions lists rids some listed paired =
+    let at = listed_at lists (get_or rids 0 0) (listed (get_or rids 0 0) (first_in rids some))
+    in omega (arith, at.low, paired)
 
 pub placed_all : (d : Cvd) (vid : ℕ) → IsSet d → IsThere (set_in d) vid → is_placed d.layout.parts vid ≡ true
 placed_all d vid sound there = sound.placed vid there.0 (omega (arith, there.1, length-map d.versions.items version_in))
@@ -195,7 +206,7 @@ ends s0 s1 d versions lists rids left found sound there paired listed h told =
     let taken = h.told told
     in record {
       once = λ rid.
-          let out : cond (has left rid) 1 0 ≡ 0 = ap (λ b. cond b 1 0) (none_is s0 s1 d versions lists rids left found sound there paired listed h rid)
+          let out : ◌≡◌ {A = ℕ} (cond (has left rid) 1 0) 0 = ap (λ b. cond b 1 0) (none_is s0 s1 d versions lists rids left found sound there paired listed h rid)
           in let was = taken.once rid
           in omega (arith, out, was);
       each = taken.each;

@@ -6,7 +6,9 @@ use Rattle.std.specs.Int.{w32, to_be_bytes}
 use Rattle.std.proofs.lemmas.Bool.Decides.{nat_tests}
 use Rattle.std.proofs.lemmas.Grind.{flat_map-append}
 use Rattle.std.proofs.lemmas.List.{append-nil, length-map, take_more}
+use Rattle.ov_event.specs.declared.event.Event.TheVariants as says
 use Rattle.ov_event.specs.Fields.{IsExtent}
+use Rattle.ov_event.specs.Spelling.{IsEvent}
 use Rattle.ov_host.specs.declared.area.Extent.{Extent}
 use Rattle.ov_value.specs.Shapes.{Shape}
 use Rattle.ov_value.specs.declared.value.Value.{Value}
@@ -75,3 +77,9 @@ sound_extent n some low = grind (arith, nat_tests)
 
 pub extent_sound : (bytes : List ℕ) → 0 < length bytes → length bytes < 2 ^ 25 → (not ((extent_at 0 bytes).bytes == 0) && is_extent (extent_at 0 bytes)) ≡ true
 extent_sound bytes some low = ap (λ (e : Extent). not (e.bytes == 0) && is_extent e) (extent_is bytes) ∙ sound_extent (length bytes) some low
+
+-- ---- their event
+
+pub copy_spelled : (cvd count : ℕ) (segment : Extent) → cvd < 2 ^ 32 → count < 2 ^ 32 → IsExtent segment → IsEvent (says.Copy cvd count segment)
+unfolding IsEvent
+copy_spelled cvd count segment low few fits = (low, few, fits)

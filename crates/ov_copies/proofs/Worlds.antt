@@ -16,7 +16,6 @@ use Rattle.ov_model.specs.World.{Dataset, World}
 use Rattle.ov_catalog.specs.Shown.{Records, kept_as, list_of, segment_of, sorted_by}
 use Rattle.ov_catalog.proofs.Members.{all_at, heads, of_map, of_sorted, tails}
 use Rattle.ov_core.specs.Brought.{segments_in}
-use Rattle.law_events.proofs.Counts.{are_at}
 use Rattle.law_image.specs.Segments.{as_kept, segment_in}
 use Rattle.law_image.proofs.Readers.{rows_read}
 use Rattle.law_reads.specs.Sights.{record_in, records_in}
@@ -49,6 +48,11 @@ same_records all (x ∷ xs) (y ∷ ys) p q same =
     let first : x ≡ y = one_each all x y (p x (inl refl)) (q y (inl refl)) (heads x.rid y.rid (rids_of xs) (rids_of ys) same)
     in let rest : xs ≡ ys = same_records all xs ys (λ z is. p z (inr is)) (λ z is. q z (inr is)) (tails x.rid y.rid (rids_of xs) (rids_of ys) same)
     in λ i. first i ∷ rest i
+
+known_in : (rs all : List Rec) (r : Rec) → AreIn rs all → IsIn rs r → IsIn all r
+known_in [] all r are is = absurd is
+known_in (x ∷ rs) all r are (inl same) = subst (IsIn all) (sym same) are.0
+known_in (x ∷ rs) all r are (inr later) = known_in rs all r are.1 later
 
 kept_map : (all rs : List Rec) → map as_kept (map (record_in all) rs) ≡ map (kept_as all) rs
 kept_map all [] = refl
@@ -95,7 +99,7 @@ module _ (w : World) (area : List ℕ) (s : Numbers) (d : Dataset) (of_world : I
       (λ x here. from_rec x (all_at (IsFrom area s versions lists) records x copied.each here))
       (λ y here.
       let of = of_map (record_in all) piece y (of_sorted (λ r. r.rid) (map (record_in all) piece) y here)
-      in (of.0, (are_at piece all of.0 known of.1.0, of.1.1)))
+      in (of.0, (known_in piece all of.0 known of.1.0, of.1.1)))
       (copied.rids_are ∙ is ∙ sym (rids_listed all piece))
 
   some_bytes : (bytes : List ℕ) → 0 < length bytes → segments_in bytes ≡ segment_in bytes ∷ []

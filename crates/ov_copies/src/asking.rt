@@ -1,9 +1,9 @@
 // What is asked of a partition.
 
-ghost use Rattle.std.specs.Prelude.{◌≡◌, All, IfOk, OnOk, length};
+ghost use Rattle.std.specs.Prelude.{◌≡◌, ◌<◌, [], All, IfOk, OnOk, length, slice_index_or};
 ghost use Rattle.ov_catalog.specs.Sets.{set_in};
 ghost use Rattle.ov_member.specs.Rids.{AreRids};
-ghost use Rattle.ov_read.specs.Agreement.{IsThere};
+ghost use Rattle.ov_read.specs.Agreement.{IsThere, list_of};
 ghost use Rattle.ov_read.specs.Gathering.{ArePlaces};
 ghost use Rattle.ov_copies.specs.Asking.{IsAsked, IsMore};
 
@@ -42,14 +42,32 @@ pub(crate) fn asked_of(
     };
     for vid in served {
         match place_in(places, *vid) {
-            Some(place) => {
-                let list = extent_of(d, versions[place]);
-                ask(alloc, &mut asked, left, &lists[place], list)?;
-            }
+            Some(place) => ask_at(alloc, d, versions, lists, place, &mut asked, left)?,
             None => {}
         }
     }
     Ok(asked)
+}
+
+// Asks for those rids that are left and that the version at this place has.
+fn ask_at(
+    alloc: Global,
+    d: &Cvd,
+    versions: &[u32],
+    lists: &[Members],
+    place: usize,
+    asked: &mut Asked,
+    left: &mut Members,
+) -> Result<(), AllocError>
+    requires there { All (IsThere (set_in d.now)) versions.now }
+    requires paired { length lists.now ≡ length versions.now }
+    requires low { place < length versions.now }
+    requires set { AreRids left.old }
+    ensures set { OnOk result (AreRids left.new) }
+    ensures more { OnOk result (IsMore (slice_index_or lists.now place []) (list_of (set_in d.now) (slice_index_or versions.now place 0)) left.old left.new asked.old asked.new) }
+{
+    let list = extent_of(d, versions[place]);
+    ask(alloc, asked, left, &lists[place], list)
 }
 
 // Asks for those rids that are left and on this list, if there are any.

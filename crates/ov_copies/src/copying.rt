@@ -22,7 +22,7 @@ ghost use Rattle.ov_read.specs.OfWorld.{IsSetOf, IsSpared, rids_in};
 ghost use Rattle.ov_copies.specs.Copies.{AreCopied, IsCopied, RefusesCopy};
 
 use crate::gathering::gather;
-use crate::places::extent_of;
+use crate::places::first_page;
 use crate::segment::{has_rids, segment_of, unplaced};
 use ov_catalog::Cvd;
 use ov_core::Brought;
@@ -131,7 +131,7 @@ fn records_of<H: Host>(
     // Only on a host that reads differently from call to call are they others.
     if !has_rids(alloc, &records, rids)? {
         return Err(FetchErr::Damaged {
-            page: extent_of(d, versions[0]).page,
+            page: first_page(d, versions),
         });
     }
     Ok(records)

@@ -1,6 +1,6 @@
 // Where versions stand among those that were asked for, and where their lists are.
 
-ghost use Rattle.std.specs.Prelude.{◌≡◌, ◌≤◌, ◌<◌, ◌^◌, ℕ, All, IfOk};
+ghost use Rattle.std.specs.Prelude.{◌≡◌, ◌≤◌, ◌<◌, ◌^◌, ℕ, All, IfOk, length, slice_index_or};
 ghost use Rattle.ov_catalog.specs.Sets.{set_in};
 ghost use Rattle.ov_model.specs.Placed.{times};
 ghost use Rattle.ov_read.specs.Agreement.{IsThere, list_of};
@@ -46,4 +46,13 @@ pub(crate) fn extent_of(d: &Cvd, vid: u32) -> Extent
     ensures { result ≡ list_of (set_in d.now) vid }
 {
     d.versions[vid as usize - 1].list
+}
+
+/// The first page of the list of the first of these versions.
+pub(crate) fn first_page(d: &Cvd, versions: &[u32]) -> u32
+    requires there { All (IsThere (set_in d.now)) versions.now }
+    requires some { 1 ≤ length versions.now }
+    ensures { result ≡ (list_of (set_in d.now) (slice_index_or versions.now 0 0)).page }
+{
+    extent_of(d, versions[0]).page
 }
