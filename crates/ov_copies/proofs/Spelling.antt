@@ -17,6 +17,7 @@ use Rattle.ov_segment.specs.declared.numbered.Record.{Record}
 use Rattle.ov_segment.specs.Segments.{AreRecords, record_bytes, segment_spelling, with_mark}
 use Rattle.ov_model.specs.Lists.{IsIn}
 use Rattle.ov_catalog.specs.Testing.{is_extent}
+use Rattle.ov_fetch.specs.Extents.{rids_of}
 use Rattle.ov_core.specs.Brought.{extent_at}
 use Rattle.law_reads.proofs.Orders.{all_of}
 
@@ -41,6 +42,15 @@ sized schema last (r ∷ rs) are =
     in let whole : length (segment_spelling (r ∷ rs)) ≡ length (record_bytes r) + length (segment_spelling rs) = length-append (record_bytes r) (segment_spelling rs)
     in let here = record_long r
     in record { least = omega (arith, whole, here, rest.least); most = omega (arith, whole, here, rest.most, are.0.small) }
+
+-- those of one record at least and of 256 at most
+pub bounded : (schema : Shape) (records : List Record) (rids bytes : List ℕ) → AreRecords schema 0 records → rids_of records ≡ rids → 1 ≤ length rids → length rids ≤ 256
+    → bytes ≡ segment_spelling records → (0 < length bytes) × (length bytes < 2 ^ 25)
+bounded schema records rids bytes are rids_are some few is =
+    let count : length records ≡ length rids = sym (length-map records (λ (r : Record). r.rid)) ∙ ap length rids_are
+    in let size = sized schema 0 records are
+    in let long : length bytes ≡ length (segment_spelling records) = ap length is
+    in (omega (arith, count, long, some, size.least), omega (arith, count, long, few, size.most))
 
 small_in : (schema : Shape) (last : ℕ) (rs : List Record) (r : Record) → AreRecords schema last rs → IsIn rs r → length (row_spelling r.row).bytes ≤ 65536
 small_in schema last [] r are is = absurd is

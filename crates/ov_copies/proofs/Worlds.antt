@@ -82,7 +82,7 @@ listed_there s versions lists vid rid there is =
     subst (IsThere s) (get_or_is versions is.place vid 0 is.version) (there is.place 0 (get_low versions is.place vid is.version))
 
 module _ (w : World) (area : List ℕ) (s : Numbers) (d : Dataset) (of_world : IsSetOf w d area s) (versions : List ℕ) (lists : List (List ℕ)) (there : All (IsThere s) versions) where
-  all : List Rec
+  abbrev pub all : List Rec
   all = order_of d.cvd.versions
 
   from_rec : (r : Record) → IsFrom area s versions lists r → IsRec all r
