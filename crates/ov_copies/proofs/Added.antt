@@ -1,8 +1,8 @@
 -- The records of one partition.
-use Rattle.std.proofs.Common.{◌≡◌, ◌<◌, ◌==◌, ℕ, zero, suc, Bool, true, false, ◌||◌, cond, Option, Some, None, List, [], ◌∷◌, length, get_or, refl, sym, ◌∙◌, ap, subst, inl, inr, arith}
+use Rattle.std.proofs.Common.{◌≡◌, ◌<◌, ℕ, zero, suc, Bool, true, false, ◌||◌, cond, Option, Some, None, List, [], ◌∷◌, length, get_or, refl, sym, ◌∙◌, ap, subst, inl, inr, arith}
 use Rattle.std.specs.Prelude.{is_some, slice_get}
-use Rattle.std.specs.List.{All, AllZip, Contains}
-use Rattle.std.proofs.lemmas.Bool.{cases_Bool, eq-eqb, ne_eqb}
+use Rattle.std.specs.List.{AllZip}
+use Rattle.std.proofs.lemmas.Bool.{eq-eqb, ne_eqb}
 use Rattle.ov_host.specs.declared.area.Extent.{Extent}
 use Rattle.ov_member.specs.Rids.{has}
 use Rattle.ov_member.proofs.RidLemmas.{has-head}
@@ -13,14 +13,13 @@ use Rattle.ov_model.specs.Lists.{IsIn}
 use Rattle.ov_fetch.specs.declared.errors.FetchErr.{FetchErr}
 use Rattle.ov_fetch.specs.declared.errors.FetchErr.TheVariants.{Host, Memory, Damaged}
 use Rattle.ov_fetch.specs.Extents.{rids_of}
-use Rattle.ov_fetch.specs.Rows.{AreRows, AreSegments, HasNoSegment, is_asked, joined, record_of}
+use Rattle.ov_fetch.specs.Rows.{AreSegments, HasNoSegment, is_asked, joined, record_of}
 use Rattle.ov_fetch.proofs.Ordered.{has_record}
-use Rattle.law_reads.proofs.Orders.{all_of}
 use Rattle.law_reads.proofs.Together.{in_has}
 use Rattle.ov_catalog.proofs.Members.{in_map}
-use Rattle.ov_read.specs.Agreement.{Numbers, list_of, segments_of}
+use Rattle.ov_read.specs.Agreement.{Numbers, segments_of}
 use Rattle.ov_copies.specs.Asking.{IsPartOf}
-use Rattle.ov_copies.specs.Copies.{HasBadSegment, IsFrom, IsOnList, LacksWanted, RefusesCopy}
+use Rattle.ov_copies.specs.Copies.{HasBadSegment, IsFrom, IsOnList, RefusesCopy}
 use Rattle.ov_copies.specs.Gathering.{AreFor, RefusesPart}
 
 -- ---- what was asked for

@@ -1,16 +1,14 @@
 -- The records of partitions, one partition more.
-use Rattle.std.proofs.Common.{◌≡◌, ◌<◌, ◌≤◌, ◌+◌, ◌-◌, ℕ, zero, suc, Bool, true, false, ◌||◌, cond, List, [], ◌∷◌, ◌++◌, length, map, take, get_or, refl, sym, ◌∙◌, ap, subst, inl, inr, arith}
+use Rattle.std.proofs.Common.{◌≡◌, ◌<◌, ◌≤◌, ◌+◌, ℕ, suc, Bool, true, false, ◌||◌, cond, List, [], ◌∷◌, ◌++◌, length, get_or, refl, sym, ◌∙◌, ap, subst, arith}
 use Rattle.std.specs.List.{All, AllByRecursion}
 use Rattle.std.proofs.lemmas.List.{length-map, map-append}
 use Rattle.std.proofs.lemmas.List.Elements.{All-append, All-nil}
 use Rattle.std.proofs.lemmas.List.Folds.{list_any-append}
-use Rattle.ov_host.specs.declared.area.Extent.{Extent}
 use Rattle.ov_host.specs.Host.{State}
 use Rattle.ov_layout.specs.declared.part.Part.{Part}
 use Rattle.ov_layout.specs.Parts.{is_placed, serves as serves_in, times_placed}
 use Rattle.ov_member.specs.Rids.{AreRids, has}
 use Rattle.ov_member.proofs.RidLemmas.{has-head}
-use Rattle.ov_value.specs.Shapes.{Shape}
 use Rattle.ov_segment.specs.declared.numbered.Record.{Record}
 use Rattle.ov_segment.specs.Tables.{Content}
 use Rattle.ov_catalog.specs.declared.cvd.Cvd.{Cvd}
@@ -28,7 +26,7 @@ use Rattle.ov_read.specs.Agreement.{IsThere, Numbers, segments_of}
 use Rattle.ov_read.proofs.Passed.{own_segments}
 use Rattle.law_reads.proofs.Orders.{all_of}
 use Rattle.ov_copies.specs.declared.asking.Asked.{Asked}
-use Rattle.ov_copies.specs.Asking.{IsAsked, IsPartOf}
+use Rattle.ov_copies.specs.Asking.{IsAsked}
 use Rattle.ov_copies.specs.Copies.{IsFrom, RefusesCopy}
 use Rattle.ov_copies.specs.Gathering.{AreFor, AreGathered, IsAdded, RefusesPart}
 use Rattle.ov_copies.proofs.Added.{from, has_asked, one_of, refuses}

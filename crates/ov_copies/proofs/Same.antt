@@ -1,5 +1,5 @@
 -- Sets that leave nothing out of each other are the same.
-use Rattle.std.proofs.Common.{◌≡◌, ◌<◌, ℕ, Bool, true, false, not, ◌&&◌, List, [], ◌∷◌, length, refl, sym, ◌∙◌, ap, subst, arith}
+use Rattle.std.proofs.Common.{◌≡◌, ℕ, Bool, true, false, not, ◌&&◌, List, [], ◌∷◌, length, refl, sym, ◌∙◌, ap, arith}
 use Rattle.ov_member.specs.Rids.{AreRids, has, left_out}
 use Rattle.ov_member.proofs.RidLemmas.{RiseFrom-filter, has-filter, same_from}
 

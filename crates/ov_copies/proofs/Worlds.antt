@@ -1,19 +1,17 @@
 -- What is copied of a dataset of a World, and that nothing of it is damaged.
-use Rattle.std.proofs.Common.{◌≡◌, ◌<◌, ℕ, zero, suc, true, List, [], ◌∷◌, length, map, get_or, refl, sym, ◌∙◌, ap, subst, inl, inr, arith}
-use Rattle.std.specs.Prelude.{Some, None, slice_get}
+use Rattle.std.proofs.Common.{◌≡◌, ◌<◌, ℕ, zero, suc, List, [], ◌∷◌, length, map, get_or, refl, sym, ◌∙◌, ap, subst, inl, inr, arith}
+use Rattle.std.specs.Prelude.{Some, slice_get}
 use Rattle.std.specs.List.{All}
 use Rattle.ov_member.specs.Rids.{has}
-use Rattle.ov_value.specs.Shapes.{Shape}
 use Rattle.ov_segment.specs.declared.numbered.Record.{Record}
-use Rattle.ov_segment.specs.Segments.{AreRecords, segment_spelling}
 use Rattle.ov_fetch.specs.declared.errors.FetchErr.{FetchErr}
 use Rattle.ov_fetch.specs.declared.errors.FetchErr.TheVariants.{Host, Memory, Damaged}
 use Rattle.ov_fetch.specs.Extents.{rids_of}
-use Rattle.ov_fetch.specs.Rows.{joined, record_of}
+use Rattle.ov_fetch.specs.Rows.{joined}
 use Rattle.ov_model.specs.Lists.{IsIn, AreIn}
-use Rattle.ov_model.specs.Records.{Rec, order_of, rid_in}
+use Rattle.ov_model.specs.Records.{Rec, order_of}
 use Rattle.ov_model.specs.World.{Dataset, World}
-use Rattle.ov_catalog.specs.Shown.{Records, kept_as, list_of, segment_of, sorted_by}
+use Rattle.ov_catalog.specs.Shown.{kept_as, list_of, segment_of, sorted_by}
 use Rattle.ov_catalog.proofs.Members.{all_at, heads, of_map, of_sorted, tails}
 use Rattle.ov_core.specs.Brought.{segments_in}
 use Rattle.law_image.specs.Segments.{as_kept, segment_in}
@@ -24,7 +22,6 @@ use Rattle.law_reads.proofs.Orders.{place_same}
 use Rattle.law_reads.proofs.Served.{Serves, from_contents, no_damage, record_there, segments_stand, serving_at}
 use Rattle.law_reads.proofs.Stored.{segments_once, sorted_map}
 use Rattle.law_reads.proofs.Together.{rids_listed}
-
 use Rattle.ov_read.specs.Agreement.{IsThere, Numbers, segments_of}
 use Rattle.ov_read.specs.OfWorld.{IsSetOf, IsSpared, rids_in}
 use Rattle.ov_copies.specs.Copies.{AreCopied, IsCopied, IsFrom, IsOnList, RefusesCopy}

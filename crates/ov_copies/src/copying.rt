@@ -128,7 +128,7 @@ fn records_of<H: Host>(
 {
     let mut records = gather(alloc, host, d, versions, lists, rids)?;
     records.sort_by_rid()?;
-    // Only on a host that reads differently from call to call are they others.
+    // Of a host that doesn't tell its bytes no clause says which records it gives, so that is tested.
     if !has_rids(alloc, &records, rids)? {
         return Err(FetchErr::Damaged {
             page: first_page(d, versions),

@@ -1,4 +1,4 @@
-use Rattle.std.proofs.Common.{◌≡◌, ◌+◌, ◌++◌, ◌∷◌, [], ◌∙◌, ℕ, Some, None, List, take, get_or, refl, sym, ap, subst}
+use Rattle.std.proofs.Common.{◌≡◌, ◌+◌, ◌++◌, ◌∷◌, [], ◌∙◌, ℕ, Some, List, take, get_or, refl, sym, ap, subst}
 use Rattle.std.proofs.lemmas.List.{take_more}
 use Rattle.ov_catalog.specs.Sets.{set_in}
 use Rattle.ov_read.specs.Agreement.{list_of}
@@ -28,11 +28,11 @@ loop-vid-preserved c =
           let at : place_at c.args.places.now vid ≡ Some place = sym c.place_in.ensures ∙ w.in-Some.is in
           let one = c.requires.places.only vid place at in
           rw (w.left-is, w.asked-is) (subst (λ (passed : List ℕ). IsAsked s versions lists served passed left w.ask_at.new.left w.ask_at.new.asked) (sym more)
-              (goes_on s versions lists served (take k served) left c.loop-vid.left w.ask_at.new.left c.loop-vid.asked w.ask_at.new.asked vid place (get_or lists place []) (list_of s (get_or versions place 0))
-              one.0 one.1 (member_at served k c.loop-vid-test.true) (ap (list_of s) one.1) refl (λ other low is. one_place versions c.args.places.now vid place other c.requires.places at low is)
-              w.in_ok-ask_at-in-Some.ensures.set w.in_ok-ask_at-in-Some.ensures.more c.loop-vid.invariant))
+          (goes_on s versions lists served (take k served) left c.loop-vid.left w.ask_at.new.left c.loop-vid.asked w.ask_at.new.asked vid place (get_or lists place []) (list_of s (get_or versions place 0))
+          one.0 one.1 (member_at served k c.loop-vid-test.true) (ap (list_of s) one.1) refl (λ other low is. one_place versions c.args.places.now vid place other c.requires.places at low is)
+          w.in_ok-ask_at-in-Some.ensures.set w.in_ok-ask_at-in-Some.ensures.more c.loop-vid.invariant))
       | in-None w ↦
           rw (w.left-is, w.asked-is) (subst (λ (passed : List ℕ). IsAsked s versions lists served passed left c.loop-vid.left c.loop-vid.asked) (sym more)
-              (skips s versions lists served (take k served) left c.loop-vid.left c.loop-vid.asked vid
-              (λ other low is. no_place versions c.args.places.now vid other c.requires.places (sym c.place_in.ensures ∙ w.in-None.is) low is) c.loop-vid.invariant))
+          (skips s versions lists served (take k served) left c.loop-vid.left c.loop-vid.asked vid
+          (λ other low is. no_place versions c.args.places.now vid other c.requires.places (sym c.place_in.ensures ∙ w.in-None.is) low is) c.loop-vid.invariant))
     ]

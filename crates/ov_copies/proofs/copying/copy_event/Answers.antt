@@ -1,4 +1,4 @@
-use Rattle.std.proofs.Common.{◌∙◌, sym, subst, arith}
+use Rattle.std.proofs.Common.{sym, subst, arith}
 use Rattle.ov_event.specs.Fields.{IsExtent}
 use Rattle.ov_copies.proofs.Spelling.{copy_spelled, extent_fits}
 use Rattle.ov_copies.proofs.copying.copy_event.Goals as goal

@@ -1,5 +1,4 @@
-use Rattle.std.proofs.Common.{◌≡◌, ◌<◌, ◌^◌, ◌∙◌, ◌∷◌, [], ℕ, List, Some, length, map, sym, ap, subst, arith}
-use Rattle.std.specs.Prelude.{Result}
+use Rattle.std.proofs.Common.{◌≡◌, ◌∷◌, [], ℕ, List, Some, length, ap, arith}
 use Rattle.ov_catalog.specs.Sets.{set_in}
 use Rattle.ov_catalog.specs.Shown.{segment_of}
 use Rattle.ov_core.specs.Brought.{segments_in}
@@ -7,7 +6,6 @@ use Rattle.ov_fetch.specs.Extents.{page_bytes}
 use Rattle.ov_fetch.proofs.Gathered.{passed_on}
 use Rattle.ov_model.specs.Records.{order_of}
 use Rattle.ov_read.specs.OfWorld.{IsSpared}
-use Rattle.ov_segment.specs.declared.numbered.Record.{Record}
 use Rattle.ov_copies.proofs.Spelling.{bounded, extent_sound, small}
 use Rattle.ov_copies.proofs.Worlds.{segment_is, spared}
 use Rattle.ov_copies.proofs.copying.copy_of.Goals as goal

@@ -1,4 +1,4 @@
-use Rattle.std.proofs.Common.{◌≡◌, Bool, true, false, ℕ, List, sym, ◌∙◌}
+use Rattle.std.proofs.Common.{◌≡◌, Bool, true, false, List}
 use Rattle.std.proofs.lemmas.List.Sorted.{All-permutation}
 use Rattle.ov_catalog.specs.Sets.{set_in}
 use Rattle.ov_segment.specs.declared.numbered.Record.{Record}

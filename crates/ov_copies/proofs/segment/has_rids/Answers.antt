@@ -1,7 +1,6 @@
-use Rattle.std.proofs.Common.{◌≡◌, ◌==◌, ◌∙◌, ℕ, true, false, List, length, sym, ap, subst, arith}
+use Rattle.std.proofs.Common.{◌≡◌, ◌∙◌, ℕ, List, length, sym, ap, subst, arith}
 use Rattle.std.proofs.lemmas.Bool.{eq-eqb, eqb-true}
 use Rattle.ov_member.specs.Rids.{AreRids, left_out}
-use Rattle.ov_segment.specs.declared.numbered.Record.{Record}
 use Rattle.ov_fetch.specs.Extents.{rids_of}
 use Rattle.ov_copies.proofs.Same.{none_out, same_of_out}
 use Rattle.ov_copies.proofs.segment.has_rids.Goals.{then-len-eq0, else-len-eq0}
@@ -24,11 +23,10 @@ returns-in-Some c =
             (λ same. eq-eqb w.len-then-len-eq0.result 0 (w.len-then-len-eq0.ensures.count ∙ ap length c.in_ok-fewer-in-Some.ensures.members
                 ∙ ap (λ (xs : List ℕ). length (left_out rids xs)) (is ∙ same) ∙ ap length (none_out rids c.requires))),
           )
-      | else-len-eq0 w ↦
-          (
-            (λ yes. absurd (w.if-len-eq0.false (eqb-true c.len.result 0 (sym w.result-is ∙ yes)))),
-            (λ same. absurd (w.if-len-eq0.false (c.len.ensures.count ∙ ap length c.in_ok-more-in-Some.ensures.members ∙ none same))),
-          )
+      | else-len-eq0 w ↦ (
+        (λ yes. absurd (w.if-len-eq0.false (eqb-true c.len.result 0 (sym w.result-is ∙ yes)))),
+        (λ same. absurd (w.if-len-eq0.false (c.len.ensures.count ∙ ap length c.in_ok-more-in-Some.ensures.members ∙ none same))),
+      )
     ]
 
 pub returns : goal.returns

@@ -1,4 +1,4 @@
-use Rattle.std.proofs.Common.{◌≡◌, ◌<◌, ◌≤◌, ◌++◌, ◌∙◌, ℕ, List, length, get_or, take, sym, ap, subst, arith}
+use Rattle.std.proofs.Common.{◌<◌, ◌≤◌, ◌++◌, ◌∙◌, ℕ, List, length, get_or, take, sym, ap, subst, arith}
 use Rattle.ov_value.specs.Spelling.{row_spelling}
 use Rattle.ov_segment.specs.declared.numbered.Record.{Record}
 use Rattle.ov_segment.specs.Segments.{record_bytes, segment_spelling}
