@@ -1,6 +1,6 @@
 //! The records of a copy.
 
-ghost use Rattle.std.specs.Prelude.{◌≡◌, ◌≤◌, ◌<◌, ◌^◌, ℕ, true, not, ◌&&◌, ◌==◌, IsTrue, List, [], ◌∷◌, All, IfOk, IsErrOf, MatchResult, Some, length, map};
+ghost use Rattle.std.specs.Prelude.{◌≡◌, ◌≤◌, ◌<◌, ◌^◌, ◌+◌, ℕ, true, not, ◌&&◌, ◌==◌, IsTrue, List, [], ◌∷◌, All, IfOk, IsErrOf, MatchResult, Some, length, map};
 ghost use Rattle.ov_host.specs.Host.{Rose};
 ghost use Rattle.ov_event.specs.Spelling.{IsEvent};
 ghost use Rattle.ov_event.specs.declared.event.Event.TheVariants as says;
@@ -19,6 +19,7 @@ ghost use Rattle.ov_fetch.specs.Extents.{Looked, page_bytes, rids_of};
 ghost use Rattle.ov_fetch.specs.Rows.{is_asked};
 ghost use Rattle.ov_read.specs.Agreement.{IsThere};
 ghost use Rattle.ov_read.specs.OfWorld.{IsSetOf, IsSpared, rids_in};
+ghost use Rattle.ov_read.specs.Sizes.{segment_bytes_for};
 ghost use Rattle.ov_copies.specs.Copies.{AreCopied, IsCopied, RefusesCopy};
 
 use crate::gathering::gather;
@@ -67,6 +68,7 @@ pub fn copy_of<H: Host>(
     requires listed { (rid : ℕ) → has wanted.rids.now rid ≡ true → is_asked wanted.lists.now rid ≡ true }
     ensures looked { Looked (H.state host.old) (H.state host.new) }
     ensures cause { IsErrOf result FetchErr.Host → Rose (H.state host.old).faults (H.state host.new).faults }
+    ensures fetched { (H.state host.new).fetched ≤ (H.state host.old).fetched + segment_bytes_for (set_in d.now) wanted.entry.versions.now }
 
     // On every host.
     ensures unplaced { IfOk result IsUnplaced }
@@ -120,6 +122,7 @@ fn records_of<H: Host>(
     requires listed { (rid : ℕ) → has rids.now rid ≡ true → is_asked lists.now rid ≡ true }
     ensures looked { Looked (H.state host.old) (H.state host.new) }
     ensures cause { IsErrOf result FetchErr.Host → Rose (H.state host.old).faults (H.state host.new).faults }
+    ensures fetched { (H.state host.new).fetched ≤ (H.state host.old).fetched + segment_bytes_for (set_in d.now) versions.now }
     ensures are { IfOk result (λ found. AreRecords d.now.schema 0 found.records) }
     ensures rids { IfOk result (λ found. rids_of found.records ≡ rids.now) }
     ensures answer { (H.state host.old).tells ≡ true → MatchResult result
