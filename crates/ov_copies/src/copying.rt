@@ -20,7 +20,7 @@ ghost use Rattle.ov_fetch.specs.Rows.{is_asked};
 ghost use Rattle.ov_read.specs.Agreement.{IsThere};
 ghost use Rattle.ov_read.specs.OfWorld.{IsSetOf, IsSpared, rids_in};
 ghost use Rattle.ov_read.specs.Sizes.{segment_bytes_for};
-ghost use Rattle.ov_copies.specs.Copies.{AreCopied, IsCopied, RefusesCopy};
+ghost use Rattle.ov_copies.specs.Copies.{AreCopied, IsCopied, IsSegmentOf, RefusesCopy};
 
 use crate::gathering::gather;
 use crate::places::first_page;
@@ -74,6 +74,7 @@ pub fn copy_of<H: Host>(
     ensures unplaced { IfOk result IsUnplaced }
     ensures event { IfOk result (λ b. IsEvent b.event) }
     ensures is { IfOk result (λ b. (b.event ≡ says.Copy d.now.number (length wanted.entry.rids.now) (extent_at 0 b.segment.items)) × (b.list.items ≡ []) × (0 < length b.segment.items)) }
+    ensures segment { IfOk result (λ b. IsSegmentOf d.now.schema wanted.entry.rids.now b.segment.items) }
     ensures may_be_placed { IfOk result (λ b. IsTrue (not ((extent_at 0 b.segment.items).bytes == 0) && is_extent (extent_at 0 b.segment.items))) }
 
     // Where the host tells its bytes.
