@@ -52,7 +52,8 @@ pub struct Wanted<'a> {
 /// version that has it.
 ///
 /// The segments of a partition are read once where it serves a version with a rid that no partition before it had, and else not
-/// at all. Time beside that: one step for each version of the dataset and each range of a list.
+/// at all. Time beside that: one step for each version of the dataset and each range of a list, and at each of these versions one
+/// for each rid that is left; and the sorting and copying of the records.
 pub fn copy_of<H: Host>(
     alloc: Global,
     host: &mut H,
