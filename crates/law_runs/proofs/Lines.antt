@@ -54,7 +54,7 @@ moves_licensed : (entry : Entry) (before : List Made) (ms : List Move) (w : Worl
 moves_licensed entry before [] w = tt
 moves_licensed entry before (m ∷ ms) w = moves_licensed entry (before ++ record { move = m; world = w } ∷ []) ms (moved m w)
 
-steps_licensed : (n : ℕ) (entry : Entry) (before : List Made) (w : World) → LicensedSteps n entry before w []
+pub steps_licensed : (n : ℕ) (entry : Entry) (before : List Made) (w : World) → LicensedSteps n entry before w []
 steps_licensed zero entry before w = tt
 steps_licensed (suc n) entry before w = by (next_step w) (λ made v. steps_licensed n entry made v)
   where
