@@ -1,7 +1,7 @@
 -- Where no step is taken, none follows a reply.
-use Rattle.std.proofs.Common.{◌≡◌, inl, inr, ℕ, zero, suc, List, ◌++◌, None, refl, ◌∙◌, ap, subst, sym, append-nil}
+use Rattle.std.proofs.Common.{◌≡◌, inl, inr, ℕ, zero, suc, List, ◌++◌, None, ◌∙◌, ap, subst, sym, append-nil}
 use Rattle.std.specs.Prelude.{Option}
-use Rattle.ov_model.specs.Course.{Served, Space, and_steps, nothing, steps}
+use Rattle.ov_model.specs.Course.{Served, Space, and_steps}
 use Rattle.ov_model.specs.Moves.{Move}
 use Rattle.ov_model.specs.Steps.{next_step}
 use Rattle.ov_model.specs.World.{World}
