@@ -13,6 +13,8 @@ use Rattle.ov_model.specs.Line.{Asks, Comment, Line, Refused, line_of}
 use Rattle.ov_model.specs.Moves.{Move}
 use Rattle.ov_model.specs.Steps.{next_steps}
 use Rattle.ov_model.specs.World.{World}
+use Rattle.ov_model.specs.declared.command.Command.{Command}
+use Rattle.ov_model.specs.declared.refusal.Refusal.{Refusal}
 use Rattle.ov_model.specs.declared.reply.Reply.TheVariants as says
 use Rattle.ov_model.proofs.Courses.{course_ends, play_append}
 use Rattle.ov_core.specs.Held.{Held}
@@ -22,21 +24,31 @@ use Rattle.law_runs.specs.Serving.{Serves, has_error}
 use Rattle.law_runs.specs.Stepping.{IsStepped}
 use Rattle.law_runs.specs.Stops.{IsFound, printed_of}
 use Rattle.law_runs.proofs.Found.{found_behind, found_front}
-use Rattle.law_runs.proofs.Lines.{steps_licensed}
+use Rattle.law_runs.proofs.Lines.{or_false, steps_licensed}
 use Rattle.law_runs.proofs.Moving.{made, play_none}
 use Rattle.law_runs.proofs.Runs.{error_append, made_append}
 use Rattle.law_runs.proofs.Stepping.{steps_all}
 use Rattle.law_runs.proofs.Steps.{and_no_steps}
 
-or_none : (b : Bool) → (b || false) ≡ b
-or_none true = refl
-or_none false = refl
+error_false : (moves : List Move) → has_error (made moves) ≡ false
+error_false [] = refl
+error_false (m ∷ moves) = error_false moves
 
-error_none : (moves : List Move) → has_error (made moves) ≡ false
-error_none [] = refl
-error_none (m ∷ moves) = error_none moves
+-- ---- lines that have a reply
 
--- ---- a line that has a reply is served without steps, and then its steps come
+pub asks_some : (l : Line) (command : Command) → l ≡ Asks command → l ≢ Comment
+asks_some l command is none = by (sym is ∙ none)
+  where
+    by : Asks command ≡ Comment → ⊥
+    by e = absurd cc
+
+pub refused_some : (l : Line) (refusal : Refusal) → l ≡ Refused refusal → l ≢ Comment
+refused_some l refusal is none = by (sym is ∙ none)
+  where
+    by : Refused refusal ≡ Comment → ⊥
+    by e = absurd cc
+
+-- such a line is served without steps, and then its steps come
 
 and_zero : (done : Served) → and_steps 0 done ≡ done
 and_zero done = and_no_steps 0 done (inl refl)
@@ -132,7 +144,7 @@ module _ (n : ℕ) (w : World) (s t : Session) (line : List ℕ) (some : line_of
 
   refused_is : refused ≡ has_error items
   refused_is =
-      a.refused_is refl ∙ sym (or_none (has_error a.did.items)) ∙ ap (λ (e : Bool). has_error a.did.items || e) (sym (error_none b.moves))
+      a.refused_is refl ∙ sym (or_false (has_error a.did.items)) ∙ ap (λ (e : Bool). has_error a.did.items || e) (sym (error_false b.moves))
       ∙ sym (error_append a.did.items (made b.moves))
 
   pub serves_stepped : Serves n w s t line ok refused before now old new
