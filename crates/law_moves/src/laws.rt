@@ -1,11 +1,12 @@
 // Laws of commands of several moves.
-ghost use Rattle.std.specs.Prelude.{◌≡◌, ◌∷◌, ℕ, List, [], None, false};
+ghost use Rattle.std.specs.Prelude.{◌≡◌, ◌∷◌, ℕ, List, [], length, Some, None, true, false};
 ghost use Rattle.ov_host.specs.Host.{State};
 ghost use Rattle.ov_host.specs.Stops.{Only};
 ghost use Rattle.ov_core.specs.AtWorld.{IsAtWorld, IsEither};
 ghost use Rattle.ov_core.specs.Held.{Held};
 ghost use Rattle.ov_model.specs.Act.{Deed, Session};
 ghost use Rattle.ov_model.specs.Moves.{Move, moved};
+ghost use Rattle.ov_model.specs.Steps.{steps_left};
 ghost use Rattle.ov_model.specs.World.{World};
 ghost use Rattle.ov_model.specs.declared.refusal.Refusal.TheVariants as no;
 ghost use Rattle.ov_model.specs.declared.reply.Reply.TheVariants as says;
@@ -26,7 +27,8 @@ pub fn moves_make_a_deed()
         → IsDoing d w v (m ∷ left) before now old mid → Only mid.tape new.tape (IsEither v (moved m v) (printed_of mid)) → Breaks d s w old new }
 {}
 
-/// Where there may be no room for the next move, the command may be refused for that; the moves before it stay.
+/// Where there may be no room for the next move, the command may be refused for that; the moves before it stay. Where the command
+/// counts its steps, as `migrate` does, the refusal tells how many were taken and how many are left.
 pub fn the_first_move_without_room_ends_a_deed()
     ensures run { (d : Deed) (s : Session) (w v : World) (m : Move) (left : List Move) (before now : Held) (old new : State) (pages : ℕ)
         → IsDoing d w v (m ∷ left) before now old new → d.counts_steps ≡ false
@@ -36,4 +38,12 @@ pub fn the_first_move_without_room_ends_a_deed()
         → IsDoing d w v (m ∷ left) before now old new → d.counts_steps ≡ false
         → ((entry : Entry) (past : List Made) → IsWithin entry past now → LacksRecord entry past m v)
         → Does d s s w (says.Refused (no.JournalFull None)) before now old new }
+    ensures run_counted { (d : Deed) (s : Session) (w v : World) (m : Move) (left : List Move) (before now : Held) (old new : State) (pages : ℕ)
+        → (is : IsDoing d w v (m ∷ left) before now old new) → d.counts_steps ≡ true
+        → ((entry : Entry) (past : List Made) → IsWithin entry past now → LacksRun entry past m v pages)
+        → Does d s s w (says.Refused (no.NoRun pages (Some (length is.moves, steps_left v)))) before now old new }
+    ensures record_counted { (d : Deed) (s : Session) (w v : World) (m : Move) (left : List Move) (before now : Held) (old new : State)
+        → (is : IsDoing d w v (m ∷ left) before now old new) → d.counts_steps ≡ true
+        → ((entry : Entry) (past : List Made) → IsWithin entry past now → LacksRecord entry past m v)
+        → Does d s s w (says.Refused (no.JournalFull (Some (length is.moves, steps_left v)))) before now old new }
 {}

@@ -5,5 +5,7 @@
 #![tactic(auto)]
 
 mod laws;
+mod migrate;
 
 pub use laws::{moves_make_a_deed, the_first_move_without_room_ends_a_deed};
+pub use migrate::{steps_make_a_migrate, the_next_step_comes_first};

@@ -24,7 +24,7 @@ pub within_still : (entry : Entry) (past : List Made) (held : Held) → IsWithin
 within_still entry past held within = subst (λ (made : List Made). IsWithin entry made held) (sym (append-nil past)) within
 
 -- a World or the one after a move
-either_found : (w : World) (m : Move) (printed : List ℕ) (items : List Item) (c : Image) → IsEither w (moved m w) printed c → IsFound w printed (Makes m ∷ items) c
+pub either_found : (w : World) (m : Move) (printed : List ℕ) (items : List Item) (c : Image) → IsEither w (moved m w) printed c → IsFound w printed (Makes m ∷ items) c
 either_found w m printed items c either = by either.stands
   where
     by : StandsAs w c ⊎ StandsAs (moved m w) c → IsFound w printed (Makes m ∷ items) c

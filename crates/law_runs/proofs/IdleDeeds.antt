@@ -1,5 +1,5 @@
 -- What a command does begins no plan, but for an optimize.
-use Rattle.std.proofs.Common.{◌≡◌, ◌+◌, ◌-◌, ◌==◌, ℕ, zero, suc, Bool, true, false, List, [], ◌∷◌, length, map, filter}
+use Rattle.std.proofs.Common.{◌+◌, ◌-◌, ◌==◌, ℕ, zero, suc, Bool, true, false, List, [], ◌∷◌, length, map, filter}
 use Rattle.std.specs.Prelude.{not, nat_lt, if◌then◌else◌, Option, Some, None, Result, Ok, Err}
 use Rattle.ov_value.specs.declared.column.Column.{Column}
 use Rattle.ov_value.specs.declared.column.Kind.{Kind}
@@ -15,7 +15,7 @@ use Rattle.ov_model.specs.Generator.{commits, generated}
 use Rattle.ov_model.specs.Joins.{join_answer, join_by, join_deed, join_kinds, join_over, joined_rows, side_of, told}
 use Rattle.ov_model.specs.Kinds.{kinds}
 use Rattle.ov_model.specs.Merge.{in_key_order}
-use Rattle.ov_model.specs.Moves.{Move, Init, Commit, wide}
+use Rattle.ov_model.specs.Moves.{Init, Commit, wide}
 use Rattle.ov_model.specs.QueryTexts.{Asked, BadByte, NoQuery, AsksQuery, AsksJoin, asked_of}
 use Rattle.ov_model.specs.Registry.{change_of, change_refusal, is_foreign, last_rows, stage_name, stage_schema, table_in, table_row, user_row, users_name, users_schema, version_rows, with_row, without_row}
 use Rattle.ov_model.specs.Users.{permit, permit_names}

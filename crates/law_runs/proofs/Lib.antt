@@ -4,6 +4,9 @@ pub mod IdleDeeds
 pub mod IdleForms
 pub mod Steps
 pub mod Doing
+pub mod Moving
 pub mod Lines
 pub mod Runs
 pub mod Due
+pub mod Stepping
+pub mod Behind

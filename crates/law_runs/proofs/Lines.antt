@@ -31,6 +31,7 @@ use Rattle.law_runs.specs.Serving.{Breaks, Does, Serves, has_error, is_error}
 use Rattle.law_runs.specs.Stops.{IsFound, printed_of}
 use Rattle.law_runs.proofs.Found.{at_same_tape, found_behind, found_front, looked_found, printed_at, printed_more, printing}
 use Rattle.law_runs.proofs.Doing.{does_told, within_still}
+use Rattle.law_runs.proofs.Moving.{play_none}
 use Rattle.law_runs.proofs.Steps.{and_no_steps, steps_are_licensed}
 
 -- ---- where no answer for room is left, all takes place
@@ -54,7 +55,7 @@ moves_licensed : (entry : Entry) (before : List Made) (ms : List Move) (w : Worl
 moves_licensed entry before [] w = tt
 moves_licensed entry before (m ∷ ms) w = moves_licensed entry (before ++ record { move = m; world = w } ∷ []) ms (moved m w)
 
-steps_licensed : (n : ℕ) (entry : Entry) (before : List Made) (w : World) → LicensedSteps n entry before w []
+pub steps_licensed : (n : ℕ) (entry : Entry) (before : List Made) (w : World) → LicensedSteps n entry before w []
 steps_licensed zero entry before w = tt
 steps_licensed (suc n) entry before w = by (next_step w) (λ made v. steps_licensed n entry made v)
   where
@@ -89,15 +90,11 @@ made_all : (w : World) (moves : List Move) (reply : Reply) → made_by w (all mo
 made_all w [] reply = refl
 made_all w (m ∷ moves) reply = ap (λ (more : List Made). record { move = m; world = w } ∷ more) (made_all (moved m w) moves reply)
 
-play_none : (moves : List Move) → play (map Makes moves) ≡ []
-play_none [] = refl
-play_none (m ∷ moves) = play_none moves
-
 play_all : (moves : List Move) (reply : Reply) → play (all moves reply) ≡ reply_text reply
 play_all [] reply = append-nil (reply_text reply)
 play_all (m ∷ moves) reply = play_all moves reply
 
-or_false : (b : Bool) → (b || false) ≡ b
+pub or_false : (b : Bool) → (b || false) ≡ b
 or_false true = refl
 or_false false = refl
 

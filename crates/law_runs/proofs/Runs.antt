@@ -28,7 +28,7 @@ use Rattle.law_runs.proofs.Lines.{line_leaves, line_licensed}
 after_after : (xs ys : List Item) (s : Served) → after xs (after ys s) ≡ after (xs ++ ys) s
 after_after xs ys s = λ i. record s { items = sym (append_assoc xs ys s.items) i }
 
-made_append : (w : World) (a b : List Item) → made_by w (a ++ b) ≡ made_by w a ++ made_by (world_after w a) b
+pub made_append : (w : World) (a b : List Item) → made_by w (a ++ b) ≡ made_by w a ++ made_by (world_after w a) b
 made_append w [] b = refl
 made_append w (Makes m ∷ a) b = ap (λ (more : List Made). record { move = m; world = w } ∷ more) (made_append (moved m w) a b)
 made_append w (Says reply ∷ a) b = made_append w a b
@@ -37,7 +37,7 @@ or_assoc : (a b c : Bool) → (a || (b || c)) ≡ ((a || b) || c)
 or_assoc true b c = refl
 or_assoc false b c = refl
 
-error_append : (a b : List Item) → has_error (a ++ b) ≡ (has_error a || has_error b)
+pub error_append : (a b : List Item) → has_error (a ++ b) ≡ (has_error a || has_error b)
 error_append [] b = refl
 error_append (Makes m ∷ a) b = error_append a b
 error_append (Says reply ∷ a) b =

@@ -1,7 +1,7 @@
 -- Where no step is taken, none follows a reply.
-use Rattle.std.proofs.Common.{◌≡◌, inl, inr, ℕ, zero, suc, List, ◌++◌, None, refl, ◌∙◌, ap, subst, sym, append-nil}
+use Rattle.std.proofs.Common.{◌≡◌, inl, inr, ℕ, zero, suc, List, ◌++◌, None, ◌∙◌, ap, subst, sym, append-nil}
 use Rattle.std.specs.Prelude.{Option}
-use Rattle.ov_model.specs.Course.{Served, Space, and_steps, nothing, steps}
+use Rattle.ov_model.specs.Course.{Served, Space, and_steps}
 use Rattle.ov_model.specs.Moves.{Move}
 use Rattle.ov_model.specs.Steps.{next_step}
 use Rattle.ov_model.specs.World.{World}
@@ -10,7 +10,7 @@ use Rattle.law_runs.proofs.IdleForms.{none_taken}
 use Rattle.law_room.specs.Room.{Entry, Made}
 use Rattle.law_runs.specs.Licence.{LicensedStep, LicensedSteps}
 
-idle_is_licensed : (n : ℕ) (entry : Entry) (before : List Made) (w : World) (space : Space) → next_step w ≡ None → LicensedSteps n entry before w space
+pub idle_is_licensed : (n : ℕ) (entry : Entry) (before : List Made) (w : World) (space : Space) → next_step w ≡ None → LicensedSteps n entry before w space
 idle_is_licensed zero entry before w space none = tt
 idle_is_licensed (suc n) entry before w space none =
     subst (λ (next : Option Move). LicensedStep (LicensedSteps n entry) entry before w space next) (sym none) tt
