@@ -5,4 +5,5 @@
 #![tactic(auto)]
 
 mod picking;
+mod segments;
 mod uniting;
