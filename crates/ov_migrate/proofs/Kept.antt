@@ -1,11 +1,15 @@
 -- The rids of segments, one after another.
-use Rattle.std.proofs.Common.{◌≡◌, ℕ, true, List, [], ◌∷◌, ◌++◌, map, refl, sym, ◌∙◌, ap, subst}
+use Rattle.std.proofs.Common.{◌≡◌, ◌<◌, ◌≤◌, ◌+◌, ◌-◌, ℕ, zero, suc, true, List, [], ◌∷◌, ◌++◌, length, map, take, get_or, refl, sym, ◌∙◌, ap, subst, arith}
+use Rattle.std.specs.Prelude.{if◌then◌else◌}
 use Rattle.std.specs.List.{Contains}
-use Rattle.std.proofs.lemmas.List.{map-append}
+use Rattle.std.proofs.lemmas.Bool.{ne_eqb}
+use Rattle.std.proofs.lemmas.Grind.{flat_map-append}
+use Rattle.std.proofs.lemmas.List.{append-nil, map-append, take_more}
 use Rattle.ov_host.specs.declared.area.Extent.{Extent}
 use Rattle.ov_host.specs.Host.{State}
 use Rattle.ov_value.specs.Shapes.{Shape}
 use Rattle.ov_segment.specs.declared.numbered.Record.{Record}
+use Rattle.ov_catalog.specs.Events.{chosen, one_at}
 use Rattle.ov_fetch.specs.declared.errors.FetchErr.{FetchErr}
 use Rattle.ov_fetch.specs.declared.errors.FetchErr.TheVariants.{Host, Memory, Damaged}
 use Rattle.ov_fetch.specs.Extents.{Looked, HasRids, IsSegment, RefusesSegment, page_bytes, rids_of}
@@ -51,3 +55,29 @@ stops schema s0 s1 segments some segment sets Memory h among refuses told = tt
 stops schema s0 s1 segments some segment sets (Damaged page) h among refuses told =
     let why = subst (λ (a : List ℕ). RefusesSegment (Damaged page) schema a segment) (same_pages s0 s1 h.looked told) (refuses (h.looked.told ∙ told))
     in record { segment = segment; among = among; off = why.1; page_is = why.0 }
+
+-- ---- those at some places
+
+less : (n : ℕ) → suc n - 1 ≡ n
+less n = omega arith
+
+later : (s : Extent) (segments : List Extent) (place : ℕ) → one_at (s ∷ segments) (suc place) ≡ one_at segments place
+later s segments place =
+    ap (λ b. if b then s ∷ [] else one_at segments (suc place - 1)) (ne_eqb (suc place) 0 (λ e. absurd (omega (arith, e)))) ∙ ap (one_at segments) (less place)
+
+pub one_found : (segments : List Extent) (place : ℕ) (x d : Extent) → place < length segments → x ≡ get_or segments place d → one_at segments place ≡ x ∷ []
+one_found [] place x d low e = absurd (omega (arith, low))
+one_found (s ∷ segments) zero x d low e = ap (λ y. y ∷ []) (sym e)
+one_found (s ∷ segments) (suc place) x d low e = later s segments place ∙ one_found segments place x d (omega (arith, low)) e
+
+pub one_none : (segments : List Extent) (place : ℕ) → length segments ≤ place → one_at segments place ≡ []
+one_none [] place high = refl
+one_none (s ∷ segments) zero high = absurd (omega (arith, high))
+one_none (s ∷ segments) (suc place) high = later s segments place ∙ one_none segments place (omega (arith, high))
+
+pub chosen_more : (segments : List Extent) (places : List ℕ) (k : ℕ) → k < length places
+    → chosen (take (k + 1) places) segments ≡ chosen (take k places) segments ++ one_at segments (get_or places k 0)
+chosen_more segments places k low =
+    ap (λ (l : List ℕ). chosen l segments) (take_more places k 0 low)
+    ∙ flat_map-append (one_at segments) (take k places) (get_or places k 0 ∷ [])
+    ∙ ap (λ (l : List Extent). chosen (take k places) segments ++ l) (append-nil (one_at segments (get_or places k 0)))

@@ -4,6 +4,8 @@
 //! of all that are left; then it is the target's Flip. Nothing is written here.
 #![tactic(auto)]
 
+mod keeping;
 mod picking;
+mod running;
 mod segments;
 mod uniting;
