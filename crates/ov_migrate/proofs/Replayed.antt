@@ -22,8 +22,9 @@ use Rattle.ov_catalog.specs.Events.{applied, change, copied_for, copied_more, cu
 use Rattle.ov_catalog.specs.Numbers.{PartNumbers, PlanNumbers, SetNumbers, TargetNumbers, Numbers, nothing_yet}
 use Rattle.ov_catalog.specs.Planning.{are_targets, ascend_from, are_below, copy_off, empties, flip_off, is_kept, is_size, is_source, is_threshold, missing, of_running, plan_off}
 use Rattle.ov_catalog.specs.Raw.{event_in, numbers_in, place_in, shape_in}
+use Rattle.ov_core.specs.Held.{IsReplayed}
 
-abbrev Set : Type 0
+abbrev pub Set : Type 0
 Set = SetNumbers Extent Extent
 
 -- ---- tests that hold
@@ -323,3 +324,15 @@ first_found test (d ∷ sets) s e = by (test d) e (first_found test sets s)
     by : (b : Bool) → (if b then Some d else find test sets) ≡ Some s → (find test sets ≡ Some s → IsIn sets s) → IsIn (d ∷ sets) s
     by true is later = inl (sym (ap (λ o. elim o as (λ _. Set) [ None ↦ d | Some x ↦ x ]) is))
     by false is later = inr (later is)
+
+-- ---- of the numbers that a store keeps
+
+pub replayed_good : (n : Numbers Extent Extent) → IsReplayed n → AreNamed n.sets × AreFit n.sets
+replayed_good n is = subst (λ (m : Numbers Extent Extent). AreNamed m.sets × AreFit m.sets) (sym is.are) (events_good is.events is.apply)
+
+-- a dataset's name finds it
+pub named_again : (n : Numbers Extent Extent) (s : Set) → IsReplayed n → IsIn n.sets s → find (is_named s.name) n.sets ≡ Some s
+named_again n s is there = in_named n.sets s (replayed_good n is).0 there
+
+pub plan_fits : (n : Numbers Extent Extent) (s : Set) → IsReplayed n → IsIn n.sets s → PlanIsFit s.plan
+plan_fits n s is there = fit_in n.sets s (replayed_good n is).1 there
