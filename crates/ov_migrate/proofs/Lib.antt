@@ -1,3 +1,5 @@
 pub mod Walking
 pub mod Kept
 pub mod Replayed
+pub mod Lacked
+pub mod Whole

@@ -8,4 +8,5 @@ mod keeping;
 mod picking;
 mod running;
 mod segments;
+mod targets;
 mod uniting;
