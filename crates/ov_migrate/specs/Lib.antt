@@ -1,3 +1,3 @@
-pub mod Turns
 pub mod Picked
 pub mod Targets
+pub mod Steps

@@ -11,7 +11,7 @@ use Rattle.ov_fetch.specs.declared.errors.FetchErr.{FetchErr}
 use Rattle.ov_fetch.specs.declared.errors.FetchErr.TheVariants.{Host, Memory, Damaged}
 use Rattle.ov_fetch.specs.Extents.{IsList}
 use Rattle.ov_fetch.specs.Rows.{HaveRids, HasNoSegment}
-use Rattle.ov_migrate.specs.Turns.{kept_segments}
+use Rattle.law_steps.specs.Targets.{kept_segments}
 use Rattle.ov_read.specs.Agreement.{Agrees, AreTogether, Numbers, list_of}
 use Rattle.ov_read.specs.Damages.{HasBadList}
 use Rattle.ov_migrate.specs.Picked.{IsUnionOf}

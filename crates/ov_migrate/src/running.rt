@@ -4,7 +4,7 @@ ghost use Rattle.std.specs.Prelude.{◌≡◌, find, is_some, option_map, option
 ghost use Rattle.ov_catalog.specs.Ready.{IsSet};
 ghost use Rattle.ov_catalog.specs.Sets.{set_in, sets_in};
 ghost use Rattle.ov_core.specs.Held.{IsReplayed};
-ghost use Rattle.ov_migrate.specs.Turns.{running};
+ghost use Rattle.law_steps.specs.Turns.{running};
 
 use ov_catalog::{Catalog, Cvd};
 

@@ -3,7 +3,7 @@ use Rattle.std.specs.Prelude.{Option, find, is_some, option_map, option_copied}
 use Rattle.ov_catalog.specs.Applying.{is_named}
 use Rattle.ov_catalog.specs.Sets.{set_in, sets_in}
 use Rattle.ov_migrate.proofs.Replayed.{Set, first_found, named_again}
-use Rattle.ov_migrate.specs.Turns.{running}
+use Rattle.law_steps.specs.Turns.{running}
 use Rattle.ov_migrate.proofs.running.running_of.Goals as goal
 
 pub returns-in-Some-clause-first : goal.returns-in-Some-clause-first
