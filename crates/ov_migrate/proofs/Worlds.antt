@@ -213,8 +213,11 @@ module _ (w : World) (area : List ℕ) (s : Numbers) (p : PlanNumbers Extent) (t
           in record {
             move = moves.Copy n;
             next = next;
-            means = (tt, record {
-              fits = next_fits w (moves.Copy n) reached next;
-              says = ap (λ e. Some e) brought ∙ sym (ap (option_map asked_as) event);
-            });
+            means = (
+              tt,
+              record {
+                fits = next_fits w (moves.Copy n) reached next;
+                says = ap (λ e. Some e) brought ∙ sym (ap (option_map asked_as) event);
+              },
+            );
           }

@@ -76,12 +76,7 @@ pub fn next_step<H: Host>(
 }
 
 // The next step of a dataset's plan.
-fn step_of<H: Host>(
-    alloc: Global,
-    host: &mut H,
-    d: &Cvd,
-    plan: &Plan,
-) -> Result<Step, FetchErr>
+fn step_of<H: Host>(alloc: Global, host: &mut H, d: &Cvd, plan: &Plan) -> Result<Step, FetchErr>
     requires set { IsSet d.now }
     requires runs { d.now.plan ≡ Some plan.now }
     requires most { (current (plan_numbers plan.now)).kept_records + plan.now.copied ≤ (current (plan_numbers plan.now)).size }

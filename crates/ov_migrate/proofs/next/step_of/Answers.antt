@@ -118,7 +118,7 @@ copy_of-requires-clause-listed g c rid there =
     let sized : IsSized t lists rids = c.in_ok-lists.ensures.sized in
     let copied = c.args.plan.now.copied in
     let picked : c.in_ok-next.next ≡ take 256 (drop c.args.plan.now.copied c.in_ok-lists.field-0.rids) = c.in_ok-next.ensures in
-    let beside : c.deref.result.now ≡ c.in_ok-lists.field-0.lists.items = cc (c.deref.ensures.value, ap (λ v. v.items) c.in_ok-lists.lists-is) in
+    let beside : c.deref.result.now ≡ c.in_ok-lists.field-0.lists.items = c.deref.ensures.value in
     ap (λ (l : List (List ℕ)). is_asked l rid) beside
     ∙ lacking_listed t lists sized.sets rids sized.lacks rid (has_picked 256 copied rids rid (sym (ap (λ (l : List ℕ). has l rid) picked) ∙ there))
 
@@ -134,7 +134,7 @@ returns-in_err-copy_of-clause-answer g c told =
     let looked = c.in_ok-lists.ensures.looked in
     let same : t ≡ current p = in_numbers c.args.d.now c.args.plan.now c.requires.set c.requires.runs c.as_slice.result.now c.index-as_slice-plan.result c.as_slice.ensures c.index-as_slice-plan.is in
     let picked : c.in_ok-next.next ≡ take 256 (drop p.copied rids) = c.in_ok-next.ensures in
-    let beside : c.deref.result.now ≡ lists = cc (c.deref.ensures.value, ap (λ v. v.items) c.in_ok-lists.lists-is) in
+    let beside : c.deref.result.now ≡ lists = c.deref.ensures.value in
     passed_on (IsTestedBy (page_bytes s0) s p) (λ e. RefusesBy e (page_bytes s0) s p) c.from_residual-in_err-copy_of.result c.in_err-copy_of.field-0.0 c.from_residual-in_err-copy_of.ensures
     (no_copy (page_bytes s0) (page_bytes s1) s p t lists c.deref.result.now rids c.in_ok-next.next c.as_slice-2.result.now same (c.in_ok-lists.ensures.answer told)
     (same_pages s0 s1 looked told) c.as_slice-2.ensures beside picked c.in_err-copy_of.field-0.0 (c.in_err-copy_of.ensures.answer (looked.told ∙ told)))
@@ -155,7 +155,7 @@ returns-in_err-copy_of-clause-world g c told w turn =
     let same : t ≡ current p = in_numbers d plan c.requires.set c.requires.runs c.as_slice.result.now at c.as_slice.ensures c.index-as_slice-plan.is in
     let there : All (IsThere s) t.versions = all_there d plan c.requires.set c.requires.runs c.as_slice.result.now at c.as_slice.ensures c.index-as_slice-plan.is at.versions refl in
     let picked : c.in_ok-next.next ≡ take 256 (drop p.copied rids) = c.in_ok-next.ensures in
-    let beside : c.deref.result.now ≡ lists = cc (c.deref.ensures.value, ap (λ v. v.items) c.in_ok-lists.lists-is) in
+    let beside : c.deref.result.now ≡ lists = c.deref.ensures.value in
     let asks = copy_asked w (page_bytes s0) s p turn (ap plan_in c.requires.runs) t same there lists rids (c.in_ok-lists.ensures.answer told)
     (page_bytes s1) c.deref.result.now c.in_ok-next.next c.as_slice-2.result.now (same_pages s0 s1 looked told) c.as_slice-2.ensures beside picked in
     passed_on (IsMove w) IsSpared c.from_residual-in_err-copy_of.result c.in_err-copy_of.field-0.0 c.from_residual-in_err-copy_of.ensures
@@ -208,7 +208,7 @@ returns-clause-answer g c told =
     let looked = c.in_ok-lists.ensures.looked in
     let same : t ≡ current p = in_numbers c.args.d.now c.args.plan.now c.requires.set c.requires.runs c.as_slice.result.now c.index-as_slice-plan.result c.as_slice.ensures c.index-as_slice-plan.is in
     let picked : c.in_ok-next.next ≡ take 256 (drop p.copied rids) = c.in_ok-next.ensures in
-    let beside : c.deref.result.now ≡ lists = cc (c.deref.ensures.value, ap (λ v. v.items) c.in_ok-lists.lists-is) in
+    let beside : c.deref.result.now ≡ lists = c.deref.ensures.value in
     copy_tested (page_bytes s0) (page_bytes s1) s p t lists c.deref.result.now rids c.in_ok-next.next c.as_slice-2.result.now same (c.in_ok-lists.ensures.answer told)
     (same_pages s0 s1 looked told) c.as_slice-2.ensures beside picked c.in_ok-copy_of.field-0 (c.in_ok-copy_of.ensures.answer (looked.told ∙ told))
 
@@ -228,7 +228,7 @@ returns-clause-world g c told w turn =
     let same : t ≡ current p = in_numbers d plan c.requires.set c.requires.runs c.as_slice.result.now at c.as_slice.ensures c.index-as_slice-plan.is in
     let there : All (IsThere s) t.versions = all_there d plan c.requires.set c.requires.runs c.as_slice.result.now at c.as_slice.ensures c.index-as_slice-plan.is at.versions refl in
     let picked : c.in_ok-next.next ≡ take 256 (drop p.copied rids) = c.in_ok-next.ensures in
-    let beside : c.deref.result.now ≡ lists = cc (c.deref.ensures.value, ap (λ v. v.items) c.in_ok-lists.lists-is) in
+    let beside : c.deref.result.now ≡ lists = c.deref.ensures.value in
     let more : p.copied < length rids = omega (arith, c.if-plan-len.false, c.len.ensures.count, ap (λ (l : List ℕ). length l) c.in_ok-lists.rids-is) in
     let asks = copy_asked w (page_bytes s0) s p turn (ap plan_in c.requires.runs) t same there lists rids (c.in_ok-lists.ensures.answer told)
     (page_bytes s1) c.deref.result.now c.in_ok-next.next c.as_slice-2.result.now (same_pages s0 s1 looked told) c.as_slice-2.ensures beside picked in
