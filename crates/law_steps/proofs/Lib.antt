@@ -1,0 +1,12 @@
+pub mod Firsts
+pub mod Finding
+pub mod Lacking
+pub mod Taking
+pub mod Taken
+pub mod Climbing
+pub mod Named
+pub mod Wanted
+pub mod Lacked
+pub mod Holding
+pub mod Kept
+pub mod Worked
