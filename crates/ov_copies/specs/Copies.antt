@@ -1,0 +1,72 @@
+-- What a copy brings: records of versions, each out of the partition of a version that has it.
+--     IsOnList versions lists vid rid      one of the versions is this one, and its list has the rid
+--     IsFrom area s versions lists r      the record is what the partition of a version that has it keeps of its rid
+--     AreCopied area s versions lists rids records      so are all of these, and they have these rids
+--     IsCopied area s versions lists rids bytes      the bytes are a segment of such records
+--     RefusesCopy e area s versions lists rids      why there are none
+use Rattle.std.specs.Prelude.{◌≡◌, ◌⊎◌, ℕ, true, List, Some, None, slice_get}
+use Rattle.std.specs.List.{All}
+use Rattle.ov_member.specs.Rids.{has}
+use Rattle.ov_segment.specs.declared.numbered.Record.{Record}
+use Rattle.ov_segment.specs.Segments.{AreRecords, segment_spelling}
+use Rattle.ov_fetch.specs.declared.errors.FetchErr.{FetchErr}
+use Rattle.ov_fetch.specs.declared.errors.FetchErr.TheVariants.{Host, Memory, Damaged}
+use Rattle.ov_fetch.specs.Extents.{rids_of}
+use Rattle.ov_fetch.specs.Rows.{AreSegments, HasNoSegment, joined, record_of}
+use Rattle.ov_read.specs.Agreement.{Numbers, list_of, segments_of}
+
+-- the lists stand beside the versions
+pub record IsOnList (versions : List ℕ) (lists : List (List ℕ)) (vid rid : ℕ) : Type 0 where
+  pub place : ℕ
+  pub version : slice_get versions place ≡ Some vid
+  pub list : List ℕ
+  pub beside : slice_get lists place ≡ Some list
+  pub member : has list rid ≡ true
+
+-- the segments of the version's partition are whole, and this is the first of their records with its rid
+pub record IsFrom (area : List ℕ) (s : Numbers) (versions : List ℕ) (lists : List (List ℕ)) (r : Record) : Type 0 where
+  pub vid : ℕ
+  pub listed : IsOnList versions lists vid r.rid
+  pub contents : List (List Record)
+  pub read : AreSegments s.schema area (segments_of s vid) contents
+  pub first : record_of (joined contents) r.rid ≡ Some r
+
+pub record AreCopied (area : List ℕ) (s : Numbers) (versions : List ℕ) (lists : List (List ℕ)) (rids : List ℕ) (records : List Record) : Type 0 where
+  pub rids_are : rids_of records ≡ rids
+  pub are : AreRecords s.schema 0 records
+  pub each : All (IsFrom area s versions lists) records
+
+pub record IsCopied (area : List ℕ) (s : Numbers) (versions : List ℕ) (lists : List (List ℕ)) (rids bytes : List ℕ) : Type 0 where
+  pub records : List Record
+  pub spelled : bytes ≡ segment_spelling records
+  pub copied : AreCopied area s versions lists rids records
+
+-- ---- damage
+
+-- one of the versions has one of the rids, and a segment of its partition is short or off its grammar; this is that segment's
+-- first page
+pub record HasBadSegment (area : List ℕ) (s : Numbers) (versions : List ℕ) (lists : List (List ℕ)) (rids : List ℕ) (page : ℕ) : Type 0 where
+  pub vid : ℕ
+  pub rid : ℕ
+  pub listed : IsOnList versions lists vid rid
+  pub wanted : has rids rid ≡ true
+  pub bad : HasNoSegment s.schema area (segments_of s vid) page
+
+-- one of the versions has one of the rids, and the segments of its partition are whole and have no record of it; this is the
+-- first page of the version's list
+pub record LacksWanted (area : List ℕ) (s : Numbers) (versions : List ℕ) (lists : List (List ℕ)) (rids : List ℕ) (page : ℕ) : Type 0 where
+  pub vid : ℕ
+  pub rid : ℕ
+  pub listed : IsOnList versions lists vid rid
+  pub wanted : has rids rid ≡ true
+  pub contents : List (List Record)
+  pub read : AreSegments s.schema area (segments_of s vid) contents
+  pub lacking : record_of (joined contents) rid ≡ None
+  pub page_is : page ≡ (list_of s vid).page
+
+-- want of memory and a fault of the host say nothing of the bytes
+abbrev pub RefusesCopy : FetchErr → List ℕ → Numbers → List ℕ → List (List ℕ) → List ℕ → Type 0
+RefusesCopy Host area s versions lists rids = Unit {0}
+RefusesCopy Memory area s versions lists rids = Unit {0}
+RefusesCopy (Damaged page) area s versions lists rids =
+    HasBadSegment area s versions lists rids page ⊎ LacksWanted area s versions lists rids page
