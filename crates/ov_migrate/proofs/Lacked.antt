@@ -1,7 +1,7 @@
 -- What a target lacks, by rids.
-use Rattle.std.proofs.Common.{◌≡◌, ◌+◌, ◌-◌, ◌≤◌, ◌<◌, ◌^◌, ℕ, zero, suc, Bool, true, false, not, ◌&&◌, ◌||◌, ◌==◌, List, [], ◌∷◌, length, take, drop, map, min, refl, sym, ◌∙◌, ap, subst, arith}
+use Rattle.std.proofs.Common.{◌≡◌, ◌+◌, ◌-◌, ◌<◌, ◌^◌, ℕ, zero, suc, Bool, true, false, not, ◌&&◌, ◌||◌, ◌==◌, List, [], ◌∷◌, length, take, drop, min, refl, sym, ◌∙◌, ap, arith}
 use Rattle.std.specs.Prelude.{filter, if◌then◌else◌}
-use Rattle.std.specs.List.{All, AllZip, list_any}
+use Rattle.std.specs.List.{AllZip}
 use Rattle.std.proofs.lemmas.List.{length-drop, length-take, nil_from_length}
 use Rattle.std.proofs.lemmas.List.Filters.{length-filter_both}
 use Rattle.ov_member.specs.Rids.{AreRids, has, left_out}
@@ -12,7 +12,7 @@ use Rattle.ov_read.specs.Agreement.{AreTogether, IsBorneOut as IsSetBorneOut, Pa
 use Rattle.ov_read.proofs.Bearing.{all_rids}
 use Rattle.ov_read.proofs.Uniting.{only_one}
 use Rattle.ov_migrate.specs.Picked.{IsUnionOf}
-use Rattle.ov_migrate.specs.Targets.{IsBorneOut, IsLacking, IsOff}
+use Rattle.ov_migrate.specs.Targets.{IsLacking, IsOff}
 
 -- ---- sets within sets
 

@@ -1,11 +1,11 @@
 -- What is true of numbers that events make: datasets have different names, and no more is copied for a target than it misses.
-use Rattle.std.proofs.Common.{◌≡◌, ◌≢◌, ◌==◌, ◌+◌, ◌-◌, ◌≤◌, ◌<◌, ℕ, zero, suc, Bool, true, false, not, ◌&&◌, ◌||◌, List, [], ◌∷◌, ◌++◌, length, map, refl, sym, ◌∙◌, ap, subst, inl, inr, arith}
+use Rattle.std.proofs.Common.{◌≡◌, ◌≢◌, ◌==◌, ◌+◌, ◌≤◌, ℕ, zero, suc, Bool, true, false, not, ◌&&◌, ◌||◌, List, [], ◌∷◌, ◌++◌, length, map, refl, sym, ◌∙◌, ap, subst, inl, inr, arith}
 use Rattle.std.specs.Prelude.{Option, Some, None, find, filter, min, is_none, nat_le, nat_lt, slice_index_or, if◌then◌else◌}
 use Rattle.std.specs.List.{list_any}
 use Rattle.std.specs.Bool.{Decides}
 use Rattle.std.specs.Option.{option_or}
 use Rattle.std.specs.Str.{bytes_eq}
-use Rattle.std.proofs.lemmas.Bool.{eq-eqb, eqb-true, leb-true}
+use Rattle.std.proofs.lemmas.Bool.{eqb-true, leb-true}
 use Rattle.std.proofs.lemmas.Slice.Eq.{bytes_eq-Decides}
 use Rattle.ov_host.specs.declared.area.Extent.{Extent}
 use Rattle.ov_event.specs.declared.event.Event as raw
@@ -17,7 +17,7 @@ use Rattle.ov_layout.specs.Changes.{extents_of}
 use Rattle.ov_model.specs.Lists.{IsIn}
 use Rattle.ov_catalog.specs.declared.field.Field.{Field}
 use Rattle.ov_catalog.specs.declared.field.Field.TheVariants as off
-use Rattle.ov_catalog.specs.Applying.{AllApply, commit_off, first_off, init_off, is_named, is_same, is_schema, of_live, off_unless, part_numbered}
+use Rattle.ov_catalog.specs.Applying.{AllApply, commit_off, first_off, init_off, is_named, is_same, of_live, off_unless, part_numbered}
 use Rattle.ov_catalog.specs.Events.{applied, change, copied_for, copied_more, current, flipped, flipped_by, new_set, next_target, no_target, numbered, parts_at, planned, replayed, targets_of, version_of, with_version}
 use Rattle.ov_catalog.specs.Numbers.{PartNumbers, PlanNumbers, SetNumbers, TargetNumbers, Numbers, nothing_yet}
 use Rattle.ov_catalog.specs.Planning.{are_targets, ascend_from, are_below, copy_off, empties, flip_off, is_kept, is_size, is_source, is_threshold, missing, of_running, plan_off}

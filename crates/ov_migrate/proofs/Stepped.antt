@@ -1,5 +1,5 @@
 -- A step whose target was read.
-use Rattle.std.proofs.Common.{◌≡◌, ◌≤◌, ◌<◌, ◌+◌, ◌-◌, ℕ, List, [], ◌∷◌, length, take, drop, min, inl, inr, refl, sym, ◌∙◌, ap, subst, arith}
+use Rattle.std.proofs.Common.{◌≡◌, ◌≤◌, ◌<◌, ◌+◌, ◌-◌, ℕ, List, length, take, drop, min, inl, inr, sym, ◌∙◌, ap, subst, arith}
 use Rattle.ov_host.specs.declared.area.Extent.{Extent}
 use Rattle.ov_core.specs.declared.brought.Brought.{Brought}
 use Rattle.ov_catalog.specs.Events.{current}
@@ -9,8 +9,8 @@ use Rattle.ov_copies.specs.Copies.{IsCopied, RefusesCopy}
 use Rattle.ov_fetch.specs.declared.errors.FetchErr.{FetchErr}
 use Rattle.ov_fetch.specs.declared.errors.FetchErr.TheVariants.{Host, Memory, Damaged}
 use Rattle.ov_read.specs.Agreement.{Numbers}
-use Rattle.ov_migrate.specs.Steps.{HasNoCopy, IsTestedCopy, IsTestedFlip, RefusesBy}
-use Rattle.ov_migrate.specs.Targets.{IsLacking, IsRead, IsSized, RefusesTarget, TargetAgrees, lacking}
+use Rattle.ov_migrate.specs.Steps.{IsTestedCopy, IsTestedFlip, RefusesBy}
+use Rattle.ov_migrate.specs.Targets.{IsLacking, IsRead, RefusesTarget, TargetAgrees, lacking}
 use Rattle.ov_migrate.proofs.Lacked.{lacking_counted, picked_long}
 
 abbrev pub agrees_of : (area : List ℕ) (s : Numbers) (t : TargetNumbers) (lists : List (List ℕ)) (rids : List ℕ) → IsRead area s t lists rids → TargetAgrees area s t

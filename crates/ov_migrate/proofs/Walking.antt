@@ -4,7 +4,7 @@ use Rattle.std.specs.Prelude.{min}
 use Rattle.ov_member.specs.Lists.{AreApart, Range, Spells, bytes_of, range_bytes, rids_of, run}
 use Rattle.std.proofs.lemmas.List.{append-nil}
 use Rattle.ov_member.specs.Rids.{AreRids, RiseFrom}
-use Rattle.ov_member.proofs.RangeLemmas.{Fits, fits-apart, front-same, RiseFrom-apart}
+use Rattle.ov_member.proofs.RangeLemmas.{fits-apart, front-same, RiseFrom-apart}
 use Rattle.ov_member.proofs.RidLemmas.{RiseFrom-weaker}
 
 -- what is left of it: from here on the rids are those that are behind the ones that were found

@@ -1,5 +1,5 @@
 -- A target's lists and kept segments, as they are read.
-use Rattle.std.proofs.Common.{◌≡◌, ℕ, true, List, map, sym, ◌∙◌, ap, subst}
+use Rattle.std.proofs.Common.{◌≡◌, ℕ, true, List, map, ◌∙◌, ap, subst}
 use Rattle.std.specs.List.{AllZip}
 use Rattle.ov_host.specs.declared.area.Extent.{Extent}
 use Rattle.ov_host.specs.Host.{State}
@@ -11,7 +11,7 @@ use Rattle.ov_catalog.specs.Sets.{part_in, set_in}
 use Rattle.ov_fetch.specs.Extents.{IsList, Looked, page_bytes}
 use Rattle.ov_fetch.specs.Rows.{HaveRids}
 use Rattle.ov_fetch.proofs.Looks.{same_pages}
-use Rattle.ov_read.specs.Agreement.{Agrees, Numbers, list_of}
+use Rattle.ov_read.specs.Agreement.{Agrees, list_of}
 use Rattle.ov_migrate.specs.Targets.{IsWhole}
 
 pub is_whole : (s0 s1 : State) (d : Cvd) (t : TargetNumbers) (versions : List ℕ) (parts : List Part) (segments read : List Extent) (lists sets : List (List ℕ)) → s0.tells ≡ true → Looked s0 s1

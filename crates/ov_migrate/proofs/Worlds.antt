@@ -1,6 +1,6 @@
 -- A step at a World.
-use Rattle.std.proofs.Common.{◌≡◌, ◌≤◌, ◌<◌, ◌-◌, ◌==◌, ◌||◌, ℕ, Bool, true, false, List, [], ◌∷◌, length, map, take, drop, inl, inr, refl, sym, ◌∙◌, ap, subst, arith}
-use Rattle.std.specs.Prelude.{Option, Some, None, if◌then◌else◌, unwrap_or}
+use Rattle.std.proofs.Common.{◌≡◌, ◌≤◌, ◌<◌, ◌-◌, ◌||◌, ℕ, Bool, List, [], ◌∷◌, length, map, take, drop, inl, inr, refl, sym, ◌∙◌, ap, subst, arith}
+use Rattle.std.specs.Prelude.{Some, if◌then◌else◌, unwrap_or}
 use Rattle.std.specs.List.{All, list_any}
 use Rattle.std.specs.Option.{option_map}
 use Rattle.std.proofs.lemmas.Bool.{eq-eqb, ne_eqb}
@@ -14,15 +14,15 @@ use Rattle.ov_model.specs.Moves as moves
 use Rattle.ov_model.specs.Moves.{Move, numbered}
 use Rattle.ov_model.specs.Plans as plans
 use Rattle.ov_model.specs.Records.{Rec, order_of, rid_in}
-use Rattle.ov_model.specs.Steps.{next_step, step_of}
+use Rattle.ov_model.specs.Steps.{next_step}
 use Rattle.ov_model.specs.World.{Dataset, World}
 use Rattle.ov_model.specs.World as worlds
-use Rattle.ov_catalog.specs.Events.{Event, Copy, current}
+use Rattle.ov_catalog.specs.Events.{Copy, current}
 use Rattle.ov_catalog.specs.Numbers.{PlanNumbers, TargetNumbers}
 use Rattle.ov_catalog.specs.Raw.{event_in}
 use Rattle.ov_catalog.specs.Reached.{Reached}
-use Rattle.ov_catalog.specs.Shown.{Records, Rids, copy_event, copy_for, event_of, in_set, list_of, segment_of, shown_target}
-use Rattle.ov_catalog.specs.Stands.{asked_as, asked_event}
+use Rattle.ov_catalog.specs.Shown.{copy_event, copy_for, event_of, in_set, list_of, segment_of, shown_target}
+use Rattle.ov_catalog.specs.Stands.{asked_as}
 use Rattle.ov_core.specs.Brought.{content, extent_at, segments_in}
 use Rattle.ov_core.specs.declared.brought.Brought.{Brought}
 use Rattle.ov_fetch.specs.declared.errors.FetchErr.{FetchErr}

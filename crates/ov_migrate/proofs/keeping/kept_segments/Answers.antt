@@ -1,7 +1,7 @@
-use Rattle.std.proofs.Common.{◌≡◌, ◌++◌, ℕ, List, [], ◌∷◌, get_or, take, refl, sym, ◌∙◌, ap, arith}
+use Rattle.std.proofs.Common.{◌++◌, ℕ, List, [], ◌∷◌, get_or, take, refl, sym, ◌∙◌, ap, arith}
 use Rattle.std.proofs.lemmas.List.{append-nil}
 use Rattle.ov_host.specs.declared.area.Extent.{Extent}
-use Rattle.ov_catalog.specs.Events.{chosen, one_at}
+use Rattle.ov_catalog.specs.Events.{chosen}
 use Rattle.ov_migrate.proofs.Kept.{chosen_more, one_found, one_none}
 use Rattle.ov_migrate.proofs.keeping.kept_segments.Goals as goal
 use Rattle.ov_migrate.proofs.keeping.kept_segments.Goals.{then-place-segments+in_ok-push, else-place-segments}

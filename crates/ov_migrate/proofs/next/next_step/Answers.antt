@@ -1,5 +1,5 @@
-use Rattle.std.proofs.Common.{◌≡◌, ℕ, Bool, List, [], ◌∷◌, Some, None, true, false, refl, sym, ◌∙◌, ap, subst}
-use Rattle.std.specs.Prelude.{Option, find, is_some, option_map, option_copied, if◌then◌else◌}
+use Rattle.std.proofs.Common.{◌≡◌, Bool, List, [], ◌∷◌, Some, None, true, false, refl, sym, ◌∙◌, ap, subst}
+use Rattle.std.specs.Prelude.{find, is_some, option_map, option_copied, if◌then◌else◌}
 use Rattle.ov_host.specs.declared.area.Extent.{Extent}
 use Rattle.ov_catalog.specs.Numbers.{Numbers as Catalog}
 use Rattle.ov_catalog.specs.Sets.{plan_in, plan_numbers, set_in}

@@ -1,4 +1,4 @@
-use Rattle.std.proofs.Common.{◌≡◌, ℕ, List, take, drop, sym, subst, ◌∙◌}
+use Rattle.std.proofs.Common.{sym, subst, ◌∙◌}
 use Rattle.std.specs.Option.{SomeIff}
 use Rattle.ov_member.specs.Lists.{Spells}
 use Rattle.ov_member.specs.Rids.{AreRids}

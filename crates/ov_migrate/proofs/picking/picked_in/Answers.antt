@@ -1,4 +1,4 @@
-use Rattle.std.proofs.Common.{◌≡◌, ◌++◌, ◌-◌, ℕ, List, take, drop, inl, inr, refl, sym, arith, ap, ◌∙◌}
+use Rattle.std.proofs.Common.{◌≡◌, ◌++◌, ℕ, List, take, drop, inl, inr, sym, arith, ap}
 use Rattle.std.proofs.lemmas.List.{take-append-drop}
 use Rattle.ov_migrate.proofs.Walking.{ends, goes_on}
 use Rattle.ov_migrate.proofs.picking.picked_in.Goals as goal

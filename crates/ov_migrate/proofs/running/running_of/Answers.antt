@@ -1,7 +1,7 @@
-use Rattle.std.proofs.Common.{◌≡◌, ℕ, List, Some, refl, sym, ◌∙◌, ap, subst}
-use Rattle.std.specs.Prelude.{Option, find, is_some, option_map, option_copied}
+use Rattle.std.proofs.Common.{◌≡◌, ℕ, List, Some, sym, ◌∙◌, ap}
+use Rattle.std.specs.Prelude.{find, is_some, option_map, option_copied}
 use Rattle.ov_catalog.specs.Applying.{is_named}
-use Rattle.ov_catalog.specs.Sets.{set_in, sets_in}
+use Rattle.ov_catalog.specs.Sets.{set_in}
 use Rattle.ov_migrate.proofs.Replayed.{Set, first_found, named_again}
 use Rattle.law_steps.specs.Turns.{running}
 use Rattle.ov_migrate.proofs.running.running_of.Goals as goal

@@ -5,7 +5,7 @@ use Rattle.ov_fetch.specs.Extents.{page_bytes}
 use Rattle.ov_fetch.specs.Gathering.{RefusesSegments}
 use Rattle.ov_fetch.specs.Rows.{HaveRids}
 use Rattle.ov_fetch.proofs.Gathered.{is_among, passed_on}
-use Rattle.ov_migrate.proofs.Kept.{HasSets, goes_on, starts, stops}
+use Rattle.ov_migrate.proofs.Kept.{HasSets, goes_on, stops}
 use Rattle.ov_migrate.proofs.segments.rids_each.Goals as goal
 
 pub loop-segment-preserved : goal.loop-segment-preserved

@@ -1,9 +1,9 @@
-use Rattle.std.proofs.Common.{◌≡◌, ℕ, List, None, Some, length, true, inr, sym, ◌∙◌, ap, subst}
+use Rattle.std.proofs.Common.{ℕ, List, length, inr, ◌∙◌, ap, subst}
 use Rattle.std.specs.Prelude.{Option, MatchOption}
 use Rattle.ov_catalog.specs.Numbers.{TargetNumbers}
 use Rattle.ov_catalog.specs.Sets.{set_in, target_in}
 use Rattle.ov_read.specs.Agreement.{Agrees}
-use Rattle.ov_migrate.specs.Targets.{IsLacking, IsOff, first_page}
+use Rattle.ov_migrate.specs.Targets.{IsLacking, IsOff}
 use Rattle.ov_migrate.proofs.Lacked.{zip_long}
 use Rattle.ov_migrate.proofs.Whole.{is_whole}
 use Rattle.ov_migrate.proofs.targets.lacking_of.Goals as goal
