@@ -1,9 +1,12 @@
 -- The records of partitions, one partition more.
-use Rattle.std.proofs.Common.{◌≡◌, ◌<◌, ◌≤◌, ◌+◌, ℕ, suc, Bool, true, false, ◌||◌, cond, List, [], ◌∷◌, ◌++◌, length, get_or, refl, sym, ◌∙◌, ap, subst, arith}
-use Rattle.std.specs.List.{All, AllByRecursion}
+use Rattle.std.proofs.Common.{◌≡◌, ◌<◌, ◌≤◌, ◌+◌, ◌*◌, ℕ, zero, suc, Bool, true, false, ◌||◌, cond, List, [], ◌∷◌, ◌++◌, length, take, get_or, refl, sym, ◌∙◌, ap, subst, arith}
+use Rattle.std.specs.List.{All, AllByRecursion, AllZip, list_any, sum_by}
 use Rattle.std.proofs.lemmas.List.{length-map, map-append}
 use Rattle.std.proofs.lemmas.List.Elements.{All-append, All-nil}
 use Rattle.std.proofs.lemmas.List.Folds.{list_any-append}
+use Rattle.std.proofs.lemmas.List.Sums.{sum_by-cons, sum_by_more_le, sum_by_push}
+use Rattle.ov_host.specs.declared.area.Extent.{Extent}
+use Rattle.ov_host.specs.Extent.{pages_of}
 use Rattle.ov_host.specs.Host.{State}
 use Rattle.ov_layout.specs.declared.part.Part.{Part}
 use Rattle.ov_layout.specs.Parts.{is_placed, serves as serves_in, times_placed}
@@ -13,7 +16,7 @@ use Rattle.ov_segment.specs.declared.numbered.Record.{Record}
 use Rattle.ov_segment.specs.Tables.{Content}
 use Rattle.ov_catalog.specs.declared.cvd.Cvd.{Cvd}
 use Rattle.ov_catalog.specs.Ready.{IsSet}
-use Rattle.ov_catalog.specs.Sets.{set_in, version_in}
+use Rattle.ov_catalog.specs.Sets.{part_in, set_in, version_in}
 use Rattle.ov_model.specs.Placed.{times}
 use Rattle.ov_fetch.specs.declared.errors.FetchErr.{FetchErr}
 use Rattle.ov_fetch.specs.Extents.{Looked, page_bytes, rids_of}
@@ -23,12 +26,14 @@ use Rattle.ov_fetch.proofs.Counted.{ascending}
 use Rattle.ov_fetch.proofs.Gathered.{append_all, are_records}
 use Rattle.ov_fetch.proofs.Looks.{looked_again, looked_at_all, same_pages}
 use Rattle.ov_read.specs.Agreement.{IsThere, Numbers, segments_of}
-use Rattle.ov_read.proofs.Passed.{own_segments}
+use Rattle.ov_read.specs.Sizes.{pages_in, segment_bytes_for, serves_one}
+use Rattle.ov_read.proofs.Listing.{bytes_below}
+use Rattle.ov_read.proofs.Passed.{all_fetched, own_segments, part_pages}
 use Rattle.law_reads.proofs.Orders.{all_of}
 use Rattle.ov_copies.specs.declared.asking.Asked.{Asked}
-use Rattle.ov_copies.specs.Asking.{IsAsked}
+use Rattle.ov_copies.specs.Asking.{IsAsked, IsPartOf}
 use Rattle.ov_copies.specs.Copies.{IsFrom, RefusesCopy}
-use Rattle.ov_copies.specs.Gathering.{AreFor, AreGathered, IsAdded, RefusesPart}
+use Rattle.ov_copies.specs.Gathering.{AreFor, AreGathered, IsAdded, RefusesPart, bytes_if}
 use Rattle.ov_copies.proofs.Added.{from, has_asked, one_of, refuses}
 use Rattle.ov_copies.proofs.Counting.{times_append, times_set}
 
@@ -40,6 +45,7 @@ pub record AreTaken (area : List ℕ) (s : Numbers) (versions : List ℕ) (lists
 -- these partitions were passed
 pub record HasPassed (before now : State) (d : Cvd) (versions : List ℕ) (lists : List (List ℕ)) (rids : List ℕ) (parts : List Part) (left : List ℕ) (found : Content) : Type 0 where
   pub looked : Looked before now
+  pub fetched : now.fetched ≤ before.fetched + 4096 * sum_by (part_pages versions) parts
   pub columns : found.columns ≡ d.schema.columns
   pub are : AllByRecursion (IsRecord d.schema) found.records
   pub set : AreRids left
@@ -54,6 +60,7 @@ pub starts : (at : State) (d : Cvd) (versions : List ℕ) (lists : List (List �
     → AreRids left → left ≡ rids → HasPassed at at d versions lists rids [] left found
 starts at d versions lists rids left found columns none set same = record {
   looked = looked_at_all at;
+  fetched = omega arith;
   columns = columns;
   are = subst (AllByRecursion (IsRecord d.schema)) (sym none) tt;
   set = set;
@@ -99,16 +106,40 @@ still_none a b c split e = by a b (sym split ∙ e)
     by true y f = absurd (no (sym f))
     by false y f = f
 
+-- what is asked of a partition is of a version that it serves
+serves_some : (s : Numbers) (versions : List ℕ) (lists : List (List ℕ)) (part : Part) (extents : List Extent) (sets : List (List ℕ)) → 0 < length sets
+    → AllZip (IsPartOf s versions lists part.versions) extents sets → serves_one versions (part_in part) ≡ true
+serves_some s versions lists part extents [] some each = absurd (omega (arith, some))
+serves_some s versions lists part [] (set ∷ sets) some each = absurd each
+serves_some s versions lists part (e ∷ extents) (set ∷ sets) some each = any versions each.0.place each.0.there each.0.member
+  where
+    any : (vs : List ℕ) (k : ℕ) → k < length vs → has part.versions (get_or vs k 0) ≡ true → list_any (λ vid. has part.versions vid) vs ≡ true
+    any [] k low member = absurd (omega (arith, low))
+    any (v ∷ vs) zero low member = or_yes (has part.versions v) (list_any (λ vid. has part.versions vid) vs) member
+    any (v ∷ vs) (suc k) low member = or_right (has part.versions v) (list_any (λ vid. has part.versions vid) vs) (any vs k (omega (arith, low)) member)
+
+bytes_pages : (segments : List Extent) → sum_by (λ e. e.bytes) segments ≤ 4096 * pages_in segments
+bytes_pages [] = omega arith
+bytes_pages (e ∷ segments) =
+    omega (arith, bytes_pages segments, bytes_below e.bytes, sum_by-cons (λ (x : Extent). x.bytes) e segments, sum_by-cons pages_of e segments)
+
+asked_bytes : (s : Numbers) (versions : List ℕ) (lists : List (List ℕ)) (part : Part) (extents : List Extent) (sets : List (List ℕ))
+    → AllZip (IsPartOf s versions lists part.versions) extents sets → bytes_if sets part.segments ≤ 4096 * part_pages versions part
+asked_bytes s versions lists part extents [] each = omega arith
+asked_bytes s versions lists part extents (set ∷ sets) each = rw (serves_some s versions lists part extents (set ∷ sets) (omega arith) each) (bytes_pages part.segments)
+
 module _ (d : Cvd) (versions : List ℕ) (lists : List (List ℕ)) (rids : List ℕ) (paired : length lists ≡ length versions)
     (k : ℕ) (part : Part) (low : k < length d.layout.parts) (is : part ≡ get_or d.layout.parts k part) (once : (vid : ℕ) → times_placed vid d.layout.parts ≤ 1) where
   own : (vid : ℕ) → has part.versions vid ≡ true → segments_of (set_in d) vid ≡ part.segments
   own vid member = own_segments d vid k part low is member (once vid)
 
   pub goes_on : (s0 s1 s2 : State) (parts : List Part) (left after : List ℕ) (asked : Asked) (old new : Content)
-      → HasPassed s0 s1 d versions lists rids parts left old → IsAsked (set_in d) versions lists part.versions part.versions left after asked → Looked s1 s2 → new.columns ≡ old.columns
+      → HasPassed s0 s1 d versions lists rids parts left old → IsAsked (set_in d) versions lists part.versions part.versions left after asked → Looked s1 s2 → s2.fetched ≤ s1.fetched + bytes_if asked.sets.items part.segments
+      → new.columns ≡ old.columns
       → IsAdded d.schema s1 part.segments asked.sets.items old.records new.records → HasPassed s0 s2 d versions lists rids (parts ++ part ∷ []) after new
-  goes_on s0 s1 s2 parts left after asked old new h asks looked columns added = record {
+  goes_on s0 s1 s2 parts left after asked old new h asks looked fetched columns added = record {
     looked = looked_again s0 s1 s2 h.looked looked;
+    fetched = omega (arith, h.fetched, fetched, asked_bytes (set_in d) versions lists part asked.lists.items asked.sets.items asks.each, sum_by_push (part_pages versions) parts part);
     columns = columns ∙ h.columns;
     are = subst (AllByRecursion (IsRecord d.schema)) (sym added.new_is)
         (append_all (IsRecord d.schema) old.records added.more h.are (are_records d.schema 0 added.more added.are));
@@ -147,6 +178,13 @@ module _ (d : Cvd) (versions : List ℕ) (lists : List (List ℕ)) (rids : List 
           last : (x : Bool) → (x || false) ≡ true → x ≡ true
           last true f = refl
           last false f = f
+
+  -- what was fetched for some of the partitions is no more than for all
+  pub some_fetched : (before now more : ℕ) (left after : List ℕ) (asked : Asked) → now ≤ before + 4096 * sum_by (part_pages versions) (take k d.layout.parts)
+      → more ≤ now + bytes_if asked.sets.items part.segments → IsAsked (set_in d) versions lists part.versions part.versions left after asked → more ≤ before + segment_bytes_for (set_in d) versions
+  some_fetched before now more left after asked h one asks =
+      all_fetched d versions before more
+      (omega (arith, h, one, asked_bytes (set_in d) versions lists part asked.lists.items asked.sets.items asks.each, ap (part_pages versions) is, sum_by_more_le (part_pages versions) d.layout.parts k part low))
 
   pub stops : (s0 s1 : State) (parts : List Part) (left after : List ℕ) (asked : Asked) (old : Content) (e : FetchErr) → HasPassed s0 s1 d versions lists rids parts left old
       → IsAsked (set_in d) versions lists part.versions part.versions left after asked → s0.tells ≡ true → RefusesPart e d.schema (page_bytes s1) part.segments asked.lists.items asked.sets.items

@@ -3,10 +3,12 @@
 --     IsFrom area s versions lists r      the record is what the partition of a version that has it keeps of its rid
 --     AreCopied area s versions lists rids records      so are all of these, and they have these rids
 --     IsCopied area s versions lists rids bytes      the bytes are a segment of such records
+--     IsSegmentOf schema rids bytes      what is known of the bytes on every host
 --     RefusesCopy e area s versions lists rids      why there are none
 use Rattle.std.specs.Prelude.{◌≡◌, ◌⊎◌, ℕ, true, List, Some, None, slice_get}
 use Rattle.std.specs.List.{All}
 use Rattle.ov_member.specs.Rids.{has}
+use Rattle.ov_value.specs.Shapes.{Shape}
 use Rattle.ov_segment.specs.declared.numbered.Record.{Record}
 use Rattle.ov_segment.specs.Segments.{AreRecords, segment_spelling}
 use Rattle.ov_fetch.specs.declared.errors.FetchErr.{FetchErr}
@@ -35,6 +37,13 @@ pub record AreCopied (area : List ℕ) (s : Numbers) (versions : List ℕ) (list
   pub rids_are : rids_of records ≡ rids
   pub are : AreRecords s.schema 0 records
   pub each : All (IsFrom area s versions lists) records
+
+-- the bytes are a segment, and its records have these rids
+pub record IsSegmentOf (schema : Shape) (rids bytes : List ℕ) : Type 0 where
+  pub records : List Record
+  pub spelled : bytes ≡ segment_spelling records
+  pub rids_are : rids_of records ≡ rids
+  pub are : AreRecords schema 0 records
 
 pub record IsCopied (area : List ℕ) (s : Numbers) (versions : List ℕ) (lists : List (List ℕ)) (rids bytes : List ℕ) : Type 0 where
   pub records : List Record

@@ -2,7 +2,7 @@
 --     IsAdded schema s segments sets old new      those of one partition came behind the others
 --     AreGathered area s versions lists rids records      those of all of them
 use Rattle.std.specs.Prelude.{◌≡◌, ◌<◌, ℕ, true, cond, List, [], ◌∷◌, ◌++◌, length}
-use Rattle.std.specs.List.{All}
+use Rattle.std.specs.List.{All, sum_by}
 use Rattle.ov_host.specs.declared.area.Extent.{Extent}
 use Rattle.ov_host.specs.Host.{State}
 use Rattle.ov_member.specs.Rids.{has}
@@ -21,6 +21,11 @@ use Rattle.ov_copies.specs.Copies.{IsFrom}
 abbrev pub AreFor : Shape → List ℕ → List Extent → List (List ℕ) → List Record → Type 0
 AreFor schema area segments [] got = got ≡ []
 AreFor schema area segments (set ∷ sets) got = AreRows schema area segments (set ∷ sets) got
+
+-- nor are they fetched
+abbrev pub bytes_if : List (List ℕ) → List Extent → ℕ
+bytes_if [] segments = 0
+bytes_if (set ∷ sets) segments = sum_by (λ e. e.bytes) segments
 
 pub record IsAdded (schema : Shape) (s : State) (segments : List Extent) (sets : List (List ℕ)) (old new : List Record) : Type 0 where
   pub more : List Record

@@ -1,6 +1,6 @@
 //! The records of a copy.
 
-ghost use Rattle.std.specs.Prelude.{◌≡◌, ◌≤◌, ◌<◌, ◌^◌, ℕ, true, not, ◌&&◌, ◌==◌, IsTrue, List, [], ◌∷◌, All, IfOk, IsErrOf, MatchResult, Some, length, map};
+ghost use Rattle.std.specs.Prelude.{◌≡◌, ◌≤◌, ◌<◌, ◌^◌, ◌+◌, ℕ, true, not, ◌&&◌, ◌==◌, IsTrue, List, [], ◌∷◌, All, IfOk, IsErrOf, MatchResult, Some, length, map};
 ghost use Rattle.ov_host.specs.Host.{Rose};
 ghost use Rattle.ov_event.specs.Spelling.{IsEvent};
 ghost use Rattle.ov_event.specs.declared.event.Event.TheVariants as says;
@@ -19,7 +19,8 @@ ghost use Rattle.ov_fetch.specs.Extents.{Looked, page_bytes, rids_of};
 ghost use Rattle.ov_fetch.specs.Rows.{is_asked};
 ghost use Rattle.ov_read.specs.Agreement.{IsThere};
 ghost use Rattle.ov_read.specs.OfWorld.{IsSetOf, IsSpared, rids_in};
-ghost use Rattle.ov_copies.specs.Copies.{AreCopied, IsCopied, RefusesCopy};
+ghost use Rattle.ov_read.specs.Sizes.{segment_bytes_for};
+ghost use Rattle.ov_copies.specs.Copies.{AreCopied, IsCopied, IsSegmentOf, RefusesCopy};
 
 use crate::gathering::gather;
 use crate::places::first_page;
@@ -51,7 +52,8 @@ pub struct Wanted<'a> {
 /// version that has it.
 ///
 /// The segments of a partition are read once where it serves a version with a rid that no partition before it had, and else not
-/// at all. Time beside that: one step for each version of the dataset and each range of a list.
+/// at all. Time beside that: one step for each version of the dataset and each range of a list, and at each of these versions one
+/// for each rid that is left; and the sorting and copying of the records.
 pub fn copy_of<H: Host>(
     alloc: Global,
     host: &mut H,
@@ -67,11 +69,13 @@ pub fn copy_of<H: Host>(
     requires listed { (rid : ℕ) → has wanted.rids.now rid ≡ true → is_asked wanted.lists.now rid ≡ true }
     ensures looked { Looked (H.state host.old) (H.state host.new) }
     ensures cause { IsErrOf result FetchErr.Host → Rose (H.state host.old).faults (H.state host.new).faults }
+    ensures fetched { (H.state host.new).fetched ≤ (H.state host.old).fetched + segment_bytes_for (set_in d.now) wanted.entry.versions.now }
 
     // On every host.
     ensures unplaced { IfOk result IsUnplaced }
     ensures event { IfOk result (λ b. IsEvent b.event) }
     ensures is { IfOk result (λ b. (b.event ≡ says.Copy d.now.number (length wanted.entry.rids.now) (extent_at 0 b.segment.items)) × (b.list.items ≡ []) × (0 < length b.segment.items)) }
+    ensures segment { IfOk result (λ b. IsSegmentOf d.now.schema wanted.entry.rids.now b.segment.items) }
     ensures may_be_placed { IfOk result (λ b. IsTrue (not ((extent_at 0 b.segment.items).bytes == 0) && is_extent (extent_at 0 b.segment.items))) }
 
     // Where the host tells its bytes.
@@ -120,6 +124,7 @@ fn records_of<H: Host>(
     requires listed { (rid : ℕ) → has rids.now rid ≡ true → is_asked lists.now rid ≡ true }
     ensures looked { Looked (H.state host.old) (H.state host.new) }
     ensures cause { IsErrOf result FetchErr.Host → Rose (H.state host.old).faults (H.state host.new).faults }
+    ensures fetched { (H.state host.new).fetched ≤ (H.state host.old).fetched + segment_bytes_for (set_in d.now) versions.now }
     ensures are { IfOk result (λ found. AreRecords d.now.schema 0 found.records) }
     ensures rids { IfOk result (λ found. rids_of found.records ≡ rids.now) }
     ensures answer { (H.state host.old).tells ≡ true → MatchResult result

@@ -1,6 +1,6 @@
 // The records of rids, partition after partition.
 
-ghost use Rattle.std.specs.Prelude.{◌≡◌, ◌≤◌, ℕ, true, [], All, IfOk, OnOk, IfErr, IsErrOf, MatchResult, length};
+ghost use Rattle.std.specs.Prelude.{◌≡◌, ◌≤◌, ◌+◌, ℕ, true, [], All, IfOk, OnOk, IfErr, IsErrOf, MatchResult, length};
 ghost use Rattle.std.specs.List.{AllByRecursion};
 ghost use Rattle.ov_host.specs.Host.{Rose};
 ghost use Rattle.ov_catalog.specs.Ready.{IsSet};
@@ -11,8 +11,9 @@ ghost use Rattle.ov_fetch.specs.Extents.{Looked, page_bytes};
 ghost use Rattle.ov_fetch.specs.Gathering.{IsRecord};
 ghost use Rattle.ov_fetch.specs.Rows.{is_asked};
 ghost use Rattle.ov_read.specs.Agreement.{IsThere};
+ghost use Rattle.ov_read.specs.Sizes.{segment_bytes_for};
 ghost use Rattle.ov_copies.specs.Copies.{RefusesCopy};
-ghost use Rattle.ov_copies.specs.Gathering.{AreGathered, IsAdded, RefusesPart};
+ghost use Rattle.ov_copies.specs.Gathering.{AreGathered, IsAdded, RefusesPart, bytes_if};
 
 use crate::asking::{Asked, asked_of};
 use crate::places::places_of;
@@ -41,6 +42,7 @@ pub(crate) fn gather<H: Host>(
     requires listed { (rid : ℕ) → has rids.now rid ≡ true → is_asked lists.now rid ≡ true }
     ensures looked { Looked (H.state host.old) (H.state host.new) }
     ensures cause { IsErrOf result FetchErr.Host → Rose (H.state host.old).faults (H.state host.new).faults }
+    ensures fetched { (H.state host.new).fetched ≤ (H.state host.old).fetched + segment_bytes_for (set_in d.now) versions.now }
     ensures are { IfOk result (λ found. AllByRecursion (IsRecord d.now.schema) found.records) }
     ensures answer { (H.state host.old).tells ≡ true → MatchResult result
         (λ found. AreGathered (page_bytes (H.state host.old)) (set_in d.now) versions.now lists.now rids.now found.records)
@@ -72,6 +74,7 @@ fn add_part<H: Host>(
     requires columns { found.old.columns ≡ schema.now.columns }
     ensures looked { Looked (H.state host.old) (H.state host.new) }
     ensures cause { IsErrOf result FetchErr.Host → Rose (H.state host.old).faults (H.state host.new).faults }
+    ensures fetched { (H.state host.new).fetched ≤ (H.state host.old).fetched + bytes_if asked.now.sets.items segments.now }
     ensures still { asked.now.sets.items ≡ [] → H.state host.new ≡ H.state host.old }
     ensures columns { OnOk result (found.new.columns ≡ found.old.columns) }
     ensures added { OnOk result (IsAdded schema.now (H.state host.old) segments.now asked.now.sets.items found.old.records found.new.records) }

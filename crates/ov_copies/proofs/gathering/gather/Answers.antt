@@ -1,15 +1,17 @@
-use Rattle.std.proofs.Common.{◌≡◌, ◌<◌, ◌++◌, ◌∷◌, [], ◌∙◌, ℕ, List, length, take, get_or, sym, ap, subst, arith}
+use Rattle.std.proofs.Common.{◌≡◌, ◌<◌, ◌++◌, ◌∷◌, [], ◌≤◌, ◌+◌, ◌*◌, ◌∙◌, ℕ, List, length, take, get_or, sym, ap, subst, arith}
 use Rattle.std.proofs.lemmas.List.{take_all, take_more}
+use Rattle.std.specs.List.{sum_by}
 use Rattle.ov_host.specs.declared.area.Extent.{Extent}
 use Rattle.ov_layout.specs.declared.part.Part.{Part}
 use Rattle.ov_catalog.specs.Sets.{set_in}
 use Rattle.ov_fetch.specs.Extents.{page_bytes}
 use Rattle.ov_fetch.proofs.Gathered.{passed_on}
 use Rattle.ov_read.proofs.Gatherings.{zip_length}
+use Rattle.ov_read.proofs.Passed.{kept_fetched, part_pages}
 use Rattle.ov_copies.specs.Asking.{IsAsked, IsPartOf}
 use Rattle.ov_copies.specs.Copies.{RefusesCopy}
-use Rattle.ov_copies.specs.Gathering.{AreGathered, IsAdded, RefusesPart}
-use Rattle.ov_copies.proofs.Passing.{HasPassed, ends, goes_on, stops}
+use Rattle.ov_copies.specs.Gathering.{AreGathered, IsAdded, RefusesPart, bytes_if}
+use Rattle.ov_copies.proofs.Passing.{HasPassed, ends, goes_on, some_fetched, stops}
 use Rattle.ov_copies.proofs.gathering.gather.Goals as goal
 
 pub add_part-requires-clause-paired : goal.add_part-requires-clause-paired
@@ -38,6 +40,43 @@ returns-in_err-add_part-clause-answer g c told =
     (stops d versions lists rids c.requires.paired k part (subst (λ (ps : List Part). k < length ps) same c.loop-part-test.true) (subst (λ (ps : List Part). part ≡ get_or ps k part) same c.part-item.is)
     c.parts-parts.ensures.sound.once s0 s1 (take k parts) c.loop-part.left after asked c.loop-part.found c.in_err-add_part.field-0.0 c.loop-part.invariant asks told why)
 
+pub returns-in_err-add_part-clause-fetched : goal.returns-in_err-add_part-clause-fetched
+returns-in_err-add_part-clause-fetched g c =
+    let s0 = g.H.Host.state c.args.host.now in
+    let s1 = g.H.Host.state c.loop-part.host in
+    let s2 = g.H.Host.state c.add_part.new.host in
+    let d = c.args.d.now in
+    let versions : List ℕ = c.args.versions.now in
+    let lists : List (List ℕ) = c.args.lists.now in
+    let part : Part = c.part-item.result in
+    let parts : List Part = c.parts-parts.result.now in
+    let k = c.loop-part.part-index in
+    let same : parts ≡ d.layout.parts = c.parts-parts.ensures.parts in
+    let asked = c.in_ok-asked.asked in
+    let asks = subst (λ (vids : List ℕ). IsAsked (set_in d) versions lists vids vids c.loop-part.left c.asked_of.new.left asked) c.as_slice-served.ensures c.in_ok-asked.ensures in
+    let before = subst (λ (ps : List Part). s1.fetched ≤ s0.fetched + 4096 * sum_by (part_pages versions) (take k ps)) same c.loop-part.invariant.fetched in
+    let more = subst (λ (es : List Extent). s2.fetched ≤ s1.fetched + bytes_if asked.sets.items es) c.as_slice-segments.ensures c.in_err-add_part.ensures.fetched in
+    some_fetched d versions lists c.args.rids.now c.requires.paired k part (subst (λ (ps : List Part). k < length ps) same c.loop-part-test.true) (subst (λ (ps : List Part). part ≡ get_or ps k part) same c.part-item.is)
+    c.parts-parts.ensures.sound.once s0.fetched s1.fetched s2.fetched c.loop-part.left c.asked_of.new.left asked before more asks
+
+pub returns-in_err-asked-clause-fetched : goal.returns-in_err-asked-clause-fetched
+returns-in_err-asked-clause-fetched g c =
+    let versions : List ℕ = c.args.versions.now in
+    let k = c.loop-part.part-index in
+    let s0 = g.H.Host.state c.args.host.now in
+    let s1 = g.H.Host.state c.loop-part.host in
+    kept_fetched c.args.d.now versions k s0.fetched s1.fetched
+    (subst (λ (ps : List Part). s1.fetched ≤ s0.fetched + 4096 * sum_by (part_pages versions) (take k ps)) c.parts-parts.ensures.parts c.loop-part.invariant.fetched)
+
+pub returns-clause-fetched : goal.returns-clause-fetched
+returns-clause-fetched g c =
+    let versions : List ℕ = c.args.versions.now in
+    let k = c.loop-part.part-index in
+    let s0 = g.H.Host.state c.args.host.now in
+    let s1 = g.H.Host.state c.loop-part.host in
+    kept_fetched c.args.d.now versions k s0.fetched s1.fetched
+    (subst (λ (ps : List Part). s1.fetched ≤ s0.fetched + 4096 * sum_by (part_pages versions) (take k ps)) c.parts-parts.ensures.parts c.loop-part.invariant.fetched)
+
 pub loop-part-preserved : goal.loop-part-preserved
 loop-part-preserved g c =
     let s0 = g.H.Host.state c.args.host.now in
@@ -56,9 +95,10 @@ loop-part-preserved g c =
     let found = c.add_part.new.found in
     let asks = subst (λ (vids : List ℕ). IsAsked (set_in d) versions lists vids vids c.loop-part.left after asked) c.as_slice-served.ensures c.in_ok-asked.ensures in
     let added = subst (λ (es : List Extent). IsAdded d.schema s1 es asked.sets.items c.loop-part.found.records found.records) c.as_slice-segments.ensures c.in_ok-add_part.ensures.added in
+    let fetched = subst (λ (es : List Extent). s2.fetched ≤ s1.fetched + bytes_if asked.sets.items es) c.as_slice-segments.ensures c.in_ok-add_part.ensures.fetched in
     let at : HasPassed s0 s2 d versions lists rids (take k parts ++ part ∷ []) after found =
     goes_on d versions lists rids c.requires.paired k part (subst (λ (ps : List Part). k < length ps) same c.loop-part-test.true) (subst (λ (ps : List Part). part ≡ get_or ps k part) same c.part-item.is)
-    c.parts-parts.ensures.sound.once s0 s1 s2 (take k parts) c.loop-part.left after asked c.loop-part.found found c.loop-part.invariant asks c.in_ok-add_part.ensures.looked c.in_ok-add_part.ensures.columns added in
+    c.parts-parts.ensures.sound.once s0 s1 s2 (take k parts) c.loop-part.left after asked c.loop-part.found found c.loop-part.invariant asks c.in_ok-add_part.ensures.looked fetched c.in_ok-add_part.ensures.columns added in
     subst (λ (ps : List Part). HasPassed s0 s2 d versions lists rids ps after found)
     (sym (take_more parts k part c.loop-part-test.true ∙ ap (λ (p : Part). take k parts ++ p ∷ []) (sym c.part-item.is))) at
 
