@@ -1,0 +1,9 @@
+pub mod Walking
+pub mod Kept
+pub mod Replayed
+pub mod Lacked
+pub mod Whole
+pub mod Planned
+pub mod Applied
+pub mod Stepped
+pub mod Worlds

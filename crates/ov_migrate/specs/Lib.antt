@@ -1,0 +1,3 @@
+pub mod Picked
+pub mod Targets
+pub mod Steps
