@@ -18,3 +18,7 @@ pub mod Deciding
 pub mod Lacking
 pub mod Undamaged
 pub mod Journals
+pub mod Plans
+pub mod Begun
+pub mod Unhurt
+pub mod Migrating

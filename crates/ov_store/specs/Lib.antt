@@ -9,3 +9,5 @@ pub mod Dropping
 pub mod Scanning
 pub mod Committing
 pub mod Worlds
+pub mod Planning
+pub mod Stepping
