@@ -19,9 +19,6 @@ returns-in_err-d-clause-refused g c = λ w at.
     = world_refuses w c.args.self.now.held (g.H.Host.state c.args.host.now) at c.args.name.now c.args.p c.args.q c.in_err-d.field-0.0 c.in_err-d.ensures.why
     in search (rules, fact)
 
-pub plan_of-requires-clause-stub : goal.plan_of-requires-clause-stub
-plan_of-requires-clause-stub g c = ?
-
 pub returns-in_err-plan_of-clause-refused : goal.returns-in_err-plan_of-clause-refused
 returns-in_err-plan_of-clause-refused g c = λ w at.
     let there = world_named w c.args.self.now.held (g.H.Host.state c.args.host.now) at c.args.name.now (sets.set_in c.in_ok-d.d.now) c.in_ok-d.ensures.found
