@@ -1,5 +1,4 @@
 use Rattle.std.proofs.Common.{ap, subst, sym}
-
 use Rattle.ov_core.specs.AtWorld.{IsAtWorld}
 use Rattle.ov_store.proofs.store.Store.step_for.Goals as goal
 
