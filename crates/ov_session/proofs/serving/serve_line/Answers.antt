@@ -25,7 +25,7 @@ use Rattle.ov_session.proofs.Meeting.{comment_asks, refused_asks}
 use Rattle.ov_model.specs.declared.command.Command.{Command}
 use Rattle.std.specs.Prelude.{IfErr}
 use Rattle.ov_session.specs.Commands.{IsDamageOf, IsDamaged}
-use Rattle.ov_session.proofs.serving.serve.Goals as goal
+use Rattle.ov_session.proofs.serving.serve_line.Goals as goal
 
 pub answer-requires-clause-asked : goal.answer-requires-clause-asked
 answer-requires-clause-asked g c = subst AsksBuilt c.in-Ok-Some.field-0-is c.in-Ok-Some.ensures.asked
@@ -46,32 +46,32 @@ returns-in_err-reply-in-Ok-Some-clause-damaged g c =
     in subst (λ (r : Result Served EndErr). IfErr r (IsDamageOf IsMet)) (sym is) fact
 
 pub returns-in_err-reply-in-Ok-Some-clause-serves : goal.returns-in_err-reply-in-Ok-Some-clause-serves
-returns-in_err-reply-in-Ok-Some-clause-serves g c = λ w waits told at.
+returns-in_err-reply-in-Ok-Some-clause-serves g c = λ w told at.
     let s = session_of (g.T.Stage.staged c.args.stage.now).files c.args.user.now
     in let t = session_of (g.T.Stage.staged c.answer.new.stage).files c.args.user.now
-    in let fact : Serves c.args.steps w s t c.args.line.now false false c.args.store.now.held c.answer.new.store.held (g.H.Host.state c.args.host.now) (g.H.Host.state c.answer.new.host)
+    in let fact : Serves 0 w s t c.args.line.now false false c.args.store.now.held c.answer.new.store.held (g.H.Host.state c.args.host.now) (g.H.Host.state c.answer.new.host)
     = broken_shaped c.args.user.now c.in-Ok-Some.command (line_asked c.args.user.now c.args.line.now) (c.in-Ok-Some.ensures.ok ∙ ap (λ (o : Option Command). served_line (said o)) c.in-Ok-Some.field-0-is)
     c.args.store.now c.answer.new.store (g.T.Stage.staged c.args.stage.now) (g.T.Stage.staged c.answer.new.stage) (g.H.Host.state c.args.host.now) (g.H.Host.state c.answer.new.host) c.in_err-reply-in-Ok-Some.field-0.0 c.in_err-reply-in-Ok-Some.ensures.other
-    c.args.steps w c.args.line.now refl waits at (λ built. c.in_err-reply-in-Ok-Some.ensures.acts w built told at)
+    w c.args.line.now refl at (λ built. c.in_err-reply-in-Ok-Some.ensures.acts w built told at)
     in let is : c.from_residual.result ≡ Err c.in_err-reply-in-Ok-Some.field-0.0 = search rules
-    in subst (λ (r : Result Served EndErr). Serves c.args.steps w s t c.args.line.now (is_ok r) (is_refused r) c.args.store.now.held c.answer.new.store.held
+    in subst (λ (r : Result Served EndErr). Serves 0 w s t c.args.line.now (is_ok r) (is_refused r) c.args.store.now.held c.answer.new.store.held
     (g.H.Host.state c.args.host.now) (g.H.Host.state c.answer.new.host)) (sym is) fact
 
 pub returns-in_err-refusal-in-Err-clause-serves : goal.returns-in_err-refusal-in-Err-clause-serves
-returns-in_err-refusal-in-Err-clause-serves g c = λ w waits told at.
+returns-in_err-refusal-in-Err-clause-serves g c = λ w told at.
     let s = session_of (g.T.Stage.staged c.args.stage.now).files c.args.user.now
-    in let fact : Serves c.args.steps w s s c.args.line.now false false c.args.store.now.held c.args.store.now.held (g.H.Host.state c.args.host.now) (g.H.Host.state c.args.host.now)
-    = line_unserved c.args.steps w s c.args.line.now c.args.store.now.held (g.H.Host.state c.args.host.now) waits at
+    in let fact : Serves 0 w s s c.args.line.now false false c.args.store.now.held c.args.store.now.held (g.H.Host.state c.args.host.now) (g.H.Host.state c.args.host.now)
+    = line_unserved w s c.args.line.now c.args.store.now.held (g.H.Host.state c.args.host.now) at
     in let is : c.from_residual-in_err-refusal-in-Err.result ≡ Err c.in_err-refusal-in-Err.field-0.0 = search rules
-    in subst (λ (r : Result Served EndErr). Serves c.args.steps w s s c.args.line.now (is_ok r) (is_refused r) c.args.store.now.held c.args.store.now.held
+    in subst (λ (r : Result Served EndErr). Serves 0 w s s c.args.line.now (is_ok r) (is_refused r) c.args.store.now.held c.args.store.now.held
     (g.H.Host.state c.args.host.now) (g.H.Host.state c.args.host.now)) (sym is) fact
 
 pub returns-in-Ok-None-clause-comment : goal.returns-in-Ok-None-clause-comment
 returns-in-Ok-None-clause-comment g c = sym (ap is_comment_in (c.in-Ok-None.ensures.ok ∙ ap (λ (o : Option Command). served_line (said o)) c.in-Ok-None.field-0-is))
 
 pub returns-in-Ok-None-clause-serves : goal.returns-in-Ok-None-clause-serves
-returns-in-Ok-None-clause-serves g c = λ w waits told at.
-    says_comment c.args.steps w (session_of (g.T.Stage.staged c.args.stage.now).files c.args.user.now) c.args.line.now c.args.store.now.held
+returns-in-Ok-None-clause-serves g c = λ w told at.
+    says_comment w (session_of (g.T.Stage.staged c.args.stage.now).files c.args.user.now) c.args.line.now c.args.store.now.held
     (g.H.Host.state c.args.host.now) (c.in-Ok-None.ensures.ok ∙ ap (λ (o : Option Command). served_line (said o)) c.in-Ok-None.field-0-is) at
 
 pub returns-in_ok-reply-in-Ok-Some-clause-comment : goal.returns-in_ok-reply-in-Ok-Some-clause-comment
@@ -79,10 +79,10 @@ returns-in_ok-reply-in-Ok-Some-clause-comment g c =
     comment_shaped c.args.user.now c.in-Ok-Some.command (line_asked c.args.user.now c.args.line.now) (c.in-Ok-Some.ensures.ok ∙ ap (λ (o : Option Command). served_line (said o)) c.in-Ok-Some.field-0-is) _ c.say.result c.say.ensures.served
 
 pub returns-in_ok-reply-in-Ok-Some-clause-serves : goal.returns-in_ok-reply-in-Ok-Some-clause-serves
-returns-in_ok-reply-in-Ok-Some-clause-serves g c = λ w waits told at.
+returns-in_ok-reply-in-Ok-Some-clause-serves g c = λ w told at.
     served_shaped c.args.user.now c.in-Ok-Some.command (line_asked c.args.user.now c.args.line.now) (c.in-Ok-Some.ensures.ok ∙ ap (λ (o : Option Command). served_line (said o)) c.in-Ok-Some.field-0-is)
     c.args.store.now c.answer.new.store (g.T.Stage.staged c.args.stage.now) (g.T.Stage.staged c.answer.new.stage) (g.H.Host.state c.args.host.now) (g.H.Host.state c.answer.new.host) c.in_ok-reply-in-Ok-Some.reply c.in_ok-reply-in-Ok-Some.ensures.other
-    c.args.steps w c.args.line.now refl waits at (g.H.Host.state c.say.new.host) c.say.result
+    w c.args.line.now refl at (g.H.Host.state c.say.new.host) c.say.result
     (record { answer = c.say.ensures.served; why = c.say.ensures.host_alone; silent = c.say.ensures.unsaid; printed = c.say.ensures.said })
     (λ built. c.in_ok-reply-in-Ok-Some.ensures.acts w built told at)
 
@@ -91,10 +91,10 @@ returns-in_ok-refusal-in-Err-clause-comment g c =
     comment_none (Refused (refusal_to c.in-Err.off)) (line_asked c.args.user.now c.args.line.now) _ c.say-in-Err.result (sym (c.in-Err.ensures.err c.in_ok-refusal-in-Err.ensures.some)) refl c.say-in-Err.ensures.served
 
 pub returns-in_ok-refusal-in-Err-clause-serves : goal.returns-in_ok-refusal-in-Err-clause-serves
-returns-in_ok-refusal-in-Err-clause-serves g c = λ w waits told at.
-    says_refusal c.args.steps w (session_of (g.T.Stage.staged c.args.stage.now).files c.args.user.now) c.args.line.now c.in_ok-refusal-in-Err.field-0
+returns-in_ok-refusal-in-Err-clause-serves g c = λ w told at.
+    says_refusal w (session_of (g.T.Stage.staged c.args.stage.now).files c.args.user.now) c.args.line.now c.in_ok-refusal-in-Err.field-0
     c.args.store.now.held (g.H.Host.state c.args.host.now) (g.H.Host.state c.say-in-Err.new.host)
-    (c.in-Err.ensures.err c.in_ok-refusal-in-Err.ensures.some ∙ ap Refused (sym c.in_ok-refusal-in-Err.ensures.refusal)) waits at c.say-in-Err.result
+    (c.in-Err.ensures.err c.in_ok-refusal-in-Err.ensures.some ∙ ap Refused (sym c.in_ok-refusal-in-Err.ensures.refusal)) at c.say-in-Err.result
     (record { answer = c.say-in-Err.ensures.served; why = c.say-in-Err.ensures.host_alone; silent = c.say-in-Err.ensures.unsaid; printed = c.say-in-Err.ensures.said })
 
 -- ---- what was fetched
