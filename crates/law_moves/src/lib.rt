@@ -5,7 +5,7 @@
 #![tactic(auto)]
 
 mod laws;
-mod migrating;
+mod migrate;
 
 pub use laws::{moves_make_a_deed, the_first_move_without_room_ends_a_deed};
-pub use migrating::{steps_make_a_migrate, the_next_step_comes_first};
+pub use migrate::{steps_make_a_migrate, the_next_step_comes_first};

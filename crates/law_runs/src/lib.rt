@@ -6,7 +6,7 @@
 #![tactic(auto)]
 
 mod laws;
-mod stepping;
+mod migration;
 
 pub use laws::{a_stop_is_found_between_due_replies, any_stop_of_a_run_leaves_what_is_due};
-pub use stepping::{steps_are_taken_one_by_one, steps_follow_a_line, steps_may_be_broken_off};
+pub use migration::{steps_are_taken_one_by_one, steps_follow_a_line, steps_may_be_broken_off};

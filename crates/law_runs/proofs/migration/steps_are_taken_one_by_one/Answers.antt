@@ -1,5 +1,5 @@
 use Rattle.law_runs.proofs.Stepping.{stepped_full, stepped_idle, stepped_no_run, stepped_over, stepping_looked, stepping_more, stepping_none}
-use Rattle.law_runs.proofs.stepping.steps_are_taken_one_by_one.Goals as goal
+use Rattle.law_runs.proofs.migration.steps_are_taken_one_by_one.Goals as goal
 
 pub returns-clause-none : goal.returns-clause-none
 returns-clause-none c = stepping_none

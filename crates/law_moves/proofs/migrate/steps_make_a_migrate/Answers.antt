@@ -1,7 +1,7 @@
 use Rattle.std.proofs.Common.{refl}
 use Rattle.ov_model.specs.Steps.{next_steps}
 use Rattle.law_moves.proofs.Migrating.{does_migrate, migrate_all, migrate_broken, migrate_full, migrate_no_run, migrate_off, steps_do}
-use Rattle.law_moves.proofs.migrating.steps_make_a_migrate.Goals as goal
+use Rattle.law_moves.proofs.migrate.steps_make_a_migrate.Goals as goal
 
 pub returns-clause-moves : goal.returns-clause-moves
 returns-clause-moves c = λ n left s w v before now old new is. steps_do n s w v before now old new left is (next_steps left v) refl

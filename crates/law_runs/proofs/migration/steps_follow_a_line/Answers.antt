@@ -1,5 +1,5 @@
 use Rattle.law_runs.proofs.Behind.{serves_stepped, serves_unstepped}
-use Rattle.law_runs.proofs.stepping.steps_follow_a_line.Goals as goal
+use Rattle.law_runs.proofs.migration.steps_follow_a_line.Goals as goal
 
 pub returns-clause-line : goal.returns-clause-line
 returns-clause-line c = λ n w s t line ok refused before at_reply now old mid new some a b. serves_stepped n w s t line some ok refused before at_reply now old mid new a b
