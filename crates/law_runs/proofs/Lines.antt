@@ -192,7 +192,7 @@ module _ (w : World) (s t : Session) (line : List ℕ) (d : Deed) (reply : Reply
   abbrev did : Served
   did = record { items = all does.moves reply; world = does.world; session = t; left = [] }
 
-  acts : (future : Space) → served served_forms n w s line (does.used ++ future) ≡ record did { left = future }
+  acts : (future : Space) → served served_forms 0 w s line (does.used ++ future) ≡ record did { left = future }
   acts future =
       is.acts (does.used ++ future) ∙ ap (and_steps 0) (does.did future)
       ∙ and_no_steps (record { items = all does.moves reply; world = does.world; session = t; left = future })

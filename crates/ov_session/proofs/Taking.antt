@@ -1,5 +1,5 @@
 -- One migration step, by what the store answered.
-use Rattle.std.proofs.Common.{◌≡◌, ◌∙◌, ◌⊎◌, inl, inr, ◌++◌, ℕ, Bool, true, false, List, [], ◌∷◌, Some, None, refl, sym, ap, subst, arith}
+use Rattle.std.proofs.Common.{◌≡◌, ◌∙◌, ◌⊎◌, inl, inr, ◌++◌, ℕ, suc, Bool, true, false, List, [], ◌∷◌, Some, None, refl, sym, ap, subst, arith}
 use Rattle.std.specs.Prelude.{◌≤◌, ◌<◌, length, not, IfErr, IfOk, IsErrOf, MatchResult, OnOk, Ok, Err, Option, Result}
 use Rattle.ov_host.specs.declared.area.Area.{Area}
 use Rattle.ov_host.specs.declared.area.Area.TheVariants.{Journal, Pages}
@@ -13,6 +13,8 @@ use Rattle.ov_fetch.specs.declared.errors.FetchErr.TheVariants as fetch
 use Rattle.ov_fetch.specs.Extents.{Looked, page_bytes}
 use Rattle.law_room.specs.Room.{Entry, IsWithin, LacksRecord, LacksRun, Made}
 use Rattle.law_runs.specs.Moving.{IsMoved}
+use Rattle.law_runs.specs.Stepping.{IsStepped, IsStepping}
+use Rattle.law_runs.proofs.Stepping.{stepped_broken, stepped_full, stepped_idle, stepped_no_run, stepping_looked, stepping_more}
 use Rattle.law_runs.specs.Stops.{printed_of}
 use Rattle.ov_migrate.specs.Steps.{RefusesStep, running}
 use Rattle.ov_model.specs.Moves.{BeginPlan, Checkpoint, Commit, Copy, Drop, Flip, Init, Move, moved}
@@ -21,6 +23,7 @@ use Rattle.ov_model.specs.World.{World}
 use Rattle.ov_session.proofs.Idling.{at_idle}
 use Rattle.ov_session.proofs.Numbering.{journal_looked}
 use Rattle.ov_session.specs.Commands.{IsDamageOf, IsNoDamage}
+use Rattle.ov_session.specs.Standing.{IsAtSilently}
 use Rattle.ov_session.specs.Stepping.{IsBrokenOff, IsNotTaken, IsStep, IsStepDamaged, IsTaken, LacksRoom, by_step}
 use Rattle.ov_session.specs.declared.errors.EndErr.{EndErr}
 use Rattle.ov_session.specs.declared.errors.EndErr.TheVariants as ending
@@ -228,3 +231,34 @@ module _ (w : World) (before now : Kept) (old new : State) (at : IsAtWorld w bef
   step_at (Err why.Memory) idle none answer stays moves room = broken (has_next (Err why.Memory) idle (refused why.Memory))
   step_at (Err (why.Damaged area at_)) idle none answer stays moves room =
       broken (has_next (Err (why.Damaged area at_)) idle (refused (why.Damaged area at_)))
+
+-- ---- behind those that were taken
+
+module _ (n left : ℕ) (w v : World) (before now later : Held) (old mid new : State) (is : IsStepping n (suc left) w v before now old mid) where
+  -- one more
+  pub steps_more : IsTaken v now later mid new → (u : World) × IsStepping n left w u before later old new
+  steps_more step = (moved step.step v, stepping_more n left w v step.step before now old mid is step.next later new step.made)
+
+  -- none is taken any more
+  pub steps_end : IsNotTaken v now later mid new → IsStepped n w true before later old new
+  steps_end step =
+      let looked : IsStepping n (suc left) w v before now old new = stepping_looked n (suc left) w v before now old mid is new step.told step.tape
+      in subst (λ (h : Held). IsStepped n w true before h old new) (sym step.held) (by looked step.why)
+    where
+      for_want : IsStepping n (suc left) w v before now old new → (lack : LacksRoom v now)
+          → ((pages : ℕ) × ((entry : Entry) (past : List Made) → IsWithin entry past now → LacksRun entry past lack.step v pages))
+          ⊎ ((entry : Entry) (past : List Made) → IsWithin entry past now → LacksRecord entry past lack.step v) → IsStepped n w true before now old new
+      for_want looked lack (inl run) = stepped_no_run n left w v lack.step before now old new looked lack.next run.0 run.1
+      for_want looked lack (inr record_) = stepped_full n left w v lack.step before now old new looked lack.next record_
+
+      by : IsStepping n (suc left) w v before now old new → (next_step v ≡ None) ⊎ LacksRoom v now → IsStepped n w true before now old new
+      by looked (inl none) = stepped_idle n (suc left) w v before now old new looked none
+      by looked (inr lack) = for_want looked lack lack.wanting
+
+  -- the run ends in one
+  pub steps_break : IsBrokenOff v mid new → IsStepped n w false before later old new
+  steps_break step = stepped_broken n left w v step.step before now old mid is step.next later new step.stops
+
+-- where they ended, the store is at some World, and nothing was printed
+pub stepped_at : (n : ℕ) (w : World) (before now : Held) (old new : State) → IsStepped n w true before now old new → IsAtSilently now old new
+stepped_at n w before now old new is = record { at = (is.world, is.at refl); printed = is.printed refl }
