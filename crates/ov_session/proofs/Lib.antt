@@ -15,3 +15,4 @@ pub mod Querying
 pub mod Making
 pub mod Idling
 pub mod Taking
+pub mod Following

@@ -264,8 +264,9 @@ pub fn serve<H: Host, T: Stage>(
         (is_ok result) (is_refused result) store.old.held store.new.held (H.state host.old) (H.state host.new) }
 {
     let served = serve_line(alloc, store, host, stage, line, user)?;
-    if served != Served::Comment {
-        take_steps(store, host, steps)?;
+    if served == Served::Comment {
+        return Ok(served);
     }
+    take_steps(store, host, steps)?;
     Ok(served)
 }
