@@ -1,6 +1,6 @@
 -- A `migrate`: steps, one after another, and then how many were taken and how many are left.
-use Rattle.std.proofs.Common.{◌≡◌, ◌+◌, ◌⊎◌, inl, inr, ℕ, suc, List, [], ◌∷◌, ◌++◌, length, map, refl, sym, ◌∙◌, ap, subst, append-nil, arith}
-use Rattle.std.specs.Prelude.{Option, Some, None}
+use Rattle.std.proofs.Common.{◌≡◌, ◌+◌, ◌⊎◌, inl, inr, ℕ, suc, List, [], ◌∷◌, ◌++◌, length, refl, sym, ◌∙◌, ap, subst, append-nil, arith}
+use Rattle.std.specs.Prelude.{Some, None}
 use Rattle.ov_host.specs.Host.{State}
 use Rattle.ov_host.specs.Stops.{Only}
 use Rattle.ov_model.specs.Act.{Deed, Session, migrate_by}

@@ -1,7 +1,7 @@
 -- A command of several moves, while they are made: each takes place, or ends the command.
 --     IsMoved m w ..      a call of the store made this move
 --     IsDoing d w v left ..      some of a deed's moves took place, up to the World v, and these are left
-use Rattle.std.specs.Prelude.{◌≡◌, List, [], ◌∷◌, ◌++◌, map}
+use Rattle.std.specs.Prelude.{◌≡◌, List, ◌++◌, map}
 use Rattle.ov_host.specs.Host.{State}
 use Rattle.ov_host.specs.Stops.{Only}
 use Rattle.ov_core.specs.AtWorld.{IsAtWorld}

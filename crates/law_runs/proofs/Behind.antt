@@ -1,5 +1,5 @@
 -- Steps behind a line: a line that was served as if no step were asked for, and then its steps.
-use Rattle.std.proofs.Common.{◌≡◌, ℕ, zero, Bool, true, false, List, [], ◌∷◌, ◌++◌, refl, sym, ◌∙◌, ap, subst, append-nil, append_assoc}
+use Rattle.std.proofs.Common.{◌≡◌, ℕ, Bool, true, false, List, [], ◌∷◌, ◌++◌, refl, sym, ◌∙◌, ap, subst, append-nil, append_assoc}
 use Rattle.std.specs.Prelude.{◌||◌, ◌≢◌}
 use Rattle.ov_host.specs.Disk.{Image}
 use Rattle.ov_host.specs.Host.{State}
@@ -7,7 +7,7 @@ use Rattle.ov_host.specs.Stops.{Only}
 use Rattle.ov_host.proofs.Stops.{only_then, only_wider}
 use Rattle.ov_model.specs.Act.{Session}
 use Rattle.ov_model.specs.BuiltShapes.{served_forms}
-use Rattle.ov_model.specs.Course.{Item, Makes, Says, Served, Space, after, and_steps, attempts, line_served, play, replied, served, steps, world_after}
+use Rattle.ov_model.specs.Course.{Item, Served, Space, after, and_steps, attempts, line_served, play, replied, served, world_after}
 use Rattle.ov_model.specs.Deed.{deed}
 use Rattle.ov_model.specs.Line.{Asks, Comment, Line, Refused, line_of}
 use Rattle.ov_model.specs.Moves.{Move}

@@ -14,8 +14,6 @@ use Rattle.ov_core.specs.AtWorld.{IsEither}
 use Rattle.ov_core.specs.Held.{Held}
 use Rattle.law_room.specs.Room.{Entry, IsWithin, Made}
 use Rattle.law_runs.specs.Licence.{made_by}
-use Rattle.law_runs.specs.Moving.{IsMoved}
-use Rattle.law_runs.specs.Serving.{has_error}
 use Rattle.law_runs.specs.Stops.{IsFound, printed_of}
 use Rattle.law_runs.proofs.Doing.{either_found}
 use Rattle.law_runs.proofs.Found.{found_behind, found_front}

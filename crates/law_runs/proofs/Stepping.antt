@@ -1,5 +1,5 @@
 -- Steps that are taken one after another.
-use Rattle.std.proofs.Common.{◌≡◌, ◌+◌, inr, ℕ, zero, suc, Bool, true, false, List, [], ◌∷◌, ◌++◌, length, map, refl, sym, ◌∙◌, ap, subst, append-nil, append_assoc, length-append, arith}
+use Rattle.std.proofs.Common.{◌≡◌, ◌+◌, ℕ, zero, suc, true, false, List, [], ◌∷◌, ◌++◌, length, refl, sym, ◌∙◌, ap, subst, append-nil, append_assoc, length-append, arith}
 use Rattle.std.specs.Prelude.{Option, Some, None}
 use Rattle.std.proofs.lemmas.List.{map-append}
 use Rattle.ov_host.specs.Host.{State}
@@ -19,7 +19,7 @@ use Rattle.law_runs.specs.Stops.{IsFound, printed_of}
 use Rattle.law_runs.proofs.Doing.{within_still}
 use Rattle.law_runs.proofs.Found.{at_same_tape, looked_found}
 use Rattle.law_runs.proofs.Lines.{steps_licensed}
-use Rattle.law_runs.proofs.Moving.{enough, made, play_none, stops_here, stops_next, within_more, world_more}
+use Rattle.law_runs.proofs.Moving.{enough, made, stops_here, stops_next, within_more, world_more}
 use Rattle.law_runs.proofs.Steps.{idle_is_licensed, no_steps}
 
 -- ---- the steps that come next

@@ -12,7 +12,7 @@ use Rattle.law_runs.specs.Licence.{LicensedLine}
 use Rattle.law_runs.specs.Serving.{Serves}
 use Rattle.law_runs.specs.Stepping.{IsStepped}
 use Rattle.law_runs.specs.Stops.{printed_of}
-use Rattle.ov_migrate.specs.Steps.{running}
+use Rattle.law_steps.specs.Turns.{running}
 use Rattle.ov_model.specs.Act.{Session}
 use Rattle.ov_model.specs.BuiltShapes.{served_forms}
 use Rattle.ov_model.specs.Course.{Space, line_served}

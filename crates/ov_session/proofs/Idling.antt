@@ -16,7 +16,7 @@ use Rattle.ov_core.specs.Held.{Held}
 use Rattle.law_image.specs.Pages.{readings_of}
 use Rattle.ov_fetch.specs.Extents.{page_bytes}
 use Rattle.ov_generate.specs.Reads.{AreBegun, Begun, HasFetched, IsAfter, IsFound, IsVersionMade}
-use Rattle.ov_migrate.specs.Steps.{running}
+use Rattle.law_steps.specs.Turns.{running}
 use Rattle.ov_model.specs.Moves.{Move}
 use Rattle.ov_model.specs.Steps.{first_step, next_step, step_or}
 use Rattle.ov_model.specs.World.{Dataset, Plan, World}

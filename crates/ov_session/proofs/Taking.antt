@@ -16,7 +16,8 @@ use Rattle.law_runs.specs.Moving.{IsMoved}
 use Rattle.law_runs.specs.Stepping.{IsStepped, IsStepping}
 use Rattle.law_runs.proofs.Stepping.{stepped_broken, stepped_full, stepped_idle, stepped_no_run, stepping_looked, stepping_more}
 use Rattle.law_runs.specs.Stops.{printed_of}
-use Rattle.ov_migrate.specs.Steps.{RefusesStep, running}
+use Rattle.law_steps.specs.Turns.{running}
+use Rattle.ov_migrate.specs.Steps.{RefusesStep}
 use Rattle.ov_model.specs.Moves.{BeginPlan, Checkpoint, Commit, Copy, Drop, Flip, Init, Move, moved}
 use Rattle.ov_model.specs.Steps.{next_step}
 use Rattle.ov_model.specs.World.{World}

@@ -16,7 +16,8 @@ use Rattle.ov_fetch.specs.Extents.{page_bytes}
 use Rattle.law_room.specs.Room.{Entry, IsWithin, LacksRecord, LacksRun, Made}
 use Rattle.law_runs.specs.Moving.{IsMoved}
 use Rattle.law_runs.specs.Stops.{printed_of}
-use Rattle.ov_migrate.specs.Steps.{RefusesStep, running}
+use Rattle.law_steps.specs.Turns.{running}
+use Rattle.ov_migrate.specs.Steps.{RefusesStep}
 use Rattle.ov_model.specs.Moves.{Move, moved}
 use Rattle.ov_model.specs.Steps.{next_step}
 use Rattle.ov_model.specs.World.{World}

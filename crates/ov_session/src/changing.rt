@@ -8,7 +8,7 @@ ghost use Rattle.ov_model.specs.Act.{Session, commit_deed, commit_refusal, commi
 ghost use Rattle.ov_model.specs.World.{World, Dataset, set_named};
 ghost use Rattle.ov_core.specs.AtWorld.{IsAtWorld};
 ghost use Rattle.ov_core.specs.Held.{IsByJournal};
-ghost use Rattle.ov_migrate.specs.Steps.{running};
+ghost use Rattle.law_steps.specs.Turns.{running};
 ghost use Rattle.law_runs.specs.Serving.{files_of, session_of};
 ghost use Rattle.ov_store.specs.Beginning.{IsShort};
 ghost use Rattle.ov_read.specs.Sizes.{bytes_for};

@@ -8,7 +8,7 @@ ghost use Rattle.ov_model.specs.World.{World};
 ghost use Rattle.ov_model.specs.declared.command.Command.TheVariants as asks;
 ghost use Rattle.ov_core.specs.AtWorld.{IsAtWorld};
 ghost use Rattle.ov_core.specs.Held.{IsByJournal};
-ghost use Rattle.ov_migrate.specs.Steps.{running};
+ghost use Rattle.law_steps.specs.Turns.{running};
 ghost use Rattle.ov_store.specs.Kept.{MayCall};
 ghost use Rattle.ov_store.specs.Refusals.{new_off};
 ghost use Rattle.ov_store.specs.declared.errors.StoreErr.{StoreErr as StoreErrValue};

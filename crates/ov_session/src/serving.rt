@@ -17,7 +17,7 @@ ghost use Rattle.law_runs.specs.Serving.{Serves, is_error as is_error_of, sessio
 ghost use Rattle.ov_store.specs.Kept.{Kept, MayCall};
 ghost use Rattle.ov_session.specs.Asking.{line_asked};
 ghost use Rattle.ov_session.specs.Bounds.{IsFetched, IsFetchedBy, IsReading, IsReadingCommand, is_command_off, is_off};
-ghost use Rattle.ov_migrate.specs.Steps.{running};
+ghost use Rattle.law_steps.specs.Turns.{running};
 ghost use Rattle.ov_session.specs.Replying.{IsReplied, IsSaidBy};
 ghost use Rattle.ov_session.specs.Damages.{IsLineDamaged, IsMetBy};
 ghost use Rattle.ov_session.specs.Standing.{IsAtSilently, IsAtSome, IsIdleBy, IsIdleOn};

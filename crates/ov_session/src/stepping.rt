@@ -4,7 +4,7 @@ ghost use Rattle.ov_host.specs.Host.{Rose};
 ghost use Rattle.ov_core.specs.AtWorld.{IsAtWorld};
 ghost use Rattle.ov_core.specs.Held.{IsByJournal};
 ghost use Rattle.law_runs.specs.Stepping.{IsStepped};
-ghost use Rattle.ov_migrate.specs.Steps.{running};
+ghost use Rattle.law_steps.specs.Turns.{running};
 ghost use Rattle.ov_model.specs.World.{World};
 ghost use Rattle.ov_store.specs.Kept.{MayCall};
 ghost use Rattle.ov_session.specs.Commands.{Goes, IsDamageOf, IsNoDamage};

@@ -9,7 +9,7 @@ use Rattle.ov_session.proofs.Making.{acts_silently, ends_acts, err_same, fetched
 use Rattle.ov_session.proofs.Replying.{result_seen}
 use Rattle.ov_store.specs.declared.errors.StoreErr.TheVariants as why
 use Rattle.ov_store.specs.Kept.{MayCall}
-use Rattle.ov_migrate.specs.Steps.{running}
+use Rattle.law_steps.specs.Turns.{running}
 use Rattle.ov_session.proofs.Idling.{generated_none}
 use Rattle.ov_session.proofs.generating.make_versions.Goals as goal
 
