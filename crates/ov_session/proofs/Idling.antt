@@ -167,13 +167,20 @@ asked_sets ds = map (each_set Some Some) (map shown_set ds)
 abbrev seen_sets : Readings → List Set → List (SetNumbers (Option Rids) (Option Records))
 seen_sets r sets = map (each_set r.list r.segment) sets
 
+head_is : {X : Type 0} (x y : X) (xs ys : List X) → x ∷ xs ≡ y ∷ ys → x ≡ y
+head_is x y xs ys e = cc
+
+tail_is : {X : Type 0} (x y : X) (xs ys : List X) → x ∷ xs ≡ y ∷ ys → xs ≡ ys
+tail_is x y xs ys e = cc
+
 sets_idle : (r : Readings) (sets : List Set) (ds : List Dataset) → seen_sets r sets ≡ asked_sets ds → first_step ds ≡ None → AreIdle sets
 sets_idle r [] ds same none = tt
 sets_idle r (s ∷ sets) [] same none = absurd cc
 sets_idle r (s ∷ sets) (d ∷ ds) same none =
     let both = step_none d d.plan (first_step ds) none
-    in let plan : each_plan r.segment s.plan ≡ each_plan Some (shown_plan d d.plan) = cc
-    in let rest : seen_sets r sets ≡ asked_sets ds = cc
+    in let plan : each_plan r.segment s.plan ≡ each_plan Some (shown_plan d d.plan) =
+    ap (λ (x : SetNumbers (Option Rids) (Option Records)). x.plan) (head_is _ _ (seen_sets r sets) (asked_sets ds) same)
+    in let rest : seen_sets r sets ≡ asked_sets ds = tail_is _ _ (seen_sets r sets) (asked_sets ds) same
     in (
       plan_none r.segment s.plan (plan ∙ ap (λ (o : Option Plan). each_plan Some (shown_plan d o)) both.0),
       sets_idle r sets ds rest both.1,

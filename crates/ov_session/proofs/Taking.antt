@@ -1,6 +1,6 @@
 -- One migration step, by what the store answered.
 use Rattle.std.proofs.Common.{◌≡◌, ◌∙◌, ◌⊎◌, inl, inr, ◌++◌, ℕ, suc, Bool, true, false, List, [], ◌∷◌, Some, None, refl, sym, ap, subst, arith}
-use Rattle.std.specs.Prelude.{◌≤◌, ◌<◌, length, not, IfErr, IfOk, IsErrOf, MatchResult, OnOk, Ok, Err, Option, Result}
+use Rattle.std.specs.Prelude.{◌≤◌, ◌<◌, ◌+◌, ◌-◌, length, not, IfErr, IfOk, IsErrOf, MatchResult, OnOk, Ok, Err, Option, Result}
 use Rattle.ov_host.specs.declared.area.Area.{Area}
 use Rattle.ov_host.specs.declared.area.Area.TheVariants.{Journal, Pages}
 use Rattle.ov_host.specs.Disk.{Stored}
@@ -25,7 +25,7 @@ use Rattle.ov_session.proofs.Idling.{at_idle}
 use Rattle.ov_session.proofs.Numbering.{journal_looked}
 use Rattle.ov_session.specs.Commands.{IsDamageOf, IsNoDamage}
 use Rattle.ov_session.specs.Standing.{IsAtSilently}
-use Rattle.ov_session.specs.Stepping.{IsBrokenOff, IsNotTaken, IsStep, IsStepDamaged, IsTaken, LacksRoom, by_step}
+use Rattle.ov_session.specs.Stepping.{IsBrokenOff, IsNotTaken, IsStep, IsStepDamaged, IsTaken, LacksRoom, TakesNoStep, by_step}
 use Rattle.ov_session.specs.declared.errors.EndErr.{EndErr}
 use Rattle.ov_session.specs.declared.errors.EndErr.TheVariants as ending
 use Rattle.ov_store.specs.Kept.{Kept, MayCall}
@@ -194,8 +194,8 @@ module _ (w : World) (before now : Kept) (old new : State) (at : IsAtWorld w bef
   broken next = record { step = next.0; next = next.1; stops = stops next.0 next.1 }
 
   not_taken : (now ≡ before) × Looked old new → (next_step w ≡ None) ⊎ LacksRoom w before.held → IsNotTaken w before.held now.held old new
-  not_taken same why_ =
-      record { held = ap (λ (k : Kept). k.held) same.0; told = same.1.told; tape = same.1.tape at.at.told; why = why_ }
+  not_taken same reason =
+      record { held = ap (λ (k : Kept). k.held) same.0; told = same.1.told; tape = same.1.tape at.at.told; reason = reason }
 
   pub step_at : (r : Answer) → IsIdle r → IfOk r (λ s. s ≡ stepped.Nothing → running before.held.numbers ≡ None) → IfOk r (IsAnswer w (next_step w))
       → IfErr r (λ off. Stays off before now old new)
@@ -209,7 +209,7 @@ module _ (w : World) (before now : Kept) (old new : State) (at : IsAtWorld w bef
         held = ap (λ (k : Kept). k.held) same.1.0;
         told = ap (λ (s : State). s.tells) same.1.1;
         tape = ap (λ (s : State). s.tape) same.1.1;
-        why = inl (answered_none w (next_step w) answer);
+        reason = inl (answered_none w (next_step w) answer);
       }
   step_at (Ok stepped.Copied) idle none answer stays moves room =
       let next = has_next (Ok stepped.Copied) idle (other stepped.Copied not_copied)
@@ -244,7 +244,7 @@ module _ (n left : ℕ) (w v : World) (before now later : Held) (old mid new : S
   pub steps_end : IsNotTaken v now later mid new → IsStepped n w true before later old new
   steps_end step =
       let looked : IsStepping n (suc left) w v before now old new = stepping_looked n (suc left) w v before now old mid is new step.told step.tape
-      in subst (λ (h : Held). IsStepped n w true before h old new) (sym step.held) (by looked step.why)
+      in subst (λ (h : Held). IsStepped n w true before h old new) (sym step.held) (by looked step.reason)
     where
       for_want : IsStepping n (suc left) w v before now old new → (lack : LacksRoom v now)
           → ((pages : ℕ) × ((entry : Entry) (past : List Made) → IsWithin entry past now → LacksRun entry past lack.step v pages))
@@ -263,3 +263,27 @@ module _ (n left : ℕ) (w v : World) (before now later : Held) (old mid new : S
 -- where they ended, the store is at some World, and nothing was printed
 pub stepped_at : (n : ℕ) (w : World) (before now : Held) (old new : State) → IsStepped n w true before now old new → IsAtSilently now old new
 stepped_at n w before now old new is = record { at = (is.world, is.at refl); printed = is.printed refl }
+
+-- what is left of so many steps, before the next one
+pub counted_down : (n counter : ℕ) → counter < n → n - counter ≡ suc (n - (counter + 1))
+counted_down n counter low = omega (arith, low)
+
+-- the answer of one step, as the loop sees it
+pub step_went : (r : Result Bool EndErr) (b : Bool) → r ≡ Ok b → not b ≡ false → r ≡ Ok true
+step_went r true is went = is
+step_went r false is went = cc
+
+pub step_stayed : (r : Result Bool EndErr) (b : Bool) → r ≡ Ok b → not b ≡ true → r ≡ Ok false
+step_stayed r true is stays = cc
+step_stayed r false is stays = is
+
+-- no step is taken where none is asked for or no plan ran
+pub never_none : (n counter : ℕ) (before now : Held) → counter < n → (r : Result Bool EndErr) → r ≡ Ok true → now ≡ before
+    → (running now.numbers ≡ None → r ≡ Ok false) → TakesNoStep n before.numbers → ⊥
+never_none n counter before now low r is same none (inl zero_is) = absurd (omega (arith, low, zero_is))
+never_none n counter before now low r is same none (inr idle) =
+    let stays : r ≡ Ok false = none (subst (λ (h : Held). running h.numbers ≡ None) (sym same) idle) in cc
+
+-- all were taken
+pub stepping_at : (n left : ℕ) (w v : World) (before now : Held) (old new : State) → IsStepping n left w v before now old new → IsAtSilently now old new
+stepping_at n left w v before now old new is = record { at = (v, is.at); printed = is.printed }

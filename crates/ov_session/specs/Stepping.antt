@@ -24,7 +24,7 @@ use Rattle.ov_model.specs.World.{World}
 use Rattle.ov_session.specs.declared.errors.EndErr.{EndErr}
 use Rattle.ov_session.specs.declared.errors.EndErr.TheVariants as ending
 use Rattle.ov_store.specs.declared.step_errors.StepErr.{StepErr}
-use Rattle.ov_store.specs.declared.step_errors.StepErr.TheVariants as why
+use Rattle.ov_store.specs.declared.step_errors.StepErr.TheVariants as off
 use Rattle.ov_store.specs.declared.stepping.Stepped.{Stepped}
 use Rattle.ov_store.specs.declared.stepping.Stepped.TheVariants as stepped
 
@@ -41,11 +41,11 @@ by_step (Ok stepped.Nothing) = Ok false
 by_step (Ok stepped.Copied) = Ok true
 by_step (Ok stepped.Flipped) = Ok true
 by_step (Ok stepped.Finished) = Ok true
-by_step (Err (why.Full pages)) = Ok false
-by_step (Err why.JournalFull) = Ok false
-by_step (Err why.Host) = Err ending.Host
-by_step (Err why.Memory) = Err ending.Memory
-by_step (Err (why.Damaged area at)) = Err (ending.Damaged area at)
+by_step (Err (off.Full pages)) = Ok false
+by_step (Err off.JournalFull) = Ok false
+by_step (Err off.Host) = Err ending.Host
+by_step (Err off.Memory) = Err ending.Memory
+by_step (Err (off.Damaged area at)) = Err (ending.Damaged area at)
 
 -- ---- at a World
 
@@ -67,7 +67,7 @@ pub record IsNotTaken (w : World) (before now : Held) (old new : State) : Type 0
   pub held : now ≡ before
   pub told : new.tells ≡ old.tells
   pub tape : new.tape ≡ old.tape
-  pub why : (next_step w ≡ None) ⊎ LacksRoom w before
+  pub reason : (next_step w ≡ None) ⊎ LacksRoom w before
 
 -- the step was made then, or it wasn't
 pub record IsBrokenOff (w : World) (old new : State) : Type 0 where

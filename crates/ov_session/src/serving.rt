@@ -216,6 +216,13 @@ fn serve_line<H: Host, T: Stage>(
     }
 }
 
+// Whether a line has no reply.
+fn is_comment(served: Served) -> bool
+    ensures { result ≡ is_comment_of served }
+{
+    served == Served::Comment
+}
+
 /// Serves a line: does what it asks, prints its one reply, and then takes up to so many migration steps, until no plan runs or
 /// there is no room for the next one. A comment has no reply, and no step comes behind it; behind a refusal steps come too.
 ///
@@ -264,7 +271,7 @@ pub fn serve<H: Host, T: Stage>(
         (is_ok result) (is_refused result) store.old.held store.new.held (H.state host.old) (H.state host.new) }
 {
     let served = serve_line(alloc, store, host, stage, line, user)?;
-    if served == Served::Comment {
+    if is_comment(served) {
         return Ok(served);
     }
     take_steps(store, host, steps)?;
