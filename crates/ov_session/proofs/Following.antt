@@ -21,6 +21,7 @@ use Rattle.ov_model.specs.Users.{line_by}
 use Rattle.ov_model.specs.World.{World}
 use Rattle.ov_session.proofs.Bounds.{printed_line}
 use Rattle.ov_session.proofs.Saying.{comment_by}
+use Rattle.ov_session.proofs.Taking.{end_is}
 use Rattle.ov_session.specs.Asking.{line_asked}
 use Rattle.ov_session.specs.Bounds.{IsFetchedBy}
 use Rattle.ov_session.specs.Commands.{Goes, IsDamageOf, IsNoDamage, is_comment_in, is_comment_of, is_refusal_of}
@@ -158,17 +159,13 @@ module _ (n : ℕ) (w : World) (s t : Session) (line : List ℕ) (some : line_of
   pub serves_halted : ((v : World) → IsAtWorld v mid said → IsStepped n v false mid now said new) → Serves n w s t line false false before now old new
   serves_halted steps = serves_ended n w s t t line refused false before now now old new (serves_steps false steps)
 
--- ---- the answer of the steps
+-- ---- ends
 
-pub steps_went : {A : Type 0} → (r : Result A EndErr) (a : A) → r ≡ Ok a → is_ok r ≡ true
-steps_went r a is = ap (λ q. is_ok q) is
+pub ends_same : {A : Type 0} → (r : Result A EndErr) (e f : EndErr) → r ≡ Err e → r ≡ Err f → e ≡ f
+ends_same r e f is as_ = end_is e f (sym is ∙ as_)
 
-pub steps_stopped : {A : Type 0} → (r : Result A EndErr) (e : EndErr) → r ≡ Err e → is_ok r ≡ false
-steps_stopped r e is = ap (λ q. is_ok q) is
-
--- the same end in both
-pub again : {A B : Type 0} → (r : Result A EndErr) (q : Result B EndErr) (e : EndErr) → r ≡ Err e → q ≡ Err e → IsErrOf q ending.Host → IsErrOf r ending.Host
-again r q e is as_ host = let same : e ≡ ending.Host = cc in is ∙ ap Err same
+pub no_end : {A : Type 0} → (a : A) (e : EndErr) → (let one : Result A EndErr = Ok a in one) ≡ Err e → ⊥
+no_end a e is = cc
 
 -- a fault that rose behind the line rose in all
 pub rose_behind : (old said new : State) → old.faults ≤ said.faults → Rose said.faults new.faults → Rose old.faults new.faults

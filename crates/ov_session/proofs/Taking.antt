@@ -1,6 +1,7 @@
 -- One migration step, by what the store answered.
 use Rattle.std.proofs.Common.{◌≡◌, ◌∙◌, ◌⊎◌, inl, inr, ◌++◌, ℕ, suc, Bool, true, false, List, [], ◌∷◌, Some, None, refl, sym, ap, subst, arith}
-use Rattle.std.specs.Prelude.{◌≤◌, ◌<◌, ◌+◌, ◌-◌, length, not, IfErr, IfOk, IsErrOf, MatchResult, OnOk, Ok, Err, Option, Result}
+use Rattle.std.specs.Prelude.{◌≤◌, ◌<◌, ◌+◌, ◌-◌, length, not, IfErr, IfOk, IsErr, IsErrOf, MatchResult, OnOk, Ok, Err, Option, Result}
+use Rattle.std.specs.Result.{IsErrAnd}
 use Rattle.ov_host.specs.declared.area.Area.{Area}
 use Rattle.ov_host.specs.declared.area.Area.TheVariants.{Journal, Pages}
 use Rattle.ov_host.specs.Disk.{Stored}
@@ -14,7 +15,7 @@ use Rattle.ov_fetch.specs.Extents.{Looked, page_bytes}
 use Rattle.law_room.specs.Room.{Entry, IsWithin, LacksRecord, LacksRun, Made}
 use Rattle.law_runs.specs.Moving.{IsMoved}
 use Rattle.law_runs.specs.Stepping.{IsStepped, IsStepping}
-use Rattle.law_runs.proofs.Stepping.{stepped_broken, stepped_full, stepped_idle, stepped_no_run, stepping_looked, stepping_more}
+use Rattle.law_runs.proofs.Stepping.{stepped_broken, stepped_full, stepped_idle, stepped_no_run, stepping_looked, stepping_more, stepping_none}
 use Rattle.law_runs.specs.Stops.{printed_of}
 use Rattle.law_steps.specs.Turns.{running}
 use Rattle.ov_migrate.specs.Steps.{RefusesStep}
@@ -206,9 +207,9 @@ module _ (w : World) (before now : Kept) (old new : State) (at : IsAtWorld w bef
   step_at (Ok stepped.Nothing) idle none answer stays moves room =
       let same = idle (none refl)
       in record {
-        held = ap (λ (k : Kept). k.held) same.1.0;
-        told = ap (λ (s : State). s.tells) same.1.1;
-        tape = ap (λ (s : State). s.tape) same.1.1;
+        held = ap (λ (k : Kept). k.held) same.1;
+        told = ap (λ (s : State). s.tells) same.2;
+        tape = ap (λ (s : State). s.tape) same.2;
         reason = inl (answered_none w (next_step w) answer);
       }
   step_at (Ok stepped.Copied) idle none answer stays moves room =
@@ -268,21 +269,34 @@ stepped_at n w before now old new is = record { at = (is.world, is.at refl); pri
 pub counted_down : (n counter : ℕ) → counter < n → n - counter ≡ suc (n - (counter + 1))
 counted_down n counter low = omega (arith, low)
 
--- the answer of one step, as the loop sees it
-pub step_went : (r : Result Bool EndErr) (b : Bool) → r ≡ Ok b → not b ≡ false → r ≡ Ok true
-step_went r true is went = is
-step_went r false is went = cc
+-- whether one was taken, as the loop sees it
+pub went : (b : Bool) → not b ≡ false → b ≡ true
+went true e = refl
+went false e = cc
 
-pub step_stayed : (r : Result Bool EndErr) (b : Bool) → r ≡ Ok b → not b ≡ true → r ≡ Ok false
-step_stayed r true is stays = cc
-step_stayed r false is stays = is
+pub stayed : (b : Bool) → not b ≡ true → b ≡ false
+stayed true e = cc
+stayed false e = refl
 
 -- no step is taken where none is asked for or no plan ran
-pub never_none : (n counter : ℕ) (before now : Held) → counter < n → (r : Result Bool EndErr) → r ≡ Ok true → now ≡ before
-    → (running now.numbers ≡ None → r ≡ Ok false) → TakesNoStep n before.numbers → ⊥
-never_none n counter before now low r is same none (inl zero_is) = absurd (omega (arith, low, zero_is))
-never_none n counter before now low r is same none (inr idle) =
-    let stays : r ≡ Ok false = none (subst (λ (h : Held). running h.numbers ≡ None) (sym same) idle) in cc
+pub never_none : (n counter : ℕ) (before now : Held) (b : Bool) → counter < n → b ≡ true → now ≡ before
+    → (running now.numbers ≡ None → (let one : Result Bool EndErr = Ok b in one) ≡ Ok false) → TakesNoStep n before.numbers → ⊥
+never_none n counter before now b low is same none (inl zero_is) = absurd (omega (arith, low, zero_is))
+never_none n counter before now b low is same none (inr idle) =
+    let stays = none (subst (λ (h : Held). running h.numbers ≡ None) (sym same) idle) in cc
+
+-- none yet, of all that may come
+pub stepping_start : (n : ℕ) (w : World) (held : Held) (st : State) → IsAtWorld w held st → IsStepping n (n - 0) w w held held st st
+stepping_start n w held st at = let all : n ≡ n - 0 = omega arith in subst (λ (k : ℕ). IsStepping n k w w held held st st) all (stepping_none n w held st at)
+
+-- two ends that are one
+pub end_is : {A : Type 0} → (e f : EndErr) → (let one : Result A EndErr = Err e in one) ≡ Err f → e ≡ f
+end_is e f is = cc
+
+-- an end that a part gave
+pub err_is : {A : Type 0} → (r : Result A EndErr) (x : EndErr) → IsErr r → IsErrAnd r (λ y. y ≡ x) → r ≡ Err x
+err_is (Ok a) x fails is = absurd is
+err_is (Err y) x fails is = ap Err is
 
 -- all were taken
 pub stepping_at : (n left : ℕ) (w v : World) (before now : Held) (old new : State) → IsStepping n left w v before now old new → IsAtSilently now old new

@@ -26,7 +26,7 @@ pub returns-clause-host_alone : goal.returns-clause-host_alone
 returns-clause-host_alone g c = λ is. step_alone c.step.result (subst (λ (q : Result Bool EndErr). IsErrOf q ending.Stage) c.outcome.ensures is)
 
 pub returns-clause-none : goal.returns-clause-none
-returns-clause-none g c = λ none. let idle = c.step.ensures.idle none in (c.outcome.ensures ∙ ap by_step idle.0, idle.1)
+returns-clause-none g c = λ none. let idle = c.step.ensures.idle none in (c.outcome.ensures ∙ ap by_step idle.0, idle.1, idle.2)
 
 pub returns-clause-damaged : goal.returns-clause-damaged
 returns-clause-damaged g c =

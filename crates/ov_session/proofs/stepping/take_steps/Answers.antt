@@ -10,7 +10,7 @@ use Rattle.ov_session.specs.Stepping.{IsStep}
 use Rattle.ov_session.specs.declared.errors.EndErr.{EndErr}
 use Rattle.ov_session.specs.declared.errors.EndErr.TheVariants as ending
 use Rattle.ov_store.specs.Kept.{Kept}
-use Rattle.ov_session.proofs.Taking.{counted_down, never_none, step_stayed, step_went, stepped_at, stepping_at, steps_break, steps_end, steps_more}
+use Rattle.ov_session.proofs.Taking.{counted_down, end_is, err_is, never_none, stayed, stepping_start, went, stepped_at, stepping_at, steps_break, steps_end, steps_more}
 use Rattle.ov_session.proofs.stepping.take_steps.Goals as goal
 
 pub loop-init : goal.loop-init
@@ -19,7 +19,7 @@ loop-init g c = record {
   call = c.requires.call;
   by_journal = λ by. by;
   none = λ none. (refl, refl);
-  stepping = λ w at. (w, stepping_none c.args.steps w c.args.store.now.held (g.H.Host.state c.args.host.now) at);
+  stepping = λ w at. (w, stepping_start c.args.steps w c.args.store.now.held (g.H.Host.state c.args.host.now) at);
 }
 
 pub loop-preserved : goal.loop-preserved
@@ -29,7 +29,7 @@ loop-preserved g c =
     in let state = g.H.Host.state
     in let left = c.args.steps - (c.loop.counter + 1)
     in let count : c.args.steps - c.loop.counter ≡ suc left = counted_down c.args.steps c.loop.counter c.loop-test.true
-    in let is : c.take_step.result ≡ Ok true = step_went c.take_step.result c.in_ok-take_step.field-0 refl c.not-branch.false
+    in let is : c.in_ok-take_step.field-0 ≡ true = went c.in_ok-take_step.field-0 c.not-branch.false
     in record {
       goes = record {
         told = call.goes.told ∙ inv.goes.told;
@@ -38,15 +38,15 @@ loop-preserved g c =
         fetched = omega (arith, call.goes.fetched, inv.goes.fetched);
       };
       call = c.in_ok-take_step.ensures.usable;
-      by_journal = λ by. call.by_journal (inv.by_journal by) (λ e. cc);
-      none = λ none. absurd (never_none c.args.steps c.loop.counter c.args.store.now.held c.loop.store.held c.loop-test.true c.take_step.result is
-          (ap (λ (k : Kept). k.held) (inv.none none).0) (λ e. (call.none e).0) none);
+      by_journal = λ by. c.in_ok-take_step.ensures.by_journal (inv.by_journal by) (λ e. cc);
+      none = λ none. absurd (never_none c.args.steps c.loop.counter c.args.store.now.held c.loop.store.held c.in_ok-take_step.field-0 c.loop-test.true is
+          (ap (λ (k : Kept). k.held) (inv.none none).0) (λ e. (c.in_ok-take_step.ensures.none e).0) none);
       stepping = λ w at.
           let so = inv.stepping w at
           in let before : IsStepping c.args.steps (suc left) w so.0 c.args.store.now.held c.loop.store.held (state c.args.host.now) (state c.loop.host)
           = subst (λ (k : ℕ). IsStepping c.args.steps k w so.0 c.args.store.now.held c.loop.store.held (state c.args.host.now) (state c.loop.host)) count so.1
           in steps_more c.args.steps left w so.0 c.args.store.now.held c.loop.store.held c.take_step.new.store.held (state c.args.host.now) (state c.loop.host) (state c.take_step.new.host) before
-          (subst (λ (q : Result Bool EndErr). IsStep so.0 q c.loop.store.held c.take_step.new.store.held (state c.loop.host) (state c.take_step.new.host)) is (call.step so.0 so.1.at));
+          (subst (λ (b : Bool). IsStep so.0 (Ok b) c.loop.store.held c.take_step.new.store.held (state c.loop.host) (state c.take_step.new.host)) is (c.in_ok-take_step.ensures.step so.0 so.1.at));
     }
 
 pub returns-clause-stepped : goal.returns-clause-stepped
@@ -67,11 +67,11 @@ returns-then-not-branch-clause-stepped g c = λ w at.
     in let so = c.loop.invariant.stepping w at
     in let left = c.args.steps - (c.loop.counter + 1)
     in let count : c.args.steps - c.loop.counter ≡ suc left = counted_down c.args.steps c.loop.counter c.loop-test.true
-    in let is : c.take_step.result ≡ Ok false = step_stayed c.take_step.result c.in_ok-take_step.field-0 refl c.not-branch.true
+    in let is : c.in_ok-take_step.field-0 ≡ false = stayed c.in_ok-take_step.field-0 c.not-branch.true
     in let before : IsStepping c.args.steps (suc left) w so.0 c.args.store.now.held c.loop.store.held (state c.args.host.now) (state c.loop.host)
     = subst (λ (k : ℕ). IsStepping c.args.steps k w so.0 c.args.store.now.held c.loop.store.held (state c.args.host.now) (state c.loop.host)) count so.1
     in steps_end c.args.steps left w so.0 c.args.store.now.held c.loop.store.held c.take_step.new.store.held (state c.args.host.now) (state c.loop.host) (state c.take_step.new.host) before
-    (subst (λ (q : Result Bool EndErr). IsStep so.0 q c.loop.store.held c.take_step.new.store.held (state c.loop.host) (state c.take_step.new.host)) is (c.take_step.ensures.step so.0 so.1.at))
+    (subst (λ (b : Bool). IsStep so.0 (Ok b) c.loop.store.held c.take_step.new.store.held (state c.loop.host) (state c.take_step.new.host)) is (c.in_ok-take_step.ensures.step so.0 so.1.at))
 
 pub returns-then-not-branch-clause-at : goal.returns-then-not-branch-clause-at
 returns-then-not-branch-clause-at g c = λ w at.
@@ -82,12 +82,12 @@ pub returns-in_err-take_step-clause-undamaged : goal.returns-in_err-take_step-cl
 returns-in_err-take_step-clause-undamaged g c = λ w at.
     let so = c.loop.invariant.stepping w at
     in let fact : IsNoDamage c.in_err-take_step.field-0.0 = c.in_err-take_step.ensures.undamaged so.0 so.1.at
-    in search (rules, fact)
+    in subst (λ (q : Result (Unit {0}) EndErr). IfErr q IsNoDamage) (sym (err_is c.from_residual.result c.in_err-take_step.field-0.0 c.from_residual.ensures.0 c.from_residual.ensures.1)) fact
 
 pub returns-in_err-take_step-clause-by_journal : goal.returns-in_err-take_step-clause-by_journal
 returns-in_err-take_step-clause-by_journal g c = λ by fine.
-    c.take_step.ensures.by_journal (c.loop.invariant.by_journal by)
-    (λ is. let host : c.in_err-take_step.field-0.0 ≡ ending.Host = cc in let same : c.from_residual.result ≡ Err c.in_err-take_step.field-0.0 = search rules in fine (same ∙ ap Err host))
+    c.in_err-take_step.ensures.by_journal (c.loop.invariant.by_journal by)
+    (λ is. fine (err_is c.from_residual.result c.in_err-take_step.field-0.0 c.from_residual.ensures.0 c.from_residual.ensures.1 ∙ ap Err (end_is c.in_err-take_step.field-0.0 ending.Host is)))
 
 pub returns-in_err-take_step-clause-stepped : goal.returns-in_err-take_step-clause-stepped
 returns-in_err-take_step-clause-stepped g c = λ w at.
@@ -100,5 +100,5 @@ returns-in_err-take_step-clause-stepped g c = λ w at.
     in let fact : IsStepped c.args.steps w false c.args.store.now.held c.take_step.new.store.held (state c.args.host.now) (state c.take_step.new.host)
     = steps_break c.args.steps left w so.0 c.args.store.now.held c.loop.store.held c.take_step.new.store.held (state c.args.host.now) (state c.loop.host) (state c.take_step.new.host) before
     (c.in_err-take_step.ensures.step so.0 so.1.at)
-    in let same : c.from_residual.result ≡ Err c.in_err-take_step.field-0.0 = search rules
+    in let same = err_is c.from_residual.result c.in_err-take_step.field-0.0 c.from_residual.ensures.0 c.from_residual.ensures.1
     in subst (λ (q : Result (Unit {0}) EndErr). IsStepped c.args.steps w (is_ok q) c.args.store.now.held c.take_step.new.store.held (state c.args.host.now) (state c.take_step.new.host)) (sym same) fact
