@@ -17,7 +17,7 @@ use Rattle.ov_session.proofs.Following.{behind_damaged, behind_done, ends_same, 
 use Rattle.ov_session.proofs.serving.serve.Goals as goal
 
 pub returns-in_err-served-clause-damaged : goal.returns-in_err-served-clause-damaged
-returns-in_err-served-clause-damaged g c = 
+returns-in_err-served-clause-damaged g c =
     let is = err_is c.from_residual.result c.in_err-served.field-0.0 c.from_residual.ensures.0 c.from_residual.ensures.1
     in subst (λ (r : Result Served EndErr). IfErr r (IsDamageOf (IsMetBy c.args.steps c.args.user.now (line_asked c.args.user.now c.args.line.now) c.args.store.now c.serve_line.new.store (g.T.Stage.staged c.args.stage.now) (g.T.Stage.staged c.serve_line.new.stage) (g.H.Host.state c.args.host.now) (g.H.Host.state c.serve_line.new.host)))) (sym is)
     (line_met c.args.steps c.args.user.now (line_asked c.args.user.now c.args.line.now) c.args.store.now c.serve_line.new.store (g.T.Stage.staged c.args.stage.now) (g.T.Stage.staged c.serve_line.new.stage) (g.H.Host.state c.args.host.now) (g.H.Host.state c.serve_line.new.host) c.in_err-served.field-0.0 c.in_err-served.ensures.damaged c.in_err-served.ensures.idle)
@@ -80,9 +80,9 @@ pub returns-then-is_comment-clause-whole : goal.returns-then-is_comment-clause-w
 returns-then-is_comment-clause-whole g c = λ command page asked told. c.in_ok-served.ensures.whole command page asked told
 
 pub returns-then-is_comment-clause-replied : goal.returns-then-is_comment-clause-replied
-returns-then-is_comment-clause-replied g c = 
+returns-then-is_comment-clause-replied g c =
     let none : is_comment_of c.in_ok-served.served ≡ true = sym c.is_comment.ensures ∙ c.if-is_comment.true
-    in replied_none c.args.steps (line_asked c.args.user.now c.args.line.now) c.args.store.now.held (g.T.Stage.staged c.args.stage.now) (g.T.Stage.staged c.serve_line.new.stage) (g.H.Host.state c.args.host.now) (g.H.Host.state c.serve_line.new.host) c.in_ok-served.served none c.in_ok-served.ensures.replied
+    in replied_none c.args.steps (line_asked c.args.user.now c.args.line.now) c.args.store.now.held (g.T.Stage.staged c.args.stage.now) (g.T.Stage.staged c.serve_line.new.stage) (g.H.Host.state c.args.host.now) (g.H.Host.state c.serve_line.new.host) (g.H.Host.state c.serve_line.new.host) c.in_ok-served.served none c.in_ok-served.ensures.replied
 
 pub returns-then-is_comment-clause-serves : goal.returns-then-is_comment-clause-serves
 returns-then-is_comment-clause-serves g c = λ w told at.
@@ -141,7 +141,7 @@ returns-in_err-take_steps-clause-undamaged g c = λ w at.
     in subst (λ (r : Result Served EndErr). IfErr r IsNoDamage) (sym is) (c.in_err-take_steps.ensures.undamaged on.0 on.1)
 
 pub returns-in_err-take_steps-clause-damaged : goal.returns-in_err-take_steps-clause-damaged
-returns-in_err-take_steps-clause-damaged g c = 
+returns-in_err-take_steps-clause-damaged g c =
     let is = err_is c.from_residual-in_err-take_steps.result c.in_err-take_steps.field-0.0 c.from_residual-in_err-take_steps.ensures.0 c.from_residual-in_err-take_steps.ensures.1
     in let some : is_comment_of c.in_ok-served.served ≡ false = sym c.is_comment.ensures ∙ c.if-is_comment.false
     in subst (λ (r : Result Served EndErr). IfErr r (IsDamageOf (IsMetBy c.args.steps c.args.user.now (line_asked c.args.user.now c.args.line.now) c.args.store.now c.take_steps.new.store (g.T.Stage.staged c.args.stage.now) (g.T.Stage.staged c.serve_line.new.stage) (g.H.Host.state c.args.host.now) (g.H.Host.state c.take_steps.new.host)))) (sym is)
@@ -193,7 +193,7 @@ pub returns-clause-whole : goal.returns-clause-whole
 returns-clause-whole g c = λ command page asked told. c.in_ok-served.ensures.whole command page asked told
 
 pub returns-clause-replied : goal.returns-clause-replied
-returns-clause-replied g c = 
+returns-clause-replied g c =
     let some : is_comment_of c.in_ok-served.served ≡ false = sym c.is_comment.ensures ∙ c.if-is_comment.false
     in replied_then c.args.steps (line_asked c.args.user.now c.args.line.now) c.args.store.now.held (g.T.Stage.staged c.args.stage.now) (g.T.Stage.staged c.serve_line.new.stage) (g.H.Host.state c.args.host.now) (g.H.Host.state c.serve_line.new.host) (g.H.Host.state c.take_steps.new.host) c.in_ok-served.served some c.in_ok-served.ensures.replied
     (behind_done c.args.steps c.args.store.now.held c.serve_line.new.store.held c.take_steps.new.store.held (g.H.Host.state c.args.host.now) (g.H.Host.state c.serve_line.new.host) (g.H.Host.state c.take_steps.new.host) c.take_steps.ensures.goes
