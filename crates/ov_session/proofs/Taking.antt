@@ -269,15 +269,6 @@ stepped_at n w before now old new is = record { at = (is.world, is.at refl); pri
 pub counted_down : (n counter : ℕ) → counter < n → n - counter ≡ suc (n - (counter + 1))
 counted_down n counter low = omega (arith, low)
 
--- whether one was taken, as the loop sees it
-pub went : (b : Bool) → not b ≡ false → b ≡ true
-went true e = refl
-went false e = cc
-
-pub stayed : (b : Bool) → not b ≡ true → b ≡ false
-stayed true e = cc
-stayed false e = refl
-
 -- no step is taken where none is asked for or no plan ran
 pub never_none : (n counter : ℕ) (before now : Held) (b : Bool) → counter < n → b ≡ true → now ≡ before
     → (running now.numbers ≡ None → (let one : Result Bool EndErr = Ok b in one) ≡ Ok false) → TakesNoStep n before.numbers → ⊥

@@ -10,7 +10,7 @@ use Rattle.ov_session.specs.Stepping.{IsStep}
 use Rattle.ov_session.specs.declared.errors.EndErr.{EndErr}
 use Rattle.ov_session.specs.declared.errors.EndErr.TheVariants as ending
 use Rattle.ov_store.specs.Kept.{Kept}
-use Rattle.ov_session.proofs.Taking.{counted_down, end_is, err_is, never_none, stayed, stepping_start, went, stepped_at, stepping_at, steps_break, steps_end, steps_more}
+use Rattle.ov_session.proofs.Taking.{counted_down, end_is, err_is, never_none, stepping_start, stepped_at, stepping_at, steps_break, steps_end, steps_more}
 use Rattle.ov_session.proofs.stepping.take_steps.Goals as goal
 
 pub loop-init : goal.loop-init
@@ -29,7 +29,7 @@ loop-preserved g c =
     in let state = g.H.Host.state
     in let left = c.args.steps - (c.loop.counter + 1)
     in let count : c.args.steps - c.loop.counter ≡ suc left = counted_down c.args.steps c.loop.counter c.loop-test.true
-    in let is : c.in_ok-take_step.field-0 ≡ true = went c.in_ok-take_step.field-0 c.if-not-branch.false
+    in let is : c.in_ok-take_step.field-0 ≡ true = c.if-not-branch.false
     in record {
       goes = record {
         told = call.goes.told ∙ inv.goes.told;
@@ -67,7 +67,7 @@ returns-then-not-branch-clause-stepped g c = λ w at.
     in let so = c.loop.invariant.stepping w at
     in let left = c.args.steps - (c.loop.counter + 1)
     in let count : c.args.steps - c.loop.counter ≡ suc left = counted_down c.args.steps c.loop.counter c.loop-test.true
-    in let is : c.in_ok-take_step.field-0 ≡ false = stayed c.in_ok-take_step.field-0 c.if-not-branch.true
+    in let is : c.in_ok-take_step.field-0 ≡ false = c.if-not-branch.true
     in let before : IsStepping c.args.steps (suc left) w so.0 c.args.store.now.held c.loop.store.held (state c.args.host.now) (state c.loop.host)
     = subst (λ (k : ℕ). IsStepping c.args.steps k w so.0 c.args.store.now.held c.loop.store.held (state c.args.host.now) (state c.loop.host)) count so.1
     in steps_end c.args.steps left w so.0 c.args.store.now.held c.loop.store.held c.take_step.new.store.held (state c.args.host.now) (state c.loop.host) (state c.take_step.new.host) before
