@@ -1,5 +1,5 @@
 -- Steps behind a line: a line that was served as if no step were asked for, and then its steps.
-use Rattle.std.proofs.Common.{◌≡◌, inl, ℕ, Bool, true, false, List, [], ◌∷◌, ◌++◌, refl, sym, ◌∙◌, ap, subst, append-nil, append_assoc}
+use Rattle.std.proofs.Common.{◌≡◌, ℕ, Bool, true, false, List, [], ◌∷◌, ◌++◌, refl, sym, ◌∙◌, ap, subst, append-nil, append_assoc}
 use Rattle.std.specs.Prelude.{◌||◌, ◌≢◌}
 use Rattle.ov_host.specs.Disk.{Image}
 use Rattle.ov_host.specs.Host.{State}
@@ -50,20 +50,17 @@ refused_some l refusal is none = by (sym is ∙ none)
 
 -- such a line is served without steps, and then its steps come
 
-and_zero : (done : Served) → and_steps 0 done ≡ done
-and_zero done = and_no_steps 0 done (inl refl)
-
 with_steps : (n : ℕ) (w : World) (s : Session) (space : Space) (line : Line) → line ≢ Comment → line_served n w s space line ≡ and_steps n (line_served 0 w s space line)
 with_steps n w s space Comment some = absurd (some refl)
-with_steps n w s space (Asks command) some = ap (and_steps n) (sym (and_zero (attempts (deed w s command) s 0 (deed w s command).moves w space)))
-with_steps n w s space (Refused refusal) some = ap (and_steps n) (sym (and_zero (replied (says.Refused refusal) w s space)))
+with_steps n w s space (Asks command) some = ap (and_steps n) (sym (and_no_steps (attempts (deed w s command) s 0 (deed w s command).moves w space)))
+with_steps n w s space (Refused refusal) some = ap (and_steps n) (sym (and_no_steps (replied (says.Refused refusal) w s space)))
 
 licensed_with : (n : ℕ) (entry : Entry) (past : List Made) (w : World) (s : Session) (space : Space) (line : Line)
     → LicensedLine 0 entry past w s space line → LicensedAfter n entry past w (line_served 0 w s space line) → LicensedLine n entry past w s space line
 licensed_with n entry past w s space Comment line behind = tt
 licensed_with n entry past w s space (Asks command) line behind = (
   line.0,
-  subst (LicensedAfter n entry past w) (and_zero (attempts (deed w s command) s 0 (deed w s command).moves w space)) behind,
+  subst (LicensedAfter n entry past w) (and_no_steps (attempts (deed w s command) s 0 (deed w s command).moves w space)) behind,
 )
 licensed_with n entry past w s space (Refused refusal) line behind =
     subst (λ (before : List Made). LicensedSteps n entry before w space) (append-nil past) behind

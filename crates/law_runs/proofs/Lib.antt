@@ -1,7 +1,4 @@
 pub mod Found
-pub mod IdleMoves
-pub mod IdleDeeds
-pub mod IdleForms
 pub mod Steps
 pub mod Doing
 pub mod Moving

@@ -21,8 +21,6 @@ use Rattle.ov_model.specs.declared.refusal.Refusal.{Refusal}
 use Rattle.ov_model.specs.declared.reply.Reply.{Reply}
 use Rattle.ov_model.specs.declared.reply.Reply.TheVariants as says
 use Rattle.ov_model.proofs.Courses.{world_append}
-use Rattle.law_runs.specs.Idle.{TakesNone}
-use Rattle.law_runs.proofs.IdleForms.{LineQuiet, attempts_take_none, line_quiet}
 use Rattle.ov_core.specs.AtWorld.{IsAtWorld}
 use Rattle.ov_core.specs.Held.{Held}
 use Rattle.law_room.specs.Room.{Entry, IsWithin, Made}
@@ -32,7 +30,7 @@ use Rattle.law_runs.specs.Stops.{IsFound, printed_of}
 use Rattle.law_runs.proofs.Found.{at_same_tape, found_behind, found_front, looked_found, printed_at, printed_more, printing}
 use Rattle.law_runs.proofs.Doing.{does_told, within_still}
 use Rattle.law_runs.proofs.Moving.{play_none}
-use Rattle.law_runs.proofs.Steps.{and_no_steps, steps_are_licensed}
+use Rattle.law_runs.proofs.Steps.{and_no_steps}
 
 -- ---- where no answer for room is left, all takes place
 
@@ -117,18 +115,16 @@ attempts_end d s taken (m ∷ ms) w space =
 
 -- ---- a line that is served as a deed is
 
--- what it does and says is what the deed does, and then steps; and so it is licensed; and it begins no plan
+-- what it does and says is what the deed does, and then steps; and so it is licensed
 pub record IsServed (n : ℕ) (w : World) (s : Session) (line : List ℕ) (d : Deed) : Type 0 where
   pub acts : (space : Space) → served served_forms n w s line space ≡ and_steps n (attempts d s 0 d.moves w space)
   pub licensed : (entry : Entry) (past : List Made) (space : Space) → LicensedMoves entry past d.moves w space
       → LicensedAfter n entry past w (attempts d s 0 d.moves w space) → LicensedLine n entry past w s space (line_of served_forms line)
-  pub waits : (space : Space) → TakesNone n w → TakesNone n (attempts d s 0 d.moves w space).world
 
 asks_served : (n : ℕ) (w : World) (s : Session) (line : List ℕ) (command : Command) → line_of served_forms line ≡ Asks command → IsServed n w s line (deed w s command)
 asks_served n w s line command is = record {
   acts = λ space. ap (line_served n w s space) is;
   licensed = λ entry past space moves after. subst (LicensedLine n entry past w s space) (sym is) (moves, after);
-  waits = λ space none. attempts_take_none n w s command space (subst LineQuiet is (line_quiet line)) none;
 }
 
 refusal_served : (n : ℕ) (w : World) (s : Session) (line : List ℕ) (refusal : Refusal) → line_of served_forms line ≡ Refused refusal → IsServed n w s line (refuses s refusal)
@@ -136,7 +132,6 @@ refusal_served n w s line refusal is = record {
   acts = λ space. ap (line_served n w s space) is;
   licensed = λ entry past space moves after.
       subst (LicensedLine n entry past w s space) (sym is) (subst (λ (made : List Made). LicensedSteps n entry made w space) (append-nil past) after);
-  waits = λ space none. none;
 }
 
 denied_served : (n : ℕ) (w : World) (s : Session) (line : List ℕ) (command : Command) (refusal : Refusal) → line_of served_forms line ≡ Asks command → permit s.user command ≡ Some refusal
@@ -188,25 +183,19 @@ pub breaks_permitted : (w : World) (s : Session) (command : Command) (old new : 
 breaks_permitted w s command old new free breaks =
     subst (λ (o : Option Refusal). Breaks (unless s o (permitted w s command)) s w old new) (sym free) breaks
 
--- it was done or refused, and its reply was printed, in part or whole
-module _ (n : ℕ) (w : World) (s t : Session) (line : List ℕ) (d : Deed) (reply : Reply) (before now : Held) (old mid new : State) (is : IsServed n w s line d)
-    (waits : TakesNone n w) (does : Does d s t w reply before now old mid) (prints : Only mid.tape new.tape (IsFound does.world (printed_of mid) (Says reply ∷ []))) where
+-- it was done or refused, and its reply was printed, in part or whole; no step is asked for
+module _ (w : World) (s t : Session) (line : List ℕ) (d : Deed) (reply : Reply) (before now : Held) (old mid new : State) (is : IsServed 0 w s line d)
+    (does : Does d s t w reply before now old mid) (prints : Only mid.tape new.tape (IsFound does.world (printed_of mid) (Says reply ∷ []))) where
   abbrev did : Served
   did = record { items = all does.moves reply; world = does.world; session = t; left = [] }
 
-  no_more : TakesNone n does.world
-  no_more = subst (λ (done : Served). TakesNone n done.world) (does.did []) (is.waits (does.used ++ []) waits)
-
-  acts : (future : Space) → served served_forms n w s line (does.used ++ future) ≡ record did { left = future }
+  acts : (future : Space) → served served_forms 0 w s line (does.used ++ future) ≡ record did { left = future }
   acts future =
-      is.acts (does.used ++ future) ∙ ap (and_steps n) (does.did future)
-      ∙ and_no_steps n (record { items = all does.moves reply; world = does.world; session = t; left = future }) no_more
+      is.acts (does.used ++ future) ∙ ap (and_steps 0) (does.did future)
+      ∙ and_no_steps (record { items = all does.moves reply; world = does.world; session = t; left = future })
 
-  licensed : (entry : Entry) (past : List Made) → IsWithin entry past before → (future : Space) → LicensedLine n entry past w s (does.used ++ future) (line_of served_forms line)
-  licensed entry past within future =
-      is.licensed entry past (does.used ++ future) (does.licensed entry past within future)
-      (subst (λ (done : Served). LicensedAfter n entry past w done) (sym (does.did future))
-      (steps_are_licensed n entry (past ++ made_by w (all does.moves reply)) does.world future no_more))
+  licensed : (entry : Entry) (past : List Made) → IsWithin entry past before → (future : Space) → LicensedLine 0 entry past w s (does.used ++ future) (line_of served_forms line)
+  licensed entry past within future = is.licensed entry past (does.used ++ future) (does.licensed entry past within future) tt
 
   within_all : (entry : Entry) (past : List Made) → IsWithin entry past before → IsWithin entry (past ++ made_by w (all does.moves reply)) now
   within_all entry past within =
@@ -230,7 +219,7 @@ module _ (n : ℕ) (w : World) (s t : Session) (line : List ℕ) (d : Deed) (rep
       (λ c found. found_behind w does.world (printed_of old) (printed_of mid) (map Makes does.moves) (Says reply ∷ []) c world_is printed_mid found) prints)
 
   -- whole
-  said : IsAtWorld does.world now new → printed_of new ≡ printed_of mid ++ reply_text reply → Serves n w s t line true (is_error reply) before now old new
+  said : IsAtWorld does.world now new → printed_of new ≡ printed_of mid ++ reply_text reply → Serves 0 w s t line true (is_error reply) before now old new
   said at printed = record {
     used = does.used;
     did = did;
@@ -247,7 +236,7 @@ module _ (n : ℕ) (w : World) (s t : Session) (line : List ℕ) (d : Deed) (rep
   }
 
   -- the run ends here
-  unsaid : (u : Session) (refused : Bool) (later : Held) → Serves n w s u line false refused before later old new
+  unsaid : (u : Session) (refused : Bool) (later : Held) → Serves 0 w s u line false refused before later old new
   unsaid u refused later = record {
     used = does.used;
     did = did;
@@ -279,28 +268,28 @@ serves_comment n w s line held old new is at told tape = record {
   refused_is = λ ok. refl;
 }
 
-module _ (n : ℕ) (w : World) (s t : Session) (line : List ℕ) (command : Command) (reply : Reply) (before now : Held) (old mid new : State)
-    (asks : line_of served_forms line ≡ Asks command) (waits : TakesNone n w) (does : Does (deed w s command) s t w reply before now old mid) where
+module _ (w : World) (s t : Session) (line : List ℕ) (command : Command) (reply : Reply) (before now : Held) (old mid new : State)
+    (asks : line_of served_forms line ≡ Asks command) (does : Does (deed w s command) s t w reply before now old mid) where
   -- a command was done or refused, and its reply was printed
   pub serves_reply : (ok : Bool) (bytes : List ℕ) → bytes ≡ reply_text reply → ok ≡ true → Calls (Prints bytes) ok mid new
-      → Serves n w s t line true (is_error reply) before now old new
+      → Serves 0 w s t line true (is_error reply) before now old new
   serves_reply ok bytes text is call =
-      said n w s t line (deed w s command) reply before now old mid new (asks_served n w s line command asks) waits does
+      said w s t line (deed w s command) reply before now old mid new (asks_served 0 w s line command asks) does
       (printing does.world now reply mid new ok bytes text does.at call)
       (printed_at does.world now mid new ok bytes is does.at call)
       (printed_more does.world now mid new ok bytes is does.at call ∙ ap (λ (b : List ℕ). printed_of mid ++ b) text)
 
   -- the print failed
   pub serves_unsaid : (ok : Bool) (bytes : List ℕ) (u : Session) (refused : Bool) (later : Held) → bytes ≡ reply_text reply → Calls (Prints bytes) ok mid new
-      → Serves n w s u line false refused before later old new
+      → Serves 0 w s u line false refused before later old new
   serves_unsaid ok bytes u refused later text call =
-      unsaid n w s t line (deed w s command) reply before now old mid new (asks_served n w s line command asks) waits does
+      unsaid w s t line (deed w s command) reply before now old mid new (asks_served 0 w s line command asks) does
       (printing does.world now reply mid new ok bytes text does.at call) u refused later
 
   -- nothing was printed
-  pub serves_silent : (u : Session) (refused : Bool) (later : Held) → new.tape ≡ mid.tape → Serves n w s u line false refused before later old new
+  pub serves_silent : (u : Session) (refused : Bool) (later : Held) → new.tape ≡ mid.tape → Serves 0 w s u line false refused before later old new
   serves_silent u refused later tape =
-      unsaid n w s t line (deed w s command) reply before now old mid new (asks_served n w s line command asks) waits does
+      unsaid w s t line (deed w s command) reply before now old mid new (asks_served 0 w s line command asks) does
       (looked_found does.world now mid new (Says reply ∷ []) does.at tape) u refused later
 
 -- a command was broken off: what was to come counts as met by no refusal
@@ -345,29 +334,29 @@ module _ (n : ℕ) (w : World) (s t : Session) (line : List ℕ) (command : Comm
   }
 
 -- a line that is refused, at a World
-module _ (n : ℕ) (w : World) (s : Session) (line : List ℕ) (refusal : Refusal) (held : Held) (old new : State)
-    (is : IsServed n w s line (refuses s refusal)) (waits : TakesNone n w) (at : IsAtWorld w held old) where
+module _ (w : World) (s : Session) (line : List ℕ) (refusal : Refusal) (held : Held) (old new : State)
+    (is : IsServed 0 w s line (refuses s refusal)) (at : IsAtWorld w held old) where
   told : Does (refuses s refusal) s s w (says.Refused refusal) held held old old
   told = does_told (refuses s refusal) s s w (says.Refused refusal) held old old refl at refl refl
 
   -- it was printed
   pub serves_refusal : (ok : Bool) (bytes : List ℕ) → bytes ≡ reply_text (says.Refused refusal) → ok ≡ true → Calls (Prints bytes) ok old new
-      → Serves n w s s line true true held held old new
+      → Serves 0 w s s line true true held held old new
   serves_refusal ok bytes text good call =
-      said n w s s line (refuses s refusal) (says.Refused refusal) held held old old new is waits told
+      said w s s line (refuses s refusal) (says.Refused refusal) held held old old new is told
       (printing told.world held (says.Refused refusal) old new ok bytes text told.at call)
       (printed_at told.world held old new ok bytes good told.at call)
       (printed_more told.world held old new ok bytes good told.at call ∙ ap (λ (b : List ℕ). printed_of old ++ b) text)
 
   -- the print failed
   pub serves_refusal_unsaid : (ok : Bool) (bytes : List ℕ) (u : Session) (refused : Bool) (later : Held) → bytes ≡ reply_text (says.Refused refusal) → Calls (Prints bytes) ok old new
-      → Serves n w s u line false refused held later old new
+      → Serves 0 w s u line false refused held later old new
   serves_refusal_unsaid ok bytes u refused later text call =
-      unsaid n w s s line (refuses s refusal) (says.Refused refusal) held held old old new is waits told
+      unsaid w s s line (refuses s refusal) (says.Refused refusal) held held old old new is told
       (printing told.world held (says.Refused refusal) old new ok bytes text told.at call) u refused later
 
   -- nothing was printed
-  pub serves_refusal_silent : (u : Session) (refused : Bool) (later : Held) → new.tape ≡ old.tape → Serves n w s u line false refused held later old new
+  pub serves_refusal_silent : (u : Session) (refused : Bool) (later : Held) → new.tape ≡ old.tape → Serves 0 w s u line false refused held later old new
   serves_refusal_silent u refused later tape =
-      unsaid n w s s line (refuses s refusal) (says.Refused refusal) held held old old new is waits told
+      unsaid w s s line (refuses s refusal) (says.Refused refusal) held held old old new is told
       (looked_found told.world held old new (Says (says.Refused refusal) ∷ []) told.at tape) u refused later

@@ -12,8 +12,6 @@ use Rattle.ov_model.specs.Line.{line_of}
 use Rattle.ov_model.specs.Moves.{moved}
 use Rattle.ov_model.specs.World.{World}
 use Rattle.ov_model.proofs.Courses.{course_ends, play_append, world_append}
-use Rattle.law_runs.specs.Idle.{TakesNone}
-use Rattle.law_runs.proofs.IdleForms.{served_none}
 use Rattle.ov_core.specs.AtWorld.{IsAtWorld}
 use Rattle.ov_core.specs.Held.{Held}
 use Rattle.law_room.specs.Room.{Entry, IsWithin, Made}
@@ -57,8 +55,8 @@ licensed_whole entry before n w s (line ∷ lines) =
 
 -- ---- at the start
 
-pub so_far_start : (n : ℕ) (w : World) (s : Session) (held : Held) (st : State) → TakesNone n w → IsAtWorld w held st → SoFar n w s s [] false held held st st
-so_far_start n w s held st waits at = record {
+pub so_far_start : (n : ℕ) (w : World) (s : Session) (held : Held) (st : State) → IsAtWorld w held st → SoFar n w s s [] false held held st st
+so_far_start n w s held st at = record {
   past = [];
   items = [];
   world = w;
@@ -68,7 +66,6 @@ so_far_start n w s held st waits at = record {
   stops = looked_found w held st st [] at refl;
   at = at;
   world_is = refl;
-  waits = waits;
   printed = sym (append-nil (printed_of st));
   failed_is = refl;
 }
@@ -145,7 +142,6 @@ module _ (n : ℕ) (w : World) (s t : Session) (gone : List (List ℕ)) (line : 
         at = serves.at refl;
         world_is = world_served u true refused held new serves
             ∙ ap (λ (v : World). world_after v serves.did.items) so.world_is ∙ sym (world_append w so.items serves.did.items);
-        waits = subst (λ (done : Served). TakesNone n done.world) (serves.acts [] (all [])) (served_none n so.world t line (serves.used ++ []) so.waits);
         printed = serves.printed refl
             ∙ ap (λ (text : List ℕ). text ++ play serves.did.items) so.printed
             ∙ append_assoc (printed_of old) (play so.items) (play serves.did.items)

@@ -18,10 +18,9 @@ use Rattle.law_runs.specs.Stepping.{IsStepped, IsStepping}
 use Rattle.law_runs.specs.Stops.{IsFound, printed_of}
 use Rattle.law_runs.proofs.Doing.{within_still}
 use Rattle.law_runs.proofs.Found.{at_same_tape, looked_found}
-use Rattle.law_runs.proofs.IdleMoves.{no_steps}
 use Rattle.law_runs.proofs.Lines.{steps_licensed}
 use Rattle.law_runs.proofs.Moving.{enough, made, stops_here, stops_next, within_more, world_more}
-use Rattle.law_runs.proofs.Steps.{idle_is_licensed}
+use Rattle.law_runs.proofs.Steps.{idle_is_licensed, no_steps}
 
 -- ---- the steps that come next
 

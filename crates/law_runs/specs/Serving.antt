@@ -20,7 +20,6 @@ use Rattle.ov_model.specs.Moves.{Move}
 use Rattle.ov_model.specs.World.{World}
 use Rattle.ov_model.specs.declared.reply.Reply.{Reply}
 use Rattle.ov_model.specs.declared.reply.Reply.TheVariants as says
-use Rattle.law_runs.specs.Idle.{TakesNone}
 use Rattle.law_room.specs.Room.{Entry, Made, IsWithin}
 use Rattle.law_runs.specs.Licence.{Licensed, LicensedLine, LicensedMoves, made_by}
 use Rattle.law_runs.specs.Stops.{IsFound, printed_of}
@@ -82,7 +81,7 @@ pub record Serves (steps : ℕ) (w : World) (s t : Session) (line : List ℕ) (o
 
 -- ---- lines
 
--- These lines were served, whatever lines come after them, without a step. `before` was kept at the entry, and `now` is.
+-- These lines were served, whatever lines come after them. `before` was kept at the entry, and `now` is.
 pub record SoFar (steps : ℕ) (w : World) (s t : Session) (gone : List (List ℕ)) (failed : Bool) (before now : Held) (old new : State) : Type 0 where
   pub past : Space
   pub items : List Item
@@ -96,7 +95,6 @@ pub record SoFar (steps : ℕ) (w : World) (s t : Session) (gone : List (List �
   pub stops : Only old.tape new.tape (IsFound w (printed_of old) items)
   pub at : IsAtWorld world now new
   pub world_is : world ≡ world_after w items
-  pub waits : TakesNone steps world
   pub printed : printed_of new ≡ printed_of old ++ play items
   pub failed_is : failed ≡ has_error items
 

@@ -5,10 +5,8 @@
 //! which the program's parts are put together.
 #![tactic(auto)]
 
-mod idle;
 mod laws;
 mod migration;
 
-pub use idle::a_plan_begins_by_optimize_alone;
 pub use laws::{a_stop_is_found_between_due_replies, any_stop_of_a_run_leaves_what_is_due};
 pub use migration::{steps_are_taken_one_by_one, steps_follow_a_line, steps_may_be_broken_off};

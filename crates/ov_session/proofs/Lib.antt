@@ -13,3 +13,6 @@ pub mod Meeting
 pub mod Shaping
 pub mod Querying
 pub mod Making
+pub mod Idling
+pub mod Taking
+pub mod Following

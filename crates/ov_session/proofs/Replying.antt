@@ -20,7 +20,7 @@ use Rattle.ov_session.specs.declared.lines.Unasked.{Unasked}
 use Rattle.ov_session.specs.declared.lines.Unasked.TheVariants as unasked
 use Rattle.ov_session.specs.Commands.{IfNoFile}
 use Rattle.ov_session.specs.Errors.{reply_of}
-use Rattle.ov_session.specs.Replying.{IsReplied, IsReplyTo}
+use Rattle.ov_session.specs.Replying.{IsReplyTo, IsSaidBy}
 use Rattle.ov_session.specs.Standing.{IsAtSome}
 use Rattle.ov_session.specs.declared.errors.EndErr.{EndErr}
 use Rattle.ov_session.specs.declared.serving.Served.{Served}
@@ -93,7 +93,7 @@ refused_missed P refusal missed = λ name is. missed name cc
 
 module _ (l : Line) (reply : Reply) (held : Held) (stage staged : Staged) (old mid new : State) (to_line : IsReplyTo l reply) (told : mid.tells ≡ old.tells)
     (silent : IsAtSome held old → printed_of mid ≡ printed_of old) (missed : IfNoFile (Rose stage.misses staged.misses) reply) where
-  pub is_replied : (result : Result Served EndErr) → Says reply result mid new → IfOk result (λ what. IsReplied l what held stage staged old new)
+  pub is_replied : (result : Result Served EndErr) → Says reply result mid new → IfOk result (λ what. IsSaidBy l what held stage staged old new)
   is_replied (Err why) says_ = tt
   is_replied (Ok served.Comment) says_ = absurd says_.answer
   is_replied (Ok served.Done) says_ =

@@ -6,7 +6,6 @@ use Rattle.ov_host.specs.Host.{State}
 use Rattle.ov_host.specs.Stage.{Staged}
 use Rattle.ov_catalog.specs.Numbers.{Numbers}
 use Rattle.ov_core.specs.AtWorld.{IsAtWorld}
-use Rattle.law_runs.specs.Idle.{TakesNone}
 use Rattle.law_runs.specs.Serving.{Breaks, Does, Serves, session_of}
 use Rattle.ov_model.proofs.Shaped.{line_shaped}
 use Rattle.ov_model.specs.Act.{Session}
@@ -177,25 +176,25 @@ module _ (user : List ℕ) (command : Command) (l : Line) (is : l ≡ served_lin
             on_any _ result (subst (λ (c : Command). MeetsDamage user c stage before.held old page → ⊥) (same_command command met (sym asks_.0 ∙ asked)) whole)
         by (inr other) = absurd (refused_asks other.0 met (sym other.1 ∙ asked))
 
-    module _ (n : ℕ) (w : World) (line : List ℕ) (asked : line_asked user line ≡ l) (waits : TakesNone n w) (at : IsAtWorld w before.held old) (new : State) (result : Result Served EndErr)
+    module _ (w : World) (line : List ℕ) (asked : line_asked user line ≡ l) (at : IsAtWorld w before.held old) (new : State) (result : Result Served EndErr)
         (says_ : Says reply result mid new) where
       abbrev s : Session
       s = session_of stage.files user
 
       pub served_shaped : (if_built command ≡ done command → Does (permitted w s command) s (session_of staged.files user) w reply before.held now.held old mid)
-          → Serves n w s (session_of staged.files user) line (is_ok result) (is_refused result) before.held now.held old new
+          → Serves 0 w s (session_of staged.files user) line (is_ok result) (is_refused result) before.held now.held old new
       served_shaped does = by (line_shape l command is)
         where
-          by : Shape l command → Serves n w s (session_of staged.files user) line (is_ok result) (is_refused result) before.held now.held old new
+          by : Shape l command → Serves 0 w s (session_of staged.files user) line (is_ok result) (is_refused result) before.held now.held old new
           by (inl asks_) =
-              says_reply n w s (session_of staged.files user) line command reply before.held now.held old mid new (asked ∙ asks_.0) waits (does asks_.1) result says_
+              says_reply w s (session_of staged.files user) line command reply before.held now.held old mid new (asked ∙ asks_.0) (does asks_.1) result says_
           by (inr other) =
               let is_ = others other.0 other.2
               in let told : Says (says.Refused other.0) result old new =
               subst (λ (r : Reply). Says r result old new) is_.reply (subst (λ (x : State). Says reply result x new) is_.host says_)
-              in subst (λ (k : Kept). Serves n w s (session_of staged.files user) line (is_ok result) (is_refused result) before.held k.held old new) (sym is_.store)
-              (subst (λ (u : Staged). Serves n w s (session_of u.files user) line (is_ok result) (is_refused result) before.held before.held old new) (sym is_.stage_same)
-              (says_refusal n w s line other.0 before.held old new (asked ∙ other.1) waits at result told))
+              in subst (λ (k : Kept). Serves 0 w s (session_of staged.files user) line (is_ok result) (is_refused result) before.held k.held old new) (sym is_.store)
+              (subst (λ (u : Staged). Serves 0 w s (session_of u.files user) line (is_ok result) (is_refused result) before.held before.held old new) (sym is_.stage_same)
+              (says_refusal w s line other.0 before.held old new (asked ∙ other.1) at result told))
 
   -- the run ends in it
   module _ (before now : Kept) (stage staged : Staged) (old new : State) (why : EndErr)
@@ -219,16 +218,16 @@ module _ (user : List ℕ) (command : Command) (l : Line) (is : l ≡ served_lin
             subst (λ (x : Line). IsIdleOn x why before now stage staged old new) (sym other.1)
             (subst (λ (e : EndErr). IsIdle e before now stage staged old new) (sym (others other.0 other.2).reply) tt)
 
-    module _ (n : ℕ) (w : World) (line : List ℕ) (asked : line_asked user line ≡ l) (waits : TakesNone n w) (at : IsAtWorld w before.held old) where
+    module _ (w : World) (line : List ℕ) (asked : line_asked user line ≡ l) (at : IsAtWorld w before.held old) where
       pub broken_shaped : (if_built command ≡ done command → Breaks (permitted w (session_of stage.files user) command) (session_of stage.files user) w old new)
-          → Serves n w (session_of stage.files user) (session_of staged.files user) line false false before.held now.held old new
+          → Serves 0 w (session_of stage.files user) (session_of staged.files user) line false false before.held now.held old new
       broken_shaped breaks = by (line_shape l command is)
         where
-          by : Shape l command → Serves n w (session_of stage.files user) (session_of staged.files user) line false false before.held now.held old new
-          by (inl asks_) = says_broken n w (session_of stage.files user) (session_of staged.files user) line command before.held now.held old new (asked ∙ asks_.0) (breaks asks_.1)
+          by : Shape l command → Serves 0 w (session_of stage.files user) (session_of staged.files user) line false false before.held now.held old new
+          by (inl asks_) = says_broken w (session_of stage.files user) (session_of staged.files user) line command before.held now.held old new (asked ∙ asks_.0) (breaks asks_.1)
           by (inr other) =
               let is_ = others other.0 other.2
-              in subst (λ (x : State). Serves n w (session_of stage.files user) (session_of staged.files user) line false false before.held now.held old x) (sym is_.host)
-              (subst (λ (k : Kept). Serves n w (session_of stage.files user) (session_of staged.files user) line false false before.held k.held old old) (sym is_.store)
-              (subst (λ (u : Staged). Serves n w (session_of stage.files user) (session_of u.files user) line false false before.held before.held old old) (sym is_.stage_same)
-              (line_unserved n w (session_of stage.files user) line before.held old waits at)))
+              in subst (λ (x : State). Serves 0 w (session_of stage.files user) (session_of staged.files user) line false false before.held now.held old x) (sym is_.host)
+              (subst (λ (k : Kept). Serves 0 w (session_of stage.files user) (session_of staged.files user) line false false before.held k.held old old) (sym is_.store)
+              (subst (λ (u : Staged). Serves 0 w (session_of stage.files user) (session_of u.files user) line false false before.held before.held old old) (sym is_.stage_same)
+              (line_unserved w (session_of stage.files user) line before.held old at)))

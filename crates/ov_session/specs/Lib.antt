@@ -4,3 +4,5 @@ pub mod Commands
 pub mod Bounds
 pub mod Standing
 pub mod Replying
+pub mod Stepping
+pub mod Damages

@@ -1,6 +1,7 @@
 -- The reply to a line.
---     IsReplied line served ..      a line but a comment has one reply, which is printed last
-use Rattle.std.specs.Prelude.{◌≡◌, true}
+--     IsSaidBy line served ..      a line but a comment has one reply, which is printed last
+--     IsReplied steps line served ..      and then come steps
+use Rattle.std.specs.Prelude.{◌≡◌, ℕ, true}
 use Rattle.ov_host.specs.Host.{Calls, Rose, State}
 use Rattle.ov_host.specs.Stage.{Staged}
 use Rattle.ov_host.specs.Tape.{Prints}
@@ -11,8 +12,9 @@ use Rattle.ov_model.specs.Line.{Comment, Line, Refused}
 use Rattle.ov_model.specs.Replies.{reply_text}
 use Rattle.ov_model.specs.declared.reply.Reply.{Reply}
 use Rattle.ov_model.specs.declared.reply.Reply.TheVariants as says
-use Rattle.ov_session.specs.Commands.{IfNoFile, IsSaid}
+use Rattle.ov_session.specs.Commands.{Goes, IfNoFile, IsSaid}
 use Rattle.ov_session.specs.Standing.{IsAtSome}
+use Rattle.ov_session.specs.Stepping.{TakesNoStep}
 use Rattle.ov_session.specs.declared.serving.Served.{Served}
 use Rattle.ov_session.specs.declared.serving.Served.TheVariants as served
 
@@ -33,7 +35,20 @@ pub record IsReply (line : Line) (reply : Reply) (what : Served) (held : Held) (
   pub missed : IfNoFile (Rose stage.misses staged.misses) reply
 
 -- of a comment the host knows nothing
-abbrev pub IsReplied : Line → Served → Held → Staged → Staged → State → State → Type 0
-IsReplied line served.Comment held stage staged old new = new ≡ old
-IsReplied line what held stage staged old new =
+abbrev pub IsSaidBy : Line → Served → Held → Staged → Staged → State → State → Type 0
+IsSaidBy line served.Comment held stage staged old new = new ≡ old
+IsSaidBy line what held stage staged old new =
     (reply : Reply) × (mid : State) × IsReply line reply what held stage staged old mid new
+
+-- What comes behind the reply prints nothing where the store was at a World; and where no step is asked for or no plan ran, nothing
+-- comes.
+pub record IsBehind (steps : ℕ) (held : Held) (old said new : State) : Type 0 where
+  pub goes : Goes said new
+  pub silent : IsAtSome held old → printed_of new ≡ printed_of said
+  pub none : TakesNoStep steps held.numbers → new ≡ said
+
+-- and no step comes behind a comment
+abbrev pub IsReplied : ℕ → Line → Served → Held → Staged → Staged → State → State → Type 0
+IsReplied steps line served.Comment held stage staged old new = new ≡ old
+IsReplied steps line what held stage staged old new =
+    (reply : Reply) × (mid : State) × (said : State) × IsReply line reply what held stage staged old mid said × IsBehind steps held old said new

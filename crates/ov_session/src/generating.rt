@@ -8,6 +8,7 @@ ghost use Rattle.ov_model.specs.World.{World};
 ghost use Rattle.ov_model.specs.declared.command.Command.TheVariants as asks;
 ghost use Rattle.ov_core.specs.AtWorld.{IsAtWorld};
 ghost use Rattle.ov_core.specs.Held.{IsByJournal};
+ghost use Rattle.law_steps.specs.Turns.{running};
 ghost use Rattle.ov_store.specs.Kept.{MayCall};
 ghost use Rattle.ov_store.specs.Refusals.{new_off};
 ghost use Rattle.ov_store.specs.declared.errors.StoreErr.{StoreErr as StoreErrValue};
@@ -42,6 +43,7 @@ pub fn make_versions<H: Host>(
     ensures damaged { IfErr result (IsDamageOf (HasDamagedVersion store.new.held wanted.cvd wanted.rows wanted.versions (H.state host.new))) }
     ensures undamaged { (w : World) → IsAtWorld w store.old.held (H.state host.old) → IfErr result IsNoDamage }
     ensures usable { OnOk result (MayCall store.new (H.state host.new)) }
+    ensures begins_none { running store.old.held.numbers ≡ None → OnOk result (running store.new.held.numbers ≡ None) }
     ensures by_journal { IsByJournal store.old.held (H.state host.old) → (IsErrOf result EndErr.Host → ⊥) → IsByJournal store.new.held (H.state host.new) }
     ensures at { (w : World) → IsAtWorld w store.old.held (H.state host.old) → OnOk result (IsAtSilently store.new.held (H.state host.old) (H.state host.new)) }
     ensures seen { IfOk result (IfNoFile ⊥) }

@@ -13,13 +13,15 @@ ghost use Rattle.ov_model.specs.World.{World};
 ghost use Rattle.ov_value.specs.Naming.{is_name};
 ghost use Rattle.ov_core.specs.AtWorld.{IsAtWorld};
 ghost use Rattle.ov_core.specs.Held.{IsByJournal};
-ghost use Rattle.law_runs.specs.Idle.{TakesNone};
 ghost use Rattle.law_runs.specs.Serving.{Serves, is_error as is_error_of, session_of};
 ghost use Rattle.ov_store.specs.Kept.{Kept, MayCall};
 ghost use Rattle.ov_session.specs.Asking.{line_asked};
 ghost use Rattle.ov_session.specs.Bounds.{IsFetched, IsFetchedBy, IsReading, IsReadingCommand, is_command_off, is_off};
-ghost use Rattle.ov_session.specs.Replying.{IsReplied};
+ghost use Rattle.law_steps.specs.Turns.{running};
+ghost use Rattle.ov_session.specs.Replying.{IsReplied, IsSaidBy};
+ghost use Rattle.ov_session.specs.Damages.{IsLineDamaged, IsMetBy};
 ghost use Rattle.ov_session.specs.Standing.{IsAtSilently, IsAtSome, IsIdleBy, IsIdleOn};
+ghost use Rattle.ov_session.specs.Stepping.{TakesNoStep};
 ghost use Rattle.ov_session.specs.Commands.{Acts, Attended, Goes, IfNoFile, IsDamageOf, IsDamaged, IsNoDamage, IsOther, IsSaid, IsUnsaid, MeetsDamage, is_comment_in, is_comment_of, is_refused};
 
 use crate::changing::{commit, drop_cvd, init};
@@ -27,6 +29,7 @@ use crate::errors::EndErr;
 use crate::generating::make_versions;
 use crate::lines::{asked, refusal};
 use crate::reading::{checkout, layout, log, ls, run_query};
+use crate::stepping::take_steps;
 use ov_generate::Wanted;
 use ov_host::{Host, Stage};
 use ov_model::{Command, Reply};
@@ -65,6 +68,7 @@ fn answer<H: Host, T: Stage>(
     ensures cause { IsErrOf result EndErr.Host → Rose (H.state host.old).faults (H.state host.new).faults }
     ensures stage { IsErrOf result EndErr.Stage → Rose (T.staged stage.old).faults (T.staged stage.new).faults }
     ensures damaged { IfErr result (IsDamageOf (IsDamaged user.now command (T.staged stage.old) store.old.held store.new.held (H.state host.new))) }
+    ensures begins_none { running store.old.held.numbers ≡ None → OnOk result (running store.new.held.numbers ≡ None) }
     ensures whole { (page : ℕ) → (H.state host.old).tells ≡ true
         → OnOk result (MeetsDamage user.now command (T.staged stage.old) store.old.held (H.state host.old) page → ⊥) }
     ensures usable { OnOk result (MayCall store.new (H.state host.new)) }
@@ -161,10 +165,71 @@ fn say<H: Host>(alloc: Global, host: &mut H, reply: Reply) -> Result<Served, End
     print_reply(alloc, host, &reply)
 }
 
-/// Serves a line: does what it asks, and prints its one reply; a comment has none.
+// Does what a line asks, and prints its one reply; a comment has none. No step is taken.
+fn serve_line<H: Host, T: Stage>(
+    alloc: Global,
+    store: &mut Store,
+    host: &mut H,
+    stage: &mut T,
+    line: &[u8],
+    user: &Txt,
+) -> Result<Served, EndErr>
+    requires call { MayCall store.old (H.state host.old) }
+    requires user { IsTrue (is_name user.now) }
+    ensures goes { Goes (H.state host.old) (H.state host.new) }
+    ensures attended { Attended (T.staged stage.old) (T.staged stage.new) }
+    ensures still { IsReading (line_asked user.now line.now) → store.new.held ≡ store.old.held }
+    ensures fetched { IsFetchedBy user.now (line_asked user.now line.now) store.old.held store.new.held (IsErrOf result EndErr.Host)
+        (H.state host.old) (H.state host.new) }
+    ensures unread { is_off store.old.held.numbers user.now (line_asked user.now line.now) ≡ true
+        → (H.state host.new).fetched ≡ (H.state host.old).fetched }
+    ensures cause { IsErrOf result EndErr.Host → Rose (H.state host.old).faults (H.state host.new).faults }
+    ensures stage { IsErrOf result EndErr.Stage → Rose (T.staged stage.old).faults (T.staged stage.new).faults }
+    ensures damaged { IfErr result (IsDamageOf (IsLineDamaged user.now (line_asked user.now line.now) (T.staged stage.old)
+        store.old.held store.new.held (H.state host.new))) }
+    ensures begins_none { running store.old.held.numbers ≡ None → OnOk result (running store.new.held.numbers ≡ None) }
+    ensures whole { (command : CommandValue) (page : ℕ) → line_asked user.now line.now ≡ Asks command → (H.state host.old).tells ≡ true
+        → OnOk result (MeetsDamage user.now command (T.staged stage.old) store.old.held (H.state host.old) page → ⊥) }
+    ensures idle { IfErr result (λ why. IsIdleOn (line_asked user.now line.now) why store.old store.new
+        (T.staged stage.old) (T.staged stage.new) (H.state host.old) (H.state host.new)) }
+    ensures undamaged { (w : World) → IsAtWorld w store.old.held (H.state host.old) → IfErr result IsNoDamage }
+    ensures usable { OnOk result (MayCall store.new (H.state host.new)) }
+    ensures by_journal { IsByJournal store.old.held (H.state host.old) → (IsErrOf result EndErr.Host → ⊥) → IsByJournal store.new.held (H.state host.new) }
+    ensures at { (w : World) → IsAtWorld w store.old.held (H.state host.old) → OnOk result (IsAtSome store.new.held (H.state host.new)) }
+    ensures comment { IfOk result (λ served. is_comment_of served ≡ is_comment_in (line_asked user.now line.now)) }
+    ensures replied { IfOk result (λ served. IsSaidBy (line_asked user.now line.now) served store.old.held
+        (T.staged stage.old) (T.staged stage.new) (H.state host.old) (H.state host.new)) }
+    ensures serves { (w : World) → (T.staged stage.old).tells ≡ true → IsAtWorld w store.old.held (H.state host.old)
+        → Serves 0 w (session_of (T.staged stage.old).files user.now) (session_of (T.staged stage.new).files user.now) line.now
+        (is_ok result) (is_refused result) store.old.held store.new.held (H.state host.old) (H.state host.new) }
+{
+    match asked(alloc, line, user) {
+        Ok(None) => Ok(Served::Comment),
+        Ok(Some(command)) => {
+            let reply = answer(alloc, store, host, stage, user, command)?;
+            say(alloc, host, reply)
+        }
+        Err(off) => {
+            let reply = Reply::Refused(refusal(off)?);
+            say(alloc, host, reply)
+        }
+    }
+}
+
+// Whether a line has no reply.
+fn is_comment(served: Served) -> bool
+    ensures { result ≡ is_comment_of served }
+{
+    served == Served::Comment
+}
+
+/// Serves a line: does what it asks, prints its one reply, and then takes up to so many migration steps, until no plan runs or
+/// there is no room for the next one. A comment has no reply, and no step comes behind it; behind a refusal steps come too.
 ///
-/// Migration steps after a command aren't taken yet, and no command begins a plan. So what the line does and says is promised
-/// where none is asked for, or where no plan runs. The user is the one that the line acts as.
+/// A step for which there is no room says nothing. Where a step meets damage, or the host or memory fails it, the line ends so,
+/// though its reply was printed; the steps before stay. The user is the one that the line acts as, and stays.
+///
+/// Reads are bounded where no step comes: where none is asked for, or no plan runs, since no command that is served begins one.
 pub fn serve<H: Host, T: Stage>(
     alloc: Global,
     store: &mut Store,
@@ -179,19 +244,19 @@ pub fn serve<H: Host, T: Stage>(
     requires user { IsTrue (is_name user.old) }
     ensures goes { Goes (H.state host.old) (H.state host.new) }
     ensures attended { Attended (T.staged stage.old) (T.staged stage.new) }
-    ensures still { IsReading (line_asked user.old line.now) → store.new.held ≡ store.old.held }
-    ensures fetched { IsFetchedBy user.old (line_asked user.old line.now) store.old.held store.new.held (IsErrOf result EndErr.Host)
-        (H.state host.old) (H.state host.new) }
-    ensures unread { is_off store.old.held.numbers user.old (line_asked user.old line.now) ≡ true
+    ensures still { TakesNoStep steps store.old.held.numbers → IsReading (line_asked user.old line.now) → store.new.held ≡ store.old.held }
+    ensures fetched { TakesNoStep steps store.old.held.numbers → IsFetchedBy user.old (line_asked user.old line.now)
+        store.old.held store.new.held (IsErrOf result EndErr.Host) (H.state host.old) (H.state host.new) }
+    ensures unread { TakesNoStep steps store.old.held.numbers → is_off store.old.held.numbers user.old (line_asked user.old line.now) ≡ true
         → (H.state host.new).fetched ≡ (H.state host.old).fetched }
     ensures cause { IsErrOf result EndErr.Host → Rose (H.state host.old).faults (H.state host.new).faults }
     ensures stage { IsErrOf result EndErr.Stage → Rose (T.staged stage.old).faults (T.staged stage.new).faults }
-    ensures damaged { IfErr result (IsDamageOf (λ page. (command : CommandValue) × (line_asked user.old line.now ≡ Asks command)
-        × IsDamaged user.old command (T.staged stage.old) store.old.held store.new.held (H.state host.new) page)) }
+    ensures damaged { IfErr result (IsDamageOf (IsMetBy steps user.old (line_asked user.old line.now) store.old store.new
+        (T.staged stage.old) (T.staged stage.new) (H.state host.old) (H.state host.new))) }
     ensures whole { (command : CommandValue) (page : ℕ) → line_asked user.old line.now ≡ Asks command → (H.state host.old).tells ≡ true
         → OnOk result (MeetsDamage user.old command (T.staged stage.old) store.old.held (H.state host.old) page → ⊥) }
-    ensures idle { IfErr result (λ why. IsIdleOn (line_asked user.old line.now) why store.old store.new
-        (T.staged stage.old) (T.staged stage.new) (H.state host.old) (H.state host.new)) }
+    ensures idle { IsErrOf result EndErr.Stage → IsIdleOn (line_asked user.old line.now) EndErr.Stage store.old store.new
+        (T.staged stage.old) (T.staged stage.new) (H.state host.old) (H.state host.new) }
     ensures undamaged { (w : World) → IsAtWorld w store.old.held (H.state host.old) → IfErr result IsNoDamage }
     ensures usable { OnOk result (MayCall store.new (H.state host.new)) }
     ensures by_journal { IsByJournal store.old.held (H.state host.old) → (IsErrOf result EndErr.Host → ⊥) → IsByJournal store.new.held (H.state host.new) }
@@ -199,23 +264,16 @@ pub fn serve<H: Host, T: Stage>(
     ensures user { user.new ≡ user.old }
     ensures named { IsTrue (is_name user.new) }
     ensures comment { IfOk result (λ served. is_comment_of served ≡ is_comment_in (line_asked user.old line.now)) }
-    ensures replied { IfOk result (λ served. IsReplied (line_asked user.old line.now) served store.old.held
+    ensures replied { IfOk result (λ served. IsReplied steps (line_asked user.old line.now) served store.old.held
         (T.staged stage.old) (T.staged stage.new) (H.state host.old) (H.state host.new)) }
-    ensures serves { (w : World) → TakesNone steps w → (T.staged stage.old).tells ≡ true → IsAtWorld w store.old.held (H.state host.old)
+    ensures serves { (w : World) → (T.staged stage.old).tells ≡ true → IsAtWorld w store.old.held (H.state host.old)
         → Serves steps w (session_of (T.staged stage.old).files user.old) (session_of (T.staged stage.new).files user.new) line.now
         (is_ok result) (is_refused result) store.old.held store.new.held (H.state host.old) (H.state host.new) }
 {
-    // No step is taken yet, and the user stays.
-    let _ = steps;
-    match asked(alloc, line, user) {
-        Ok(None) => Ok(Served::Comment),
-        Ok(Some(command)) => {
-            let reply = answer(alloc, store, host, stage, user, command)?;
-            say(alloc, host, reply)
-        }
-        Err(off) => {
-            let reply = Reply::Refused(refusal(off)?);
-            say(alloc, host, reply)
-        }
+    let served = serve_line(alloc, store, host, stage, line, user)?;
+    if is_comment(served) {
+        return Ok(served);
     }
+    take_steps(store, host, steps)?;
+    Ok(served)
 }

@@ -27,7 +27,6 @@ use Rattle.law_runs.proofs.Due.{begun_where}
 use Rattle.law_runs.proofs.Runs.{halts_run, so_far_all, so_far_ends, so_far_halts, so_far_more, so_far_start}
 use Rattle.law_runs.specs.Serving as course
 use Rattle.law_runs.proofs.Lines.{line_leaves, line_licensed}
-use Rattle.law_runs.specs.Idle.{TakesNone}
 use Rattle.law_runs.specs.Serving.{Halts, Runs, Serves, SoFar, session_of}
 use Rattle.law_runs.specs.Licence.{Licensed, LicensedLine, made_by}
 use Rattle.law_runs.specs.Stops.{IsDue, IsFound, printed_of}
@@ -53,9 +52,10 @@ use Rattle.ov_top.specs.declared.errors.RunErr.{RunErr}
 use Rattle.ov_top.specs.declared.errors.RunErr.TheVariants as running
 use Rattle.ov_top.specs.declared.status.Status.{Status}
 use Rattle.ov_top.specs.declared.status.Status.TheVariants.{Memory}
-use Rattle.ov_top.specs.Ending.{AreWords, Cause, Ends, HasOpened, IsEntry, IsTold, IsUndamaged, Keeps, Played, PlayedTaken, Plays, Stops, course_of, course_taken, lines_taken, session_at}
+use Rattle.ov_top.specs.Ending.{AreWords, Cause, Ends, HasOpened, IsEntry, IsTold, IsUndamaged, Keeps, Played, PlayedTaken, Plays, Stops, StepsBy, course_of, course_taken, lines_taken, session_at}
 use Rattle.ov_top.specs.Errors.{by_reading, by_serving}
-use Rattle.ov_top.specs.Running.{AllServed, IsHalted, IsReadWhole, IsRunDamage, IsUnharmed, Spent, status_by, status_by_opening}
+use Rattle.ov_args.specs.Words.{options_of}
+use Rattle.ov_top.specs.Running.{AllServed, IsHalted, IsReadWhole, IsRunDamage, IsUnharmed, MeetsDamage, ReadsDamage, Spent, status_by, status_by_opening}
 use Rattle.ov_script.specs.Reader.{GivesLine, IsCutOff, IsNext, Taken, Took, ended_lines, has_feed, taken_of}
 use Rattle.ov_script.proofs.Readers.{ended_at, next_lines, no_ended, taken_is}
 use Rattle.ov_host.specs.Source.{Script}
@@ -183,12 +183,12 @@ pub record Gone (steps : ℕ) (w : World) (s t : Session) (all left : List ℕ) 
   pub bytes : ended ≡ false → (front : List ℕ) × (all ≡ front ++ left) × ((text : List ℕ) → ended_lines (front ++ text) ≡ gone ++ ended_lines text)
   pub so : SoFar steps w s t gone failed before now old new
 
-pub gone_start : (steps : ℕ) (w : World) (s : Session) (all : List ℕ) (held : Held) (st : State) → TakesNone steps w → IsAtWorld w held st → Gone steps w s s all all false false held held st st
-gone_start steps w s all held st waits at = record {
+pub gone_start : (steps : ℕ) (w : World) (s : Session) (all : List ℕ) (held : Held) (st : State) → IsAtWorld w held st → Gone steps w s s all all false false held held st st
+gone_start steps w s all held st at = record {
   gone = [];
   whole = refl;
   bytes = λ open_. ([], refl, λ text. refl);
-  so = so_far_start steps w s held st waits at;
+  so = so_far_start steps w s held st at;
 }
 
 -- the bytes of a line more
@@ -257,8 +257,8 @@ gone_runs steps w s t all left ended failed before now old new so =
 -- ---- the lines of a run, at its ends
 
 -- it ends where it begins
-pub runs_start : (steps : ℕ) (w : World) (s : Session) (all : List ℕ) (held : Held) (st : State) → TakesNone steps w → IsAtWorld w held st → Runs steps w s (lines_of all) held st st
-runs_start steps w s all held st waits at = gone_runs steps w s s all all false false held held st st (gone_start steps w s all held st waits at)
+pub runs_start : (steps : ℕ) (w : World) (s : Session) (all : List ℕ) (held : Held) (st : State) → IsAtWorld w held st → Runs steps w s (lines_of all) held st st
+runs_start steps w s all held st at = gone_runs steps w s s all all false false held held st st (gone_start steps w s all held st at)
 
 -- it ends in reading the next line
 pub ends_reading : (steps : ℕ) (w : World) (s t : Session) (e : ReadErr) (reader : Taken) (left : List ℕ) (failed : Bool) (before now : Held) (old new : State) (script later : Script) (still : Type 0)
@@ -398,10 +398,21 @@ cause_unopened status off words old new is are rose refuses same still = subst (
 pub rose_in_all : (old mid new : ℕ) → old ≤ mid → Rose mid new → Rose old new
 rose_in_all old mid new so_far rose = omega (arith, so_far, rose)
 
-module _ (words : List (List ℕ)) (old mid new : Ends) (are : AreWords words) (opens : HasOpened old) (so_far : old.host.faults ≤ mid.host.faults) where
+-- there are words
+pub are_words : (words : List (List ℕ)) (o : List ℕ × ℕ) → options_of words ≡ Some o → AreWords words
+are_words words o is none = cc
+
+module _ (words : List (List ℕ)) (o : List ℕ × ℕ) (asked : options_of words ≡ Some o) (old mid new : Ends) (opens : HasOpened old) (so_far : old.host.faults ≤ mid.host.faults) where
+  are : AreWords words
+  are = are_words words o asked
+
+  met_by : (page : ℕ) → MeetsDamage o.1 old.script new.stage new.host page → ReadsDamage old.script new.stage new.host page ⊎ StepsBy words old new page
+  met_by page (inl line) = inl line
+  met_by page (inr step) = inr (o, asked, step)
+
   cause_ran : (ran : Result Bool RunErr) → (IsErrOf ran running.Host → Rose mid.host.faults new.host.faults)
       → (IsErrOf ran running.Input → Rose old.script.faults new.script.faults ⊎ Rose old.stage.faults new.stage.faults)
-      → IfErr ran (IsRunDamage old.script new.stage new.host)
+      → IfErr ran (IsRunDamage o.1 old.script new.stage new.host)
       → (IsErrOf ran running.TooLong → old.script.tells ≡ true → length old.script.left ≡ length new.script.left + 2 ^ 32)
       → (old.script.tells ≡ true → IsOk ran → IsReadWhole old.script new.script)
       → Cause (status_by ran) words old new
@@ -412,12 +423,12 @@ module _ (words : List (List ℕ)) (old mid new : Ends) (are : AreWords words) (
   cause_ran (Err running.Input) host input damaged long whole = (are, opens, input refl)
   cause_ran (Err running.Memory) host input damaged long whole = λ none. absurd (are none)
   cause_ran (Err (running.Damaged area at)) host input damaged long whole =
-      (are, inr (opens, damaged.0, damaged.1))
+      (are, inr (opens, damaged.0, met_by at damaged.1))
   cause_ran (Err running.TooLong) host input damaged long whole = (are, opens, long refl)
 
   pub cause_opened : (status : Status) (ran : Result Bool RunErr) → status ≡ status_by ran → (IsErrOf ran running.Host → Rose mid.host.faults new.host.faults)
       → (IsErrOf ran running.Input → Rose old.script.faults new.script.faults ⊎ Rose old.stage.faults new.stage.faults)
-      → IfErr ran (IsRunDamage old.script new.stage new.host)
+      → IfErr ran (IsRunDamage o.1 old.script new.stage new.host)
       → (IsErrOf ran running.TooLong → old.script.tells ≡ true → length old.script.left ≡ length new.script.left + 2 ^ 32)
       → (old.script.tells ≡ true → IsOk ran → IsReadWhole old.script new.script)
       → Cause status words old new

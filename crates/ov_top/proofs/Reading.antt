@@ -1,10 +1,11 @@
 -- What a run reads of the pages, and the damage that it meets.
-use Rattle.std.proofs.Common.{◌≡◌, ◌≤◌, ◌+◌, inl, inr, ℕ, Bool, true, List, [], ◌∷◌, ◌++◌, length, take, refl, sym, ◌∙◌, ap, subst, append_assoc, arith}
+use Rattle.std.proofs.Common.{◌≡◌, ◌≤◌, ◌+◌, inl, inr, ℕ, Bool, true, false, List, [], ◌∷◌, ◌++◌, length, take, refl, sym, ◌∙◌, ap, subst, append_assoc, arith}
 use Rattle.std.specs.Prelude.{Err, None, Ok, Option, Result, Some, codes}
 use Rattle.std.specs.FinMap.{get}
 use Rattle.std.proofs.lemmas.List.{length-take, take_all}
 use Rattle.std.proofs.lemmas.Bool.{cases_lt}
 use Rattle.ov_host.specs.declared.area.Area.{Area}
+use Rattle.ov_host.specs.declared.area.Area.TheVariants.{Pages}
 use Rattle.ov_host.specs.Host.{State}
 use Rattle.ov_host.specs.Source.{Script}
 use Rattle.ov_host.specs.Stage.{Files as Map, Staged}
@@ -13,27 +14,33 @@ use Rattle.ov_value.specs.Shapes.{Shape}
 use Rattle.ov_core.specs.Held.{Held, IsByJournal}
 use Rattle.ov_model.specs.Book.{Row}
 use Rattle.ov_model.specs.BuiltShapes.{served_forms}
-use Rattle.ov_model.specs.Line.{Line, Asks, Refused, line_of}
+use Rattle.ov_model.specs.Line.{Line, Asks, Comment, Refused, line_of}
 use Rattle.ov_model.specs.Users.{line_by}
 use Rattle.ov_model.specs.Words.{lines_of}
 use Rattle.ov_model.specs.declared.command.Command.{Command}
 use Rattle.ov_model.specs.declared.command.Command.TheVariants as asks
 use Rattle.ov_model.specs.declared.refusal.Refusal.TheVariants.{LongLine}
+use Rattle.ov_model.specs.declared.reply.Reply.{Reply}
 use Rattle.ov_store.specs.Committing.{IfSet, Set}
 use Rattle.ov_store.specs.Kept.{Kept}
 use Rattle.ov_session.specs.Asking.{line_asked}
 use Rattle.ov_session.specs.Bounds.{IsFetchedBy, IsReading, may_fetch}
 use Rattle.ov_session.proofs.Bounds.{reading_fetched}
-use Rattle.ov_session.specs.Commands.{AreRowsOf, IsDamageOf, IsDamaged, IsNoDamage}
+use Rattle.ov_session.specs.Commands.{AreRowsOf, IsDamageOf, IsDamaged, IsNoDamage, is_comment_in, is_comment_of}
+use Rattle.ov_session.specs.Damages.{IsCommandMet, IsMetBy, IsStepMet}
+use Rattle.ov_session.specs.Replying.{IsReplied, IsReplyTo}
 use Rattle.ov_session.specs.Standing.{IsIdle, IsIdleBy, IsIdleOn}
+use Rattle.ov_session.specs.Stepping.{TakesNoStep}
 use Rattle.ov_session.specs.declared.errors.EndErr.{EndErr}
 use Rattle.ov_session.specs.declared.errors.EndErr.TheVariants as ending
+use Rattle.ov_session.specs.declared.serving.Served.{Served}
+use Rattle.ov_session.specs.declared.serving.Served.TheVariants as served
 use Rattle.ov_script.specs.Reader.{IsNext}
 use Rattle.ov_script.specs.declared.reader.ReadErr.{ReadErr}
 use Rattle.ov_script.specs.declared.reader.ReadErr.TheVariants as reading
 use Rattle.ov_script.proofs.Readers.{next_lines}
 use Rattle.ov_top.specs.Errors.{by_reading, by_serving}
-use Rattle.ov_top.specs.Running.{AreReading, IsLineOf, IsRunDamage, IsUnharmed, line_of_run, reads, user_of_run}
+use Rattle.ov_top.specs.Running.{AreReading, HasReply, IsLineOf, IsRunDamage, IsUnharmed, MeetsDamage, ReadsDamage, StepsOnDamage, line_of_run, reads, user_of_run}
 use Rattle.ov_top.proofs.Lined.{kept_line, long_line}
 
 -- ---- lines, as they were kept
@@ -76,6 +83,10 @@ pub record Fetches (before now : Held) (all left : List (List ℕ)) (old new : S
 
 pub fetches_start : (held : Held) (lines : List (List ℕ)) (s : State) → AreReading lines → Fetches held held lines lines s s
 fetches_start held lines s are = record { same = refl; reading = are; bound = omega arith }
+
+-- no step comes then either
+pub none_still : (steps : ℕ) (before now : Held) → now ≡ before → TakesNoStep steps before.numbers → TakesNoStep steps now.numbers
+none_still steps before now same none = subst (λ (h : Held). TakesNoStep steps h.numbers) (sym same) none
 
 pub fetches_all : (before now : Held) (all left : List (List ℕ)) (old new : State) → Fetches before now all left old new
     → new.fetched ≤ old.fetched + reads before.numbers all
@@ -157,28 +168,58 @@ module _ (before now : Kept) (stage staged : Staged) (old new : State) (told : s
   now_damaged user (asks.Generate cvd seed rows versions) idle is = is
   now_damaged user command idle is = still_damaged user command idle is
 
+-- what has a reply is no comment
+reply_some : (l : Line) (reply : Reply) → IsReplyTo l reply → is_comment_in l ≡ false
+reply_some Comment reply is = absurd is
+reply_some (Asks command) reply is = refl
+reply_some (Refused refusal) reply is = refl
+
+replied_some : (steps : ℕ) (l : Line) (what : Served) (held : Held) (stage staged : Staged) (old new : State) → is_comment_of what ≡ false
+    → IsReplied steps l what held stage staged old new → is_comment_in l ≡ false
+replied_some steps l served.Comment held stage staged old new some is = cc
+replied_some steps l served.Done held stage staged old new some is = reply_some l is.0 is.3.to_line
+replied_some steps l served.Refused held stage staged old new some is = reply_some l is.0 is.3.to_line
+
 module _ (user x : List ℕ) (first : user ≡ codes "admin") (before now : Kept) (script : Script) (stage staged : Staged) (old new : State) (told : staged.tells ≡ stage.tells)
-    (among : (command : Command) → line_asked user x ≡ Asks command → script.tells ≡ true → IsLineOf script.left x) where
-  pub run_damage : (e : EndErr) → ((e ≡ ending.Host → ⊥) → new.tells ≡ true → IsByJournal now.held new)
-      → IsDamageOf (λ page. (command : Command) × (line_asked user x ≡ Asks command) × IsDamaged user command stage before.held now.held new page) e
-      → IsIdleOn (line_asked user x) e before now stage staged old new → IsRunDamage script staged new (by_serving e)
-  run_damage ending.Host by is idle = tt
-  run_damage ending.Stage by is idle = tt
-  run_damage ending.Memory by is idle = tt
-  run_damage (ending.Damaged area at) by is idle = (
-    is.0,
-    record {
-      line = x;
-      among = among is.1.0 is.1.1;
-      command = is.1.0;
-      asks = ap (λ (u : List ℕ). line_asked u x) (sym first) ∙ is.1.1;
-      held = now.held;
-      numbers = by (λ e. cc);
-      damaged = subst (λ (u : List ℕ). IsDamaged u is.1.0 staged now.held now.held new at) first
-          (now_damaged before now stage staged old new told area at user is.1.0
-          (subst (λ (l : Line). IsIdleOn l (ending.Damaged area at) before now stage staged old new) is.1.1 idle) is.1.2);
-    },
-  )
+    (among : (command : Command) → line_asked user x ≡ Asks command → script.tells ≡ true → IsLineOf script.left x)
+    (behind : is_comment_in (line_asked user x) ≡ false → script.tells ≡ true → HasReply script.left) where
+  -- the command's damage
+  command_damage : (page : ℕ) → (new.tells ≡ true → IsByJournal now.held new) → IsCommandMet user (line_asked user x) before now stage staged old new page
+      → ReadsDamage script staged new page
+  command_damage page by is =
+      let met = is.damaged
+      in record {
+        line = x;
+        among = among met.0 met.1;
+        command = met.0;
+        asks = ap (λ (u : List ℕ). line_asked u x) (sym first) ∙ met.1;
+        held = now.held;
+        numbers = by;
+        damaged = subst (λ (u : List ℕ). IsDamaged u met.0 staged now.held now.held new page) first
+            (now_damaged before now stage staged old new told Pages page user met.0
+            (subst (λ (l : Line). IsIdleOn l (ending.Damaged Pages page) before now stage staged old new) met.1 is.idle) met.2);
+      }
+
+  -- a step's
+  step_damage : (steps page : ℕ) → (new.tells ≡ true → IsByJournal now.held new) → IsStepMet steps (line_asked user x) before now stage staged old new page
+      → StepsOnDamage steps script new page
+  step_damage steps page by is = record {
+    behind = behind (replied_some steps (line_asked user x) is.served before.held stage staged old new is.some is.replied);
+    held = now.held;
+    numbers = by;
+    damaged = is.damaged;
+  }
+
+  pub run_damage : (steps : ℕ) (e : EndErr) → ((e ≡ ending.Host → ⊥) → new.tells ≡ true → IsByJournal now.held new)
+      → IsDamageOf (IsMetBy steps user (line_asked user x) before now stage staged old new) e → IsRunDamage steps script staged new (by_serving e)
+  run_damage steps ending.Host by is = tt
+  run_damage steps ending.Stage by is = tt
+  run_damage steps ending.Memory by is = tt
+  run_damage steps (ending.Damaged area at) by is = (is.0, met is.1)
+    where
+      met : IsMetBy steps user (line_asked user x) before now stage staged old new at → MeetsDamage steps script staged new at
+      met (inl command) = inl (command_damage at (by (λ e. cc)) command)
+      met (inr step) = inr (step_damage steps at (by (λ e. cc)) step)
 
 pub err_end : {A : Type 0} → (e f : EndErr) → (let one : Result A EndErr = Err e in one) ≡ Err f → e ≡ f
 err_end e f is = cc
@@ -190,10 +231,16 @@ pub asked_among : (ended : Bool) (user x kept line all left later : List ℕ) �
 asked_among ended user x kept line all left later first value keeps lined next command is =
     subst (IsLineOf all) (sym (asked_whole x line command (value ∙ keeps) (ap (λ (u : List ℕ). line_asked u x) (sym first) ∙ is))) (line_among ended all line left later lined next)
 
-pub reading_harmless : (e : ReadErr) (script : Script) (stage : Staged) (s : State) → IsRunDamage script stage s (by_reading e)
-reading_harmless reading.Input script stage s = tt
-reading_harmless reading.Memory script stage s = tt
-reading_harmless reading.TooLong script stage s = tt
+-- a line that has a reply
+pub reply_among : (ended : Bool) (user x kept line all left later : List ℕ) → user ≡ codes "admin" → x ≡ kept → kept ≡ take 65537 line
+    → (gone : List (List ℕ)) × (lines_of all ≡ gone ++ lines_of left) → IsNext ended line left later → is_comment_in (line_asked user x) ≡ false → HasReply all
+reply_among ended user x kept line all left later first value keeps lined next some =
+    (line, line_among ended all line left later lined next, ap is_comment_in (sym (line_kept user x kept line first value keeps)) ∙ some)
+
+pub reading_harmless : (steps : ℕ) (e : ReadErr) (script : Script) (stage : Staged) (s : State) → IsRunDamage steps script stage s (by_reading e)
+reading_harmless steps reading.Input script stage s = tt
+reading_harmless steps reading.Memory script stage s = tt
+reading_harmless steps reading.TooLong script stage s = tt
 
 pub unharmed_reading : (e : ReadErr) → IsUnharmed (by_reading e)
 unharmed_reading reading.Input = tt

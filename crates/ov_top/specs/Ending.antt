@@ -4,7 +4,7 @@
 --     Keeps old new      what every run keeps to, however it ends
 --     IsTold w old      the ends tell their bytes, nothing is pending, and the store's bytes stand for the World
 --     Plays status steps w old new      what was said and done, and what a stop left
-use Rattle.std.specs.Prelude.{◌≡◌, ◌≢◌, ◌≤◌, ◌<◌, ◌⊎◌, ◌+◌, ◌^◌, ◌++◌, ℕ, Bool, true, false, List, [], length, None, codes}
+use Rattle.std.specs.Prelude.{◌≡◌, ◌≢◌, ◌≤◌, ◌<◌, ◌⊎◌, ◌+◌, ◌^◌, ◌++◌, ℕ, Bool, true, false, List, [], length, None, Some, codes}
 use Rattle.ov_host.specs.declared.area.Area.TheVariants.{Pages}
 use Rattle.ov_host.specs.Disk.{AllSettled, Image, as_read}
 use Rattle.ov_host.specs.Host.{State, Rose}
@@ -32,7 +32,7 @@ use Rattle.ov_session.specs.Commands.{Attended, Goes}
 use Rattle.ov_args.specs.Words.{options_of}
 use Rattle.ov_script.specs.Reader.{ended_lines, taken_of}
 use Rattle.ov_top.specs.Bytes.{Opens}
-use Rattle.ov_top.specs.Running.{IsReadWhole, ReadsDamage, Spent}
+use Rattle.ov_top.specs.Running.{IsReadWhole, ReadsDamage, Spent, StepsOnDamage}
 use Rattle.ov_top.specs.declared.status.Status.{Status}
 use Rattle.ov_top.specs.declared.status.Status.TheVariants.{Done, Refused, Usage, HostFault, InputFault, Memory, NotAStore, Damaged, Format, ScriptTooLong}
 
@@ -57,6 +57,10 @@ pub record IsUnopened (why : OpenErr) (old new : Ends) : Type 0 where
 abbrev pub HasOpened : Ends → Type 0
 HasOpened old = old.host.tells ≡ true → Opens old.host.tape.disk
 
+-- a step met damage, of those that the words ask for
+abbrev pub StepsBy : List (List ℕ) → Ends → Ends → ℕ → Type 0
+StepsBy words old new page = (o : List ℕ × ℕ) × (options_of words ≡ Some o) × StepsOnDamage o.1 old.script new.host page
+
 -- The areas' bytes are a cause only where the host tells them, the script's where the source does. Bytes that open are refused for
 -- nothing, so `NotAStore`, `Format` and opening's `Damaged` come exactly by the bytes, but for a fault and want of memory. A
 -- script that was read to its end has fewer than 2^32 bytes, so a longer one never ends as `Done` or `Refused`, nor a shorter one
@@ -69,7 +73,7 @@ Cause HostFault words old new = AreWords words × Rose old.host.faults new.host.
 Cause InputFault words old new = AreWords words × HasOpened old × (Rose old.script.faults new.script.faults ⊎ Rose old.stage.faults new.stage.faults)
 Cause Memory words old new = options_of words ≡ None → new ≡ old
 Cause NotAStore words old new = AreWords words × IsUnopened opening.NotAStore old new
-Cause (Damaged area at) words old new = AreWords words × (IsUnopened (opening.Damaged area at) old new ⊎ (HasOpened old × (area ≡ Pages) × ReadsDamage old.script new.stage new.host at))
+Cause (Damaged area at) words old new = AreWords words × (IsUnopened (opening.Damaged area at) old new ⊎ (HasOpened old × (area ≡ Pages) × (ReadsDamage old.script new.stage new.host at ⊎ StepsBy words old new at)))
 Cause (Format found) words old new = AreWords words × IsUnopened (opening.Format found) old new
 Cause ScriptTooLong words old new = AreWords words × HasOpened old × (old.script.tells ≡ true → length old.script.left ≡ length new.script.left + 2 ^ 32)
 

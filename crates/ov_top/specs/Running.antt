@@ -2,9 +2,10 @@
 --     Spent old new, IsReadWhole old new      what was taken of a script
 --     AllServed steps w s t lines taken still result ..      where the store is at a World
 --     ReadsDamage script stage s page      a line of the script asked for what is damaged at this page
+--     StepsOnDamage steps script s page      a step behind a line of the script met what is
 --     reads n lines      how many bytes of pages these lines may fetch
 --     status_by ran, status_by_opening off      the status
-use Rattle.std.specs.Prelude.{◌≡◌, ◌≤◌, ◌<◌, ◌+◌, ◌^◌, ℕ, Bool, true, false, List, [], ◌∷◌, ◌++◌, length, Result, Ok, Err, codes}
+use Rattle.std.specs.Prelude.{◌≡◌, ◌⊎◌, ◌≤◌, ◌<◌, ◌+◌, ◌^◌, ℕ, Bool, true, false, List, [], ◌∷◌, ◌++◌, length, Result, Ok, Err, codes}
 use Rattle.ov_host.specs.declared.area.Area.TheVariants.{Pages}
 use Rattle.ov_host.specs.declared.area.Extent.{Extent}
 use Rattle.ov_host.specs.Host.{State}
@@ -22,7 +23,8 @@ use Rattle.ov_open.specs.declared.errors.OpenErr.{OpenErr}
 use Rattle.ov_open.specs.declared.errors.OpenErr.TheVariants as opening
 use Rattle.ov_session.specs.Asking.{line_asked}
 use Rattle.ov_session.specs.Bounds.{IsReading, may_fetch}
-use Rattle.ov_session.specs.Commands.{IsDamaged}
+use Rattle.ov_session.specs.Commands.{IsDamaged, is_comment_in}
+use Rattle.ov_session.specs.Stepping.{IsStepDamaged}
 use Rattle.ov_top.specs.declared.errors.RunErr.{RunErr}
 use Rattle.ov_top.specs.declared.errors.RunErr.TheVariants as running
 use Rattle.ov_top.specs.declared.status.Status.{Status}
@@ -78,9 +80,23 @@ pub record ReadsDamage (script : Script) (stage : Staged) (s : State) (page : �
   pub numbers : s.tells ≡ true → IsByJournal held s
   pub damaged : IsDamaged user_of_run command stage held held s page
 
-abbrev pub IsRunDamage : Script → Staged → State → RunErr → Type 0
-IsRunDamage script stage s (running.Damaged area at) = (area ≡ Pages) × ReadsDamage script stage s at
-IsRunDamage script stage s _ = Unit {0}
+-- a line of a text has a reply
+abbrev pub HasReply : List ℕ → Type 0
+HasReply text = (line : List ℕ) × IsLineOf text line × (is_comment_in (line_of_run line) ≡ false)
+
+-- a step that was asked for, behind a line that has a reply, met what is damaged at this page, by the same numbers
+pub record StepsOnDamage (steps : ℕ) (script : Script) (s : State) (page : ℕ) : Type 0 where
+  pub behind : script.tells ≡ true → HasReply script.left
+  pub held : Held
+  pub numbers : s.tells ≡ true → IsByJournal held s
+  pub damaged : IsStepDamaged steps held s page
+
+abbrev pub MeetsDamage : ℕ → Script → Staged → State → ℕ → Type 0
+MeetsDamage steps script stage s page = ReadsDamage script stage s page ⊎ StepsOnDamage steps script s page
+
+abbrev pub IsRunDamage : ℕ → Script → Staged → State → RunErr → Type 0
+IsRunDamage steps script stage s (running.Damaged area at) = (area ≡ Pages) × MeetsDamage steps script stage s at
+IsRunDamage steps script stage s _ = Unit {0}
 
 abbrev pub IsUnharmed : RunErr → Type 0
 IsUnharmed (running.Damaged area at) = ⊥

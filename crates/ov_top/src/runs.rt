@@ -11,10 +11,10 @@ ghost use Rattle.ov_catalog.specs.Numbers.{Numbers};
 ghost use Rattle.law_image.specs.Images.{StandsAs};
 ghost use Rattle.ov_core.specs.AtWorld.{IsAtWorld};
 ghost use Rattle.ov_core.specs.Held.{IsByJournal};
-ghost use Rattle.law_runs.specs.Idle.{TakesNone};
 ghost use Rattle.law_runs.specs.Serving.{session_of};
 ghost use Rattle.ov_open.specs.Opening.{IsWorld};
 ghost use Rattle.ov_session.specs.Commands.{Attended, Goes, is_refusal_of};
+ghost use Rattle.ov_session.specs.Stepping.{TakesNoStep};
 ghost use Rattle.ov_store.specs.Kept.{MayCall};
 ghost use Rattle.ov_args.specs.Words.{options_of};
 ghost use Rattle.ov_script.specs.Reader.{ended_lines, taken_of};
@@ -68,14 +68,14 @@ fn serve_all<H: Host, S: Source, T: Stage>(
         → Rose (S.script source.old).faults (S.script source.new).faults
         ⊎ Rose (T.staged stage.old).faults (T.staged stage.new).faults }
     ensures damaged { ((H.state host.old).tells ≡ true → IsByJournal store.held (H.state host.old))
-        → IfErr result (IsRunDamage (S.script source.old) (T.staged stage.new) (H.state host.new)) }
+        → IfErr result (IsRunDamage steps (S.script source.old) (T.staged stage.new) (H.state host.new)) }
     ensures undamaged { (w : World) → IsAtWorld w store.held (H.state host.old) → IfErr result IsUnharmed }
-    ensures fetched { (S.script source.old).tells ≡ true → AreReading (lines_of (S.script source.old).left)
+    ensures fetched { TakesNoStep steps store.held.numbers → (S.script source.old).tells ≡ true → AreReading (lines_of (S.script source.old).left)
         → (H.state host.new).fetched ≤ (H.state host.old).fetched + reads store.held.numbers (lines_of (S.script source.old).left) }
     ensures too_long { IsErrOf result RunErr.TooLong → (S.script source.old).tells ≡ true
         → length (S.script source.old).left ≡ length (S.script source.new).left + 2 ^ 32 }
     ensures ended { (S.script source.old).tells ≡ true → IsOk result → IsReadWhole (S.script source.old) (S.script source.new) }
-    ensures served { (w : World) → TakesNone steps w → (S.script source.old).tells ≡ true → (T.staged stage.old).tells ≡ true
+    ensures served { (w : World) → (S.script source.old).tells ≡ true → (T.staged stage.old).tells ≡ true
         → IsAtWorld w store.held (H.state host.old) → AllServed steps w (session_of (T.staged stage.old).files (codes "admin"))
         (session_of (T.staged stage.new).files (codes "admin")) (lines_of (S.script source.old).left)
         (ended_lines (taken_of (S.script source.old) (S.script source.new))) (Rose (T.staged stage.old).faults (T.staged stage.new).faults → ⊥)
@@ -138,7 +138,7 @@ fn run_script<H: Host, S: Source, T: Stage>(
     steps: u32,
 ) -> Status
     requires steps { steps ≤ 1000 }
-    ensures cause { (words : List (List ℕ)) → AreWords words → Cause result words
+    ensures cause { (words : List (List ℕ)) (o : List ℕ × ℕ) → options_of words ≡ Some o → o.1 ≡ steps → Cause result words
         (record { host = H.state host.old; script = S.script source.old; stage = T.staged stage.old })
         (record { host = H.state host.new; script = S.script source.new; stage = T.staged stage.new }) }
     ensures keeps { Keeps
@@ -148,9 +148,9 @@ fn run_script<H: Host, S: Source, T: Stage>(
         → Only (H.state host.old).tape (H.state host.new).tape (IsLeftByOpen (H.state host.old).tape.disk) }
     ensures undamaged { (w : World) → (H.state host.old).tells ≡ true → StandsAs w (as_read (H.state host.old).tape.disk) → IsUndamaged result }
     ensures fetched { (numbers : Numbers Extent Extent) → (H.state host.old).tells ≡ true → OpensAs numbers (H.state host.old).tape.disk
-        → (S.script source.old).tells ≡ true → AreReading (lines_of (S.script source.old).left)
+        → TakesNoStep steps numbers → (S.script source.old).tells ≡ true → AreReading (lines_of (S.script source.old).left)
         → (H.state host.new).fetched ≤ (H.state host.old).fetched + reads numbers (lines_of (S.script source.old).left) }
-    ensures plays { (w : World) → TakesNone steps w → IsTold w (record { host = H.state host.old; script = S.script source.old; stage = T.staged stage.old })
+    ensures plays { (w : World) → IsTold w (record { host = H.state host.old; script = S.script source.old; stage = T.staged stage.old })
         → Plays result steps w
         (record { host = H.state host.old; script = S.script source.old; stage = T.staged stage.old })
         (record { host = H.state host.new; script = S.script source.new; stage = T.staged stage.new }) }
@@ -167,8 +167,9 @@ fn run_script<H: Host, S: Source, T: Stage>(
 /// Each line that is no comment is one command, and has one reply, which is printed once what the command does is on the disk.
 /// `Usage` exactly where the words are off the form; then, and at want of memory for reading them, no end is called.
 ///
-/// Migration steps aren't taken yet, and no command begins a plan. So what a run prints, and what a stop in it leaves, is promised
-/// where it is to take none, or where no plan runs when it begins.
+/// The steps come behind the reply, until no plan runs or there is no room for the next one, and print nothing; a comment has none
+/// behind it. No command begins a plan yet, so there are steps only where one runs when the run begins. Damage that a step meets
+/// ends the run as that of a command does. The bytes that a run of reading lines fetches are bounded where no step comes.
 pub fn run<H: Host, S: Source, T: Stage>(
     alloc: Global,
     words: &[Txt],
@@ -185,10 +186,10 @@ pub fn run<H: Host, S: Source, T: Stage>(
     ensures spares { (H.state host.old).tells ≡ true → (Opens (H.state host.old).tape.disk → ⊥)
         → Only (H.state host.old).tape (H.state host.new).tape (IsLeftByOpen (H.state host.old).tape.disk) }
     ensures undamaged { (w : World) → (H.state host.old).tells ≡ true → StandsAs w (as_read (H.state host.old).tape.disk) → IsUndamaged result }
-    ensures fetched { (numbers : Numbers Extent Extent) → (H.state host.old).tells ≡ true → OpensAs numbers (H.state host.old).tape.disk
-        → (S.script source.old).tells ≡ true → AreReading (lines_of (S.script source.old).left)
+    ensures fetched { (numbers : Numbers Extent Extent) (o : List ℕ × ℕ) → (H.state host.old).tells ≡ true → OpensAs numbers (H.state host.old).tape.disk
+        → options_of words.now ≡ Some o → TakesNoStep o.1 numbers → (S.script source.old).tells ≡ true → AreReading (lines_of (S.script source.old).left)
         → (H.state host.new).fetched ≤ (H.state host.old).fetched + reads numbers (lines_of (S.script source.old).left) }
-    ensures plays { (w : World) (o : List ℕ × ℕ) → options_of words.now ≡ Some o → TakesNone o.1 w
+    ensures plays { (w : World) (o : List ℕ × ℕ) → options_of words.now ≡ Some o
         → IsTold w (record { host = H.state host.old; script = S.script source.old; stage = T.staged stage.old })
         → Plays result o.1 w
         (record { host = H.state host.old; script = S.script source.old; stage = T.staged stage.old })

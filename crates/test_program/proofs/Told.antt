@@ -4,7 +4,7 @@
 --     ends_are      the ends that were made
 --     is_told      fresh ends are told
 --     plays_fresh      so what a run over them said and did is what the clause says
-use Rattle.std.specs.Prelude.{◌≡◌, ◌⊎◌, ℕ, List, [], ◌∷◌, ◌++◌, String, Vec, None, Some, codes}
+use Rattle.std.specs.Prelude.{◌≡◌, ℕ, List, [], ◌∷◌, ◌++◌, String, Vec, Some, codes}
 use Rattle.std.proofs.Common.{◌∙◌, ap, arith, inl, refl, subst, sym}
 use Rattle.std.specs.declared.alloc.Global.{Global}
 use Rattle.ov_host.specs.Host.{State}
@@ -12,7 +12,6 @@ use Rattle.ov_host.specs.Source.{Script}
 use Rattle.ov_host.specs.Stage.{Staged}
 use Rattle.law_image.proofs.Standing.{unmade_stands}
 use Rattle.ov_memhost.specs.Host.{new_state}
-use Rattle.ov_model.specs.Steps.{next_step}
 use Rattle.ov_model.specs.World.{World, empty_world}
 use Rattle.ov_args.specs.Words.{options_of}
 use Rattle.ov_top.specs.Ending.{Ends, IsTold, Plays}
@@ -47,9 +46,9 @@ is_told script files =
 
 pub plays_fresh : (script : List ℕ) (files : List (String Global × Vec ℕ Global)) (status : Status) (words : List (List ℕ)) (old new : Ends)
     → words ≡ codes "s" ∷ [] → old ≡ fresh_ends script files
-    → ((w : World) (o : List ℕ × ℕ) → options_of words ≡ Some o → (o.1 ≡ 0) ⊎ (next_step w ≡ None) → IsTold w old → Plays status o.1 w old new)
+    → ((w : World) (o : List ℕ × ℕ) → options_of words ≡ Some o → IsTold w old → Plays status o.1 w old new)
     → Plays status 0 empty_world (fresh_ends script files) new
 plays_fresh script files status words old new words_are is plays =
     subst (λ (e : Ends). Plays status 0 empty_world e new) is
-    (plays empty_world (codes "s", 0) (ap (λ (x : List (List ℕ)). options_of x) words_are) (inl refl)
+    (plays empty_world (codes "s", 0) (ap (λ (x : List (List ℕ)). options_of x) words_are)
     (subst (λ (e : Ends). IsTold empty_world e) (sym is) (is_told script files)))

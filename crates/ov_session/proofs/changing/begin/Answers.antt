@@ -4,6 +4,8 @@ use Rattle.ov_session.proofs.Replying.{result_seen}
 use Rattle.ov_session.proofs.Standing.{at_next, at_refused}
 use Rattle.ov_store.specs.Beginning.{first_move}
 use Rattle.ov_session.proofs.Numbering.{journal_off}
+use Rattle.ov_store.specs.Beginning.{first_of}
+use Rattle.ov_session.proofs.Idling.{done_none, refused_none}
 use Rattle.ov_session.proofs.changing.begin.Goals as goal
 
 pub returns-in-Ok-clause-acts : goal.returns-in-Ok-clause-acts
@@ -41,3 +43,12 @@ pub returns-in-Err-clause-by_journal : goal.returns-in-Err-clause-by_journal
 returns-in-Err-clause-by_journal g c = λ by fine.
     journal_off c.args.store.now c.init.new.self (g.H.Host.state c.args.host.now) (g.H.Host.state c.init.new.host) by c.args.cvd c.in-Err.off c.refused.result
     c.refused.ensures.reply c.refused.ensures.end c.in-Err.ensures.stays fine
+
+pub returns-in-Ok-clause-begins_none : goal.returns-in-Ok-clause-begins_none
+returns-in-Ok-clause-begins_none g c = λ none.
+    done_none (first_of c.args.cvd c.args.schema c.args.rows) c.args.store.now.held c.init.new.self.held tt c.in-Ok.ensures.done none
+
+pub returns-in-Err-clause-begins_none : goal.returns-in-Err-clause-begins_none
+returns-in-Err-clause-begins_none g c = λ none.
+    refused_none c.args.cvd c.in-Err.off c.refused.result c.args.store.now c.init.new.self (g.H.Host.state c.args.host.now) (g.H.Host.state c.init.new.host)
+    c.refused.ensures.reply c.in-Err.ensures.stays none

@@ -4,6 +4,7 @@ use Rattle.ov_session.proofs.Replying.{result_seen}
 use Rattle.ov_session.proofs.Standing.{at_next, at_refused}
 use Rattle.ov_store.specs.Dropping.{dropped}
 use Rattle.ov_session.proofs.Numbering.{journal_off}
+use Rattle.ov_session.proofs.Idling.{dropped_none, refused_none}
 use Rattle.ov_session.proofs.changing.drop_cvd.Goals as goal
 
 pub returns-in-Ok-clause-acts : goal.returns-in-Ok-clause-acts
@@ -42,3 +43,11 @@ pub returns-in-Err-clause-by_journal : goal.returns-in-Err-clause-by_journal
 returns-in-Err-clause-by_journal g c = λ by fine.
     journal_off c.args.store.now c.drop_cvd.new.self (g.H.Host.state c.args.host.now) (g.H.Host.state c.drop_cvd.new.host) by c.args.cvd c.in-Err.off c.refused.result
     c.refused.ensures.reply c.refused.ensures.end c.in-Err.ensures.stays fine
+
+pub returns-in-Ok-clause-begins_none : goal.returns-in-Ok-clause-begins_none
+returns-in-Ok-clause-begins_none g c = λ none. dropped_none c.as_str.result.now c.args.store.now.held c.drop_cvd.new.self.held c.in-Ok.ensures.done none
+
+pub returns-in-Err-clause-begins_none : goal.returns-in-Err-clause-begins_none
+returns-in-Err-clause-begins_none g c = λ none.
+    refused_none c.args.cvd c.in-Err.off c.refused.result c.args.store.now c.drop_cvd.new.self (g.H.Host.state c.args.host.now) (g.H.Host.state c.drop_cvd.new.host)
+    c.refused.ensures.reply c.in-Err.ensures.stays none

@@ -7,6 +7,8 @@ use Rattle.ov_session.proofs.Replying.{result_seen}
 use Rattle.ov_session.proofs.Standing.{at_next, at_refused, result_idle}
 use Rattle.ov_store.specs.Committing.{committed, parents_off_in}
 use Rattle.ov_session.proofs.Numbering.{journal_off}
+use Rattle.ov_store.proofs.Finishing.{set_there}
+use Rattle.ov_session.proofs.Idling.{committed_none, refused_none}
 use Rattle.ov_session.proofs.changing.next_version.Goals as goal
 
 pub commit-requires-clause-fit : goal.commit-requires-clause-fit
@@ -88,3 +90,14 @@ pub returns-in-Err-clause-by_journal : goal.returns-in-Err-clause-by_journal
 returns-in-Err-clause-by_journal g c = λ by fine.
     journal_off c.args.store.now c.commit.new.self (g.H.Host.state c.args.host.now) (g.H.Host.state c.commit.new.host) by c.args.cvd c.in-Err.off c.refused.result
     c.refused.ensures.reply c.refused.ensures.end c.in-Err.ensures.stays fine
+
+pub returns-in-Ok-clause-begins_none : goal.returns-in-Ok-clause-begins_none
+returns-in-Ok-clause-begins_none g c = λ none.
+    let there = set_there c.args.store.now.held c.as_str.result.now c.args.vids.now c.args.rows c.in-Ok.ensures.allowed
+    in committed_none there.0 (record { vids = c.args.vids.now; message = c.args.message.now; rows = c.args.rows }) (g.H.Host.state c.args.host.now)
+    c.args.store.now.held c.commit.new.self.held c.in-Ok.made (c.in-Ok.ensures.done there.0 there.1) none
+
+pub returns-in-Err-clause-begins_none : goal.returns-in-Err-clause-begins_none
+returns-in-Err-clause-begins_none g c = λ none.
+    refused_none c.args.cvd c.in-Err.off c.refused.result c.args.store.now c.commit.new.self (g.H.Host.state c.args.host.now) (g.H.Host.state c.commit.new.host)
+    c.refused.ensures.reply c.in-Err.ensures.stays none

@@ -1,4 +1,4 @@
-use Rattle.std.proofs.Common.{[]}
+use Rattle.std.proofs.Common.{◌≡◌, []}
 use Rattle.std.specs.Prelude.{None}
 use Rattle.ov_generate.specs.Making.{HasDamagedVersion}
 use Rattle.ov_model.specs.Act.{Session}
@@ -9,6 +9,8 @@ use Rattle.ov_session.proofs.Making.{acts_silently, ends_acts, err_same, fetched
 use Rattle.ov_session.proofs.Replying.{result_seen}
 use Rattle.ov_store.specs.declared.errors.StoreErr.TheVariants as why
 use Rattle.ov_store.specs.Kept.{MayCall}
+use Rattle.law_steps.specs.Turns.{running}
+use Rattle.ov_session.proofs.Idling.{generated_none}
 use Rattle.ov_session.proofs.generating.make_versions.Goals as goal
 
 pub returns-in-Ok-clause-fetched : goal.returns-in-Ok-clause-fetched
@@ -75,3 +77,16 @@ returns-in-Err-clause-at g c = λ w at.
     (g.H.Host.state c.args.host.now) (g.H.Host.state c.generate.new.host)
     (ends_acts a.cvd _ s w c.args.store.now.held c.generate.new.store.held (g.H.Host.state c.args.host.now) (g.H.Host.state c.generate.new.host)
     c.in-Err.off c.refused.result c.refused.ensures.reply c.refused.ensures.end (c.in-Err.ensures.acts w s at))
+
+pub returns-in-Ok-clause-begins_none : goal.returns-in-Ok-clause-begins_none
+returns-in-Ok-clause-begins_none g c = λ none.
+    let a = c.args.wanted
+    in generated_none a.cvd a.seed a.rows a.versions c.args.store.now.held c.generate.new.store.held _ (g.H.Host.state c.args.host.now) (g.H.Host.state c.generate.new.host)
+    c.generate.ensures.fetched (λ is. let no = c.in-Ok.is in cc) none
+
+pub returns-in-Err-clause-begins_none : goal.returns-in-Err-clause-begins_none
+returns-in-Err-clause-begins_none g c = λ none.
+    let a = c.args.wanted
+    in ok_spared (running c.generate.new.store.held.numbers ≡ None) a.cvd c.in-Err.off c.refused.result c.refused.ensures.reply
+    (λ fine. generated_none a.cvd a.seed a.rows a.versions c.args.store.now.held c.generate.new.store.held _ (g.H.Host.state c.args.host.now) (g.H.Host.state c.generate.new.host)
+    c.generate.ensures.fetched (λ is. fine (err_same c.generate.result c.in-Err.off why.Host c.in-Err.is is)) none)

@@ -1,262 +1,209 @@
-use Rattle.std.proofs.Common.{◌≡◌, ◌∙◌, false, sym, ap, arith, refl, subst, rules}
-use Rattle.std.specs.Prelude.{Err, IsErrOf, Ok, Option, Result, is_ok}
-use Rattle.ov_cmd.specs.Asked.{AsksBuilt}
-use Rattle.ov_cmd.specs.Said.{said}
-use Rattle.ov_session.specs.declared.errors.EndErr.{EndErr}
-use Rattle.ov_session.specs.declared.serving.Served.{Served}
-use Rattle.ov_session.specs.Asking.{line_asked, refusal_to}
+use Rattle.std.proofs.Common.{◌≡◌, ◌∙◌, Bool, true, false, refl, sym, ap, subst, arith}
+use Rattle.std.specs.Prelude.{Err, IfErr, IsErrOf, Ok, Result, is_ok}
+use Rattle.ov_host.specs.Host.{State}
 use Rattle.law_runs.specs.Serving.{Serves, session_of}
-use Rattle.ov_model.specs.Line.{Asks, Refused}
-use Rattle.ov_session.proofs.Saying.{comment_none, line_unserved, says_comment, says_refusal}
-use Rattle.ov_session.proofs.Shaping.{broken_shaped, comment_shaped, damaged_shaped, fetched_shaped, idle_shaped, reply_shaped, served_shaped, still_shaped, unread_shaped, whole_shaped}
-use Rattle.ov_model.specs.BuiltShapes.{served_line}
-use Rattle.ov_session.specs.Commands.{IsNoDamage, is_comment_in, is_refused}
-use Rattle.std.proofs.Common.{ℕ}
-use Rattle.ov_model.specs.Line.{Line}
-use Rattle.ov_model.specs.declared.reply.Reply.TheVariants as says
-use Rattle.ov_session.proofs.Bounds.{host_again, ok_no_host, printed_line, unread_line}
-use Rattle.ov_session.proofs.Replying.{asked_seen, is_replied, refused_missed}
-use Rattle.ov_session.proofs.Standing.{at_said, idle_unsaid_on, unsaid_line}
-use Rattle.ov_session.specs.Replying.{IsReplyTo}
+use Rattle.law_runs.specs.Stepping.{IsStepped}
+use Rattle.ov_store.specs.Kept.{Kept}
+use Rattle.ov_session.specs.Asking.{line_asked}
+use Rattle.ov_session.specs.Commands.{IsDamageOf, IsNoDamage, is_comment_of, is_refusal_of, is_refused}
+use Rattle.ov_session.specs.Damages.{IsMetBy}
 use Rattle.ov_session.specs.Standing.{IsIdleOn}
-use Rattle.ov_session.proofs.Numbering.{journal_said}
+use Rattle.ov_session.specs.declared.errors.EndErr.{EndErr}
 use Rattle.ov_session.specs.declared.errors.EndErr.TheVariants as ending
-use Rattle.ov_session.proofs.Meeting.{comment_asks, refused_asks}
-use Rattle.ov_model.specs.declared.command.Command.{Command}
-use Rattle.std.specs.Prelude.{IfErr}
-use Rattle.ov_session.specs.Commands.{IsDamageOf, IsDamaged}
+use Rattle.ov_session.specs.declared.serving.Served.{Served}
+use Rattle.ov_session.proofs.Bounds.{printed_line}
+use Rattle.ov_session.proofs.Taking.{end_is, err_is}
+use Rattle.ov_session.proofs.Following.{behind_damaged, behind_done, ends_same, fetched_then, line_met, no_end, no_line, no_step, replied_none, replied_then, rose_behind, serves_halted, serves_none, serves_off, serves_steps, some_line, step_met}
 use Rattle.ov_session.proofs.serving.serve.Goals as goal
 
-pub answer-requires-clause-asked : goal.answer-requires-clause-asked
-answer-requires-clause-asked g c = subst AsksBuilt c.in-Ok-Some.field-0-is c.in-Ok-Some.ensures.asked
+pub returns-in_err-served-clause-damaged : goal.returns-in_err-served-clause-damaged
+returns-in_err-served-clause-damaged g c =
+    let is = err_is c.from_residual.result c.in_err-served.field-0.0 c.from_residual.ensures.0 c.from_residual.ensures.1
+    in subst (λ (r : Result Served EndErr). IfErr r (IsDamageOf (IsMetBy c.args.steps c.args.user.now (line_asked c.args.user.now c.args.line.now) c.args.store.now c.serve_line.new.store (g.T.Stage.staged c.args.stage.now) (g.T.Stage.staged c.serve_line.new.stage) (g.H.Host.state c.args.host.now) (g.H.Host.state c.serve_line.new.host)))) (sym is)
+    (line_met c.args.steps c.args.user.now (line_asked c.args.user.now c.args.line.now) c.args.store.now c.serve_line.new.store (g.T.Stage.staged c.args.stage.now) (g.T.Stage.staged c.serve_line.new.stage) (g.H.Host.state c.args.host.now) (g.H.Host.state c.serve_line.new.host) c.in_err-served.field-0.0 c.in_err-served.ensures.damaged c.in_err-served.ensures.idle)
 
-pub returns-in_err-reply-in-Ok-Some-clause-undamaged : goal.returns-in_err-reply-in-Ok-Some-clause-undamaged
-returns-in_err-reply-in-Ok-Some-clause-undamaged g c = λ w at.
-    let fact : IsNoDamage c.in_err-reply-in-Ok-Some.field-0.0 = c.in_err-reply-in-Ok-Some.ensures.undamaged w at
-    in search (rules, fact)
+pub returns-in_err-served-clause-idle : goal.returns-in_err-served-clause-idle
+returns-in_err-served-clause-idle g c = λ e.
+    let is = err_is c.from_residual.result c.in_err-served.field-0.0 c.from_residual.ensures.0 c.from_residual.ensures.1
+    in let stage = ends_same c.from_residual.result c.in_err-served.field-0.0 ending.Stage is e
+    in subst (λ (x : EndErr). IsIdleOn (line_asked c.args.user.now c.args.line.now) x c.args.store.now c.serve_line.new.store (g.T.Stage.staged c.args.stage.now) (g.T.Stage.staged c.serve_line.new.stage) (g.H.Host.state c.args.host.now) (g.H.Host.state c.serve_line.new.host)) stage c.in_err-served.ensures.idle
 
-pub returns-in_err-reply-in-Ok-Some-clause-damaged : goal.returns-in_err-reply-in-Ok-Some-clause-damaged
-returns-in_err-reply-in-Ok-Some-clause-damaged g c =
-    let IsMet : ℕ → Type 0 = λ page. (command : Command) × (line_asked c.args.user.now c.args.line.now ≡ Asks command)
-    × IsDamaged c.args.user.now command (g.T.Stage.staged c.args.stage.now) c.args.store.now.held c.answer.new.store.held (g.H.Host.state c.answer.new.host) page
-    in let fact : IsDamageOf IsMet c.in_err-reply-in-Ok-Some.field-0.0
-    = damaged_shaped c.args.user.now c.in-Ok-Some.command (line_asked c.args.user.now c.args.line.now) (c.in-Ok-Some.ensures.ok ∙ ap (λ (o : Option Command). served_line (said o)) c.in-Ok-Some.field-0-is)
-    c.args.store.now c.answer.new.store (g.T.Stage.staged c.args.stage.now) (g.T.Stage.staged c.answer.new.stage) (g.H.Host.state c.args.host.now) (g.H.Host.state c.answer.new.host) c.in_err-reply-in-Ok-Some.field-0.0 c.in_err-reply-in-Ok-Some.ensures.other c.in_err-reply-in-Ok-Some.ensures.damaged
-    in let is : c.from_residual.result ≡ Err c.in_err-reply-in-Ok-Some.field-0.0 = search rules
-    in subst (λ (r : Result Served EndErr). IfErr r (IsDamageOf IsMet)) (sym is) fact
+pub returns-in_err-served-clause-undamaged : goal.returns-in_err-served-clause-undamaged
+returns-in_err-served-clause-undamaged g c = λ w at.
+    let is = err_is c.from_residual.result c.in_err-served.field-0.0 c.from_residual.ensures.0 c.from_residual.ensures.1
+    in subst (λ (r : Result Served EndErr). IfErr r IsNoDamage) (sym is) (c.in_err-served.ensures.undamaged w at)
 
-pub returns-in_err-reply-in-Ok-Some-clause-serves : goal.returns-in_err-reply-in-Ok-Some-clause-serves
-returns-in_err-reply-in-Ok-Some-clause-serves g c = λ w waits told at.
+pub returns-in_err-served-clause-by_journal : goal.returns-in_err-served-clause-by_journal
+returns-in_err-served-clause-by_journal g c = λ by fine.
+    let is = err_is c.from_residual.result c.in_err-served.field-0.0 c.from_residual.ensures.0 c.from_residual.ensures.1
+    in c.in_err-served.ensures.by_journal by (λ e. fine (is ∙ ap Err (end_is c.in_err-served.field-0.0 ending.Host e)))
+
+pub returns-in_err-served-clause-still : goal.returns-in_err-served-clause-still
+returns-in_err-served-clause-still g c = λ none reads. c.serve_line.ensures.still reads
+
+pub returns-in_err-served-clause-fetched : goal.returns-in_err-served-clause-fetched
+returns-in_err-served-clause-fetched g c = λ none.
+    let is = err_is c.from_residual.result c.in_err-served.field-0.0 c.from_residual.ensures.0 c.from_residual.ensures.1
+    in printed_line c.args.user.now (line_asked c.args.user.now c.args.line.now) c.args.store.now.held c.serve_line.new.store.held _ _ (g.H.Host.state c.args.host.now) (g.H.Host.state c.serve_line.new.host) (g.H.Host.state c.serve_line.new.host)
+    (λ e. is ∙ ap Err (end_is c.in_err-served.field-0.0 ending.Host e)) refl c.in_err-served.ensures.fetched
+
+pub returns-in_err-served-clause-unread : goal.returns-in_err-served-clause-unread
+returns-in_err-served-clause-unread g c = λ none off. c.serve_line.ensures.unread off
+
+pub returns-in_err-served-clause-serves : goal.returns-in_err-served-clause-serves
+returns-in_err-served-clause-serves g c = λ w told at.
     let s = session_of (g.T.Stage.staged c.args.stage.now).files c.args.user.now
-    in let t = session_of (g.T.Stage.staged c.answer.new.stage).files c.args.user.now
-    in let fact : Serves c.args.steps w s t c.args.line.now false false c.args.store.now.held c.answer.new.store.held (g.H.Host.state c.args.host.now) (g.H.Host.state c.answer.new.host)
-    = broken_shaped c.args.user.now c.in-Ok-Some.command (line_asked c.args.user.now c.args.line.now) (c.in-Ok-Some.ensures.ok ∙ ap (λ (o : Option Command). served_line (said o)) c.in-Ok-Some.field-0-is)
-    c.args.store.now c.answer.new.store (g.T.Stage.staged c.args.stage.now) (g.T.Stage.staged c.answer.new.stage) (g.H.Host.state c.args.host.now) (g.H.Host.state c.answer.new.host) c.in_err-reply-in-Ok-Some.field-0.0 c.in_err-reply-in-Ok-Some.ensures.other
-    c.args.steps w c.args.line.now refl waits at (λ built. c.in_err-reply-in-Ok-Some.ensures.acts w built told at)
-    in let is : c.from_residual.result ≡ Err c.in_err-reply-in-Ok-Some.field-0.0 = search rules
-    in subst (λ (r : Result Served EndErr). Serves c.args.steps w s t c.args.line.now (is_ok r) (is_refused r) c.args.store.now.held c.answer.new.store.held
-    (g.H.Host.state c.args.host.now) (g.H.Host.state c.answer.new.host)) (sym is) fact
+    in let t = session_of (g.T.Stage.staged c.serve_line.new.stage).files c.args.user.now
+    in let is = err_is c.from_residual.result c.in_err-served.field-0.0 c.from_residual.ensures.0 c.from_residual.ensures.1
+    in let line : Serves 0 w s t c.args.line.now false false c.args.store.now.held c.serve_line.new.store.held (g.H.Host.state c.args.host.now) (g.H.Host.state c.serve_line.new.host) = c.in_err-served.ensures.serves w told at
+    in subst (λ (r : Result Served EndErr). Serves c.args.steps w s t c.args.line.now (is_ok r) (is_refused r) c.args.store.now.held c.serve_line.new.store.held (g.H.Host.state c.args.host.now) (g.H.Host.state c.serve_line.new.host)) (sym is)
+    (serves_off c.args.steps w s t c.args.line.now c.args.store.now.held c.serve_line.new.store.held (g.H.Host.state c.args.host.now) (g.H.Host.state c.serve_line.new.host) line)
 
-pub returns-in_err-refusal-in-Err-clause-serves : goal.returns-in_err-refusal-in-Err-clause-serves
-returns-in_err-refusal-in-Err-clause-serves g c = λ w waits told at.
+pub returns-then-is_comment-clause-still : goal.returns-then-is_comment-clause-still
+returns-then-is_comment-clause-still g c = λ none reads. c.serve_line.ensures.still reads
+
+pub returns-then-is_comment-clause-fetched : goal.returns-then-is_comment-clause-fetched
+returns-then-is_comment-clause-fetched g c = λ none.
+    printed_line c.args.user.now (line_asked c.args.user.now c.args.line.now) c.args.store.now.held c.serve_line.new.store.held _ _ (g.H.Host.state c.args.host.now) (g.H.Host.state c.serve_line.new.host) (g.H.Host.state c.serve_line.new.host)
+    (λ e. absurd (no_end c.in_ok-served.served ending.Host e)) refl c.in_ok-served.ensures.fetched
+
+pub returns-then-is_comment-clause-unread : goal.returns-then-is_comment-clause-unread
+returns-then-is_comment-clause-unread g c = λ none off. c.serve_line.ensures.unread off
+
+pub returns-then-is_comment-clause-by_journal : goal.returns-then-is_comment-clause-by_journal
+returns-then-is_comment-clause-by_journal g c = λ by fine. c.in_ok-served.ensures.by_journal by (λ e. cc)
+
+pub returns-then-is_comment-clause-at : goal.returns-then-is_comment-clause-at
+returns-then-is_comment-clause-at g c = λ w at. c.in_ok-served.ensures.at w at
+
+pub returns-then-is_comment-clause-whole : goal.returns-then-is_comment-clause-whole
+returns-then-is_comment-clause-whole g c = λ command page asked told. c.in_ok-served.ensures.whole command page asked told
+
+pub returns-then-is_comment-clause-replied : goal.returns-then-is_comment-clause-replied
+returns-then-is_comment-clause-replied g c =
+    let none : is_comment_of c.in_ok-served.served ≡ true = sym c.is_comment.ensures ∙ c.if-is_comment.true
+    in replied_none c.args.steps (line_asked c.args.user.now c.args.line.now) c.args.store.now.held (g.T.Stage.staged c.args.stage.now) (g.T.Stage.staged c.serve_line.new.stage) (g.H.Host.state c.args.host.now) (g.H.Host.state c.serve_line.new.host) (g.H.Host.state c.serve_line.new.host) c.in_ok-served.served none c.in_ok-served.ensures.replied
+
+pub returns-then-is_comment-clause-serves : goal.returns-then-is_comment-clause-serves
+returns-then-is_comment-clause-serves g c = λ w told at.
     let s = session_of (g.T.Stage.staged c.args.stage.now).files c.args.user.now
-    in let fact : Serves c.args.steps w s s c.args.line.now false false c.args.store.now.held c.args.store.now.held (g.H.Host.state c.args.host.now) (g.H.Host.state c.args.host.now)
-    = line_unserved c.args.steps w s c.args.line.now c.args.store.now.held (g.H.Host.state c.args.host.now) waits at
-    in let is : c.from_residual-in_err-refusal-in-Err.result ≡ Err c.in_err-refusal-in-Err.field-0.0 = search rules
-    in subst (λ (r : Result Served EndErr). Serves c.args.steps w s s c.args.line.now (is_ok r) (is_refused r) c.args.store.now.held c.args.store.now.held
-    (g.H.Host.state c.args.host.now) (g.H.Host.state c.args.host.now)) (sym is) fact
+    in let t = session_of (g.T.Stage.staged c.serve_line.new.stage).files c.args.user.now
+    in let none : is_comment_of c.in_ok-served.served ≡ true = sym c.is_comment.ensures ∙ c.if-is_comment.true
+    in let line : Serves 0 w s t c.args.line.now true (is_refusal_of c.in_ok-served.served) c.args.store.now.held c.serve_line.new.store.held (g.H.Host.state c.args.host.now) (g.H.Host.state c.serve_line.new.host) = c.in_ok-served.ensures.serves w told at
+    in serves_none c.args.steps w s t c.args.line.now true (is_refusal_of c.in_ok-served.served) c.args.store.now.held c.serve_line.new.store.held (g.H.Host.state c.args.host.now) (g.H.Host.state c.serve_line.new.host) (no_line c.args.user.now c.args.line.now (sym c.in_ok-served.ensures.comment ∙ none)) line
 
-pub returns-in-Ok-None-clause-comment : goal.returns-in-Ok-None-clause-comment
-returns-in-Ok-None-clause-comment g c = sym (ap is_comment_in (c.in-Ok-None.ensures.ok ∙ ap (λ (o : Option Command). served_line (said o)) c.in-Ok-None.field-0-is))
-
-pub returns-in-Ok-None-clause-serves : goal.returns-in-Ok-None-clause-serves
-returns-in-Ok-None-clause-serves g c = λ w waits told at.
-    says_comment c.args.steps w (session_of (g.T.Stage.staged c.args.stage.now).files c.args.user.now) c.args.line.now c.args.store.now.held
-    (g.H.Host.state c.args.host.now) (c.in-Ok-None.ensures.ok ∙ ap (λ (o : Option Command). served_line (said o)) c.in-Ok-None.field-0-is) at
-
-pub returns-in_ok-reply-in-Ok-Some-clause-comment : goal.returns-in_ok-reply-in-Ok-Some-clause-comment
-returns-in_ok-reply-in-Ok-Some-clause-comment g c =
-    comment_shaped c.args.user.now c.in-Ok-Some.command (line_asked c.args.user.now c.args.line.now) (c.in-Ok-Some.ensures.ok ∙ ap (λ (o : Option Command). served_line (said o)) c.in-Ok-Some.field-0-is) _ c.say.result c.say.ensures.served
-
-pub returns-in_ok-reply-in-Ok-Some-clause-serves : goal.returns-in_ok-reply-in-Ok-Some-clause-serves
-returns-in_ok-reply-in-Ok-Some-clause-serves g c = λ w waits told at.
-    served_shaped c.args.user.now c.in-Ok-Some.command (line_asked c.args.user.now c.args.line.now) (c.in-Ok-Some.ensures.ok ∙ ap (λ (o : Option Command). served_line (said o)) c.in-Ok-Some.field-0-is)
-    c.args.store.now c.answer.new.store (g.T.Stage.staged c.args.stage.now) (g.T.Stage.staged c.answer.new.stage) (g.H.Host.state c.args.host.now) (g.H.Host.state c.answer.new.host) c.in_ok-reply-in-Ok-Some.reply c.in_ok-reply-in-Ok-Some.ensures.other
-    c.args.steps w c.args.line.now refl waits at (g.H.Host.state c.say.new.host) c.say.result
-    (record { answer = c.say.ensures.served; why = c.say.ensures.host_alone; silent = c.say.ensures.unsaid; printed = c.say.ensures.said })
-    (λ built. c.in_ok-reply-in-Ok-Some.ensures.acts w built told at)
-
-pub returns-in_ok-refusal-in-Err-clause-comment : goal.returns-in_ok-refusal-in-Err-clause-comment
-returns-in_ok-refusal-in-Err-clause-comment g c =
-    comment_none (Refused (refusal_to c.in-Err.off)) (line_asked c.args.user.now c.args.line.now) _ c.say-in-Err.result (sym (c.in-Err.ensures.err c.in_ok-refusal-in-Err.ensures.some)) refl c.say-in-Err.ensures.served
-
-pub returns-in_ok-refusal-in-Err-clause-serves : goal.returns-in_ok-refusal-in-Err-clause-serves
-returns-in_ok-refusal-in-Err-clause-serves g c = λ w waits told at.
-    says_refusal c.args.steps w (session_of (g.T.Stage.staged c.args.stage.now).files c.args.user.now) c.args.line.now c.in_ok-refusal-in-Err.field-0
-    c.args.store.now.held (g.H.Host.state c.args.host.now) (g.H.Host.state c.say-in-Err.new.host)
-    (c.in-Err.ensures.err c.in_ok-refusal-in-Err.ensures.some ∙ ap Refused (sym c.in_ok-refusal-in-Err.ensures.refusal)) waits at c.say-in-Err.result
-    (record { answer = c.say-in-Err.ensures.served; why = c.say-in-Err.ensures.host_alone; silent = c.say-in-Err.ensures.unsaid; printed = c.say-in-Err.ensures.said })
-
--- ---- what was fetched
-
-pub returns-in_ok-reply-in-Ok-Some-clause-goes : goal.returns-in_ok-reply-in-Ok-Some-clause-goes
-returns-in_ok-reply-in-Ok-Some-clause-goes g c = record {
-  told = c.say.ensures.goes.told ∙ c.answer.ensures.goes.told;
-  kept = c.say.ensures.goes.kept ∙ c.answer.ensures.goes.kept;
-  faults = omega (arith, c.answer.ensures.goes.faults, c.say.ensures.goes.faults);
-  fetched = omega (arith, c.answer.ensures.goes.fetched, c.say.ensures.goes.fetched);
+pub returns-in_err-take_steps-clause-goes : goal.returns-in_err-take_steps-clause-goes
+returns-in_err-take_steps-clause-goes g c = record {
+  told = c.take_steps.ensures.goes.told ∙ c.serve_line.ensures.goes.told;
+  kept = c.take_steps.ensures.goes.kept ∙ c.serve_line.ensures.goes.kept;
+  faults = omega (arith, c.serve_line.ensures.goes.faults, c.take_steps.ensures.goes.faults);
+  fetched = omega (arith, c.serve_line.ensures.goes.fetched, c.take_steps.ensures.goes.fetched);
 }
 
-pub returns-in_err-reply-in-Ok-Some-clause-fetched : goal.returns-in_err-reply-in-Ok-Some-clause-fetched
-returns-in_err-reply-in-Ok-Some-clause-fetched g c =
-    let same : c.from_residual.result ≡ Err c.in_err-reply-in-Ok-Some.field-0.0 = search rules
-    in let result : c.answer.result ≡ Err c.in_err-reply-in-Ok-Some.field-0.0 = search rules
-    in printed_line c.args.user.now (line_asked c.args.user.now c.args.line.now) c.args.store.now.held c.answer.new.store.held (IsErrOf c.answer.result ending.Host) _
-    (g.H.Host.state c.args.host.now) (g.H.Host.state c.answer.new.host) (g.H.Host.state c.answer.new.host)
-    (λ is. host_again c.answer.result c.from_residual.result c.in_err-reply-in-Ok-Some.field-0.0 result same is) refl
-    (fetched_shaped c.args.user.now c.in-Ok-Some.command (line_asked c.args.user.now c.args.line.now) (c.in-Ok-Some.ensures.ok ∙ ap (λ (o : Option Command). served_line (said o)) c.in-Ok-Some.field-0-is)
-    c.args.store.now c.answer.new.store (g.T.Stage.staged c.args.stage.now) (g.T.Stage.staged c.answer.new.stage) (g.H.Host.state c.args.host.now) (g.H.Host.state c.answer.new.host) c.answer.result c.answer.ensures.other
-    (IsErrOf c.answer.result ending.Host) c.answer.ensures.fetched)
+pub returns-in_err-take_steps-clause-still : goal.returns-in_err-take_steps-clause-still
+returns-in_err-take_steps-clause-still g c = λ none reads.
+    ap (λ (k : Kept). k.held) (c.take_steps.ensures.none (no_step c.args.steps c.args.store.now.held c.serve_line.new.store.held c.in_ok-served.ensures.begins_none none)).1 ∙ c.serve_line.ensures.still reads
 
-pub returns-in_err-refusal-in-Err-clause-fetched : goal.returns-in_err-refusal-in-Err-clause-fetched
-returns-in_err-refusal-in-Err-clause-fetched g c = unread_line c.args.user.now (line_asked c.args.user.now c.args.line.now) c.args.store.now.held _ (g.H.Host.state c.args.host.now)
+pub returns-in_err-take_steps-clause-fetched : goal.returns-in_err-take_steps-clause-fetched
+returns-in_err-take_steps-clause-fetched g c = λ none.
+    fetched_then c.args.user.now (line_asked c.args.user.now c.args.line.now) c.args.store.now.held c.serve_line.new.store c.take_steps.new.store _ _ (g.H.Host.state c.args.host.now) (g.H.Host.state c.serve_line.new.host) (g.H.Host.state c.take_steps.new.host)
+    (λ e. absurd (no_end c.in_ok-served.served ending.Host e)) ((c.take_steps.ensures.none (no_step c.args.steps c.args.store.now.held c.serve_line.new.store.held c.in_ok-served.ensures.begins_none none)).1, (c.take_steps.ensures.none (no_step c.args.steps c.args.store.now.held c.serve_line.new.store.held c.in_ok-served.ensures.begins_none none)).2) c.in_ok-served.ensures.fetched
 
-pub returns-in-Ok-None-clause-fetched : goal.returns-in-Ok-None-clause-fetched
-returns-in-Ok-None-clause-fetched g c = unread_line c.args.user.now (line_asked c.args.user.now c.args.line.now) c.args.store.now.held _ (g.H.Host.state c.args.host.now)
+pub returns-in_err-take_steps-clause-unread : goal.returns-in_err-take_steps-clause-unread
+returns-in_err-take_steps-clause-unread g c = λ none off.
+    ap (λ (s : State). s.fetched) (c.take_steps.ensures.none (no_step c.args.steps c.args.store.now.held c.serve_line.new.store.held c.in_ok-served.ensures.begins_none none)).2 ∙ c.serve_line.ensures.unread off
 
-pub returns-in_ok-reply-in-Ok-Some-clause-fetched : goal.returns-in_ok-reply-in-Ok-Some-clause-fetched
-returns-in_ok-reply-in-Ok-Some-clause-fetched g c =
-    let result : c.answer.result ≡ Ok c.in_ok-reply-in-Ok-Some.reply = search rules
-    in printed_line c.args.user.now (line_asked c.args.user.now c.args.line.now) c.args.store.now.held c.answer.new.store.held (IsErrOf c.answer.result ending.Host) _
-    (g.H.Host.state c.args.host.now) (g.H.Host.state c.answer.new.host) (g.H.Host.state c.say.new.host) (λ is. absurd (ok_no_host c.answer.result c.in_ok-reply-in-Ok-Some.reply result is)) c.say.ensures.fetched
-    (fetched_shaped c.args.user.now c.in-Ok-Some.command (line_asked c.args.user.now c.args.line.now) (c.in-Ok-Some.ensures.ok ∙ ap (λ (o : Option Command). served_line (said o)) c.in-Ok-Some.field-0-is)
-    c.args.store.now c.answer.new.store (g.T.Stage.staged c.args.stage.now) (g.T.Stage.staged c.answer.new.stage) (g.H.Host.state c.args.host.now) (g.H.Host.state c.answer.new.host) c.answer.result c.answer.ensures.other
-    (IsErrOf c.answer.result ending.Host) c.answer.ensures.fetched)
+pub returns-in_err-take_steps-clause-cause : goal.returns-in_err-take_steps-clause-cause
+returns-in_err-take_steps-clause-cause g c = λ e.
+    let is = err_is c.from_residual-in_err-take_steps.result c.in_err-take_steps.field-0.0 c.from_residual-in_err-take_steps.ensures.0 c.from_residual-in_err-take_steps.ensures.1
+    in let rose = c.in_err-take_steps.ensures.cause (ap Err (ends_same c.from_residual-in_err-take_steps.result c.in_err-take_steps.field-0.0 ending.Host is e))
+    in rose_behind (g.H.Host.state c.args.host.now) (g.H.Host.state c.serve_line.new.host) (g.H.Host.state c.take_steps.new.host) c.serve_line.ensures.goes.faults rose
 
-pub returns-in_ok-refusal-in-Err-clause-fetched : goal.returns-in_ok-refusal-in-Err-clause-fetched
-returns-in_ok-refusal-in-Err-clause-fetched g c =
-    printed_line c.args.user.now (line_asked c.args.user.now c.args.line.now) c.args.store.now.held c.args.store.now.held ⊥ _ (g.H.Host.state c.args.host.now) (g.H.Host.state c.args.host.now) (g.H.Host.state c.say-in-Err.new.host) (λ none. absurd none) c.say-in-Err.ensures.fetched
-    (unread_line c.args.user.now (line_asked c.args.user.now c.args.line.now) c.args.store.now.held ⊥ (g.H.Host.state c.args.host.now))
+pub returns-in_err-take_steps-clause-stage : goal.returns-in_err-take_steps-clause-stage
+returns-in_err-take_steps-clause-stage g c = λ e.
+    let is = err_is c.from_residual-in_err-take_steps.result c.in_err-take_steps.field-0.0 c.from_residual-in_err-take_steps.ensures.0 c.from_residual-in_err-take_steps.ensures.1
+    in absurd (c.in_err-take_steps.ensures.host_alone (ap Err (ends_same c.from_residual-in_err-take_steps.result c.in_err-take_steps.field-0.0 ending.Stage is e)))
 
-pub returns-in_err-reply-in-Ok-Some-clause-unread : goal.returns-in_err-reply-in-Ok-Some-clause-unread
-returns-in_err-reply-in-Ok-Some-clause-unread g c =
-    unread_shaped c.args.user.now c.in-Ok-Some.command (line_asked c.args.user.now c.args.line.now) (c.in-Ok-Some.ensures.ok ∙ ap (λ (o : Option Command). served_line (said o)) c.in-Ok-Some.field-0-is)
-    c.args.store.now c.answer.new.store (g.T.Stage.staged c.args.stage.now) (g.T.Stage.staged c.answer.new.stage) (g.H.Host.state c.args.host.now) (g.H.Host.state c.answer.new.host) c.answer.result c.answer.ensures.other c.answer.ensures.unread
+pub returns-in_err-take_steps-clause-idle : goal.returns-in_err-take_steps-clause-idle
+returns-in_err-take_steps-clause-idle g c = λ e.
+    let is = err_is c.from_residual-in_err-take_steps.result c.in_err-take_steps.field-0.0 c.from_residual-in_err-take_steps.ensures.0 c.from_residual-in_err-take_steps.ensures.1
+    in absurd (c.in_err-take_steps.ensures.host_alone (ap Err (ends_same c.from_residual-in_err-take_steps.result c.in_err-take_steps.field-0.0 ending.Stage is e)))
 
-pub returns-in_ok-reply-in-Ok-Some-clause-unread : goal.returns-in_ok-reply-in-Ok-Some-clause-unread
-returns-in_ok-reply-in-Ok-Some-clause-unread g c = λ is.
-    c.say.ensures.fetched ∙ unread_shaped c.args.user.now c.in-Ok-Some.command (line_asked c.args.user.now c.args.line.now) (c.in-Ok-Some.ensures.ok ∙ ap (λ (o : Option Command). served_line (said o)) c.in-Ok-Some.field-0-is)
-    c.args.store.now c.answer.new.store (g.T.Stage.staged c.args.stage.now) (g.T.Stage.staged c.answer.new.stage) (g.H.Host.state c.args.host.now) (g.H.Host.state c.answer.new.host) c.answer.result c.answer.ensures.other c.answer.ensures.unread is
+pub returns-in_err-take_steps-clause-by_journal : goal.returns-in_err-take_steps-clause-by_journal
+returns-in_err-take_steps-clause-by_journal g c = λ by fine.
+    let is = err_is c.from_residual-in_err-take_steps.result c.in_err-take_steps.field-0.0 c.from_residual-in_err-take_steps.ensures.0 c.from_residual-in_err-take_steps.ensures.1
+    in c.in_err-take_steps.ensures.by_journal (c.in_ok-served.ensures.by_journal by (λ e. cc)) (λ e. fine (is ∙ ap Err (end_is c.in_err-take_steps.field-0.0 ending.Host e)))
 
-pub returns-in_ok-refusal-in-Err-clause-unread : goal.returns-in_ok-refusal-in-Err-clause-unread
-returns-in_ok-refusal-in-Err-clause-unread g c = λ is. c.say-in-Err.ensures.fetched
+pub returns-in_err-take_steps-clause-undamaged : goal.returns-in_err-take_steps-clause-undamaged
+returns-in_err-take_steps-clause-undamaged g c = λ w at.
+    let on = c.in_ok-served.ensures.at w at
+    in let is = err_is c.from_residual-in_err-take_steps.result c.in_err-take_steps.field-0.0 c.from_residual-in_err-take_steps.ensures.0 c.from_residual-in_err-take_steps.ensures.1
+    in subst (λ (r : Result Served EndErr). IfErr r IsNoDamage) (sym is) (c.in_err-take_steps.ensures.undamaged on.0 on.1)
 
--- ---- where it leaves the store
+pub returns-in_err-take_steps-clause-damaged : goal.returns-in_err-take_steps-clause-damaged
+returns-in_err-take_steps-clause-damaged g c =
+    let is = err_is c.from_residual-in_err-take_steps.result c.in_err-take_steps.field-0.0 c.from_residual-in_err-take_steps.ensures.0 c.from_residual-in_err-take_steps.ensures.1
+    in let some : is_comment_of c.in_ok-served.served ≡ false = sym c.is_comment.ensures ∙ c.if-is_comment.false
+    in subst (λ (r : Result Served EndErr). IfErr r (IsDamageOf (IsMetBy c.args.steps c.args.user.now (line_asked c.args.user.now c.args.line.now) c.args.store.now c.take_steps.new.store (g.T.Stage.staged c.args.stage.now) (g.T.Stage.staged c.serve_line.new.stage) (g.H.Host.state c.args.host.now) (g.H.Host.state c.take_steps.new.host)))) (sym is)
+    (step_met c.args.steps c.args.user.now (line_asked c.args.user.now c.args.line.now) c.args.store.now c.take_steps.new.store (g.T.Stage.staged c.args.stage.now) (g.T.Stage.staged c.serve_line.new.stage) (g.H.Host.state c.args.host.now) (g.H.Host.state c.take_steps.new.host) c.in_ok-served.served some c.in_err-take_steps.field-0.0 c.in_err-take_steps.ensures.damaged
+    (λ harm. replied_then c.args.steps (line_asked c.args.user.now c.args.line.now) c.args.store.now.held (g.T.Stage.staged c.args.stage.now) (g.T.Stage.staged c.serve_line.new.stage) (g.H.Host.state c.args.host.now) (g.H.Host.state c.serve_line.new.host) (g.H.Host.state c.take_steps.new.host) c.in_ok-served.served some c.in_ok-served.ensures.replied
+    (behind_damaged c.args.steps c.args.store.now.held c.serve_line.new.store.held c.take_steps.new.store.held (g.H.Host.state c.args.host.now) (g.H.Host.state c.serve_line.new.host) (g.H.Host.state c.take_steps.new.host) c.take_steps.ensures.goes
+    (λ none. (c.take_steps.ensures.none (no_step c.args.steps c.args.store.now.held c.serve_line.new.store.held c.in_ok-served.ensures.begins_none none)).2) (λ on. c.in_ok-served.ensures.at on.0 on.1) (λ w at. harm (c.in_err-take_steps.ensures.undamaged w at)))))
 
-pub returns-in_err-reply-in-Ok-Some-clause-idle : goal.returns-in_err-reply-in-Ok-Some-clause-idle
-returns-in_err-reply-in-Ok-Some-clause-idle g c =
-    let fact : IsIdleOn (line_asked c.args.user.now c.args.line.now) c.in_err-reply-in-Ok-Some.field-0.0 c.args.store.now c.answer.new.store (g.T.Stage.staged c.args.stage.now) (g.T.Stage.staged c.answer.new.stage) (g.H.Host.state c.args.host.now) (g.H.Host.state c.answer.new.host)
-    = idle_shaped c.args.user.now c.in-Ok-Some.command (line_asked c.args.user.now c.args.line.now) (c.in-Ok-Some.ensures.ok ∙ ap (λ (o : Option Command). served_line (said o)) c.in-Ok-Some.field-0-is)
-    c.args.store.now c.answer.new.store (g.T.Stage.staged c.args.stage.now) (g.T.Stage.staged c.answer.new.stage) (g.H.Host.state c.args.host.now) (g.H.Host.state c.answer.new.host) c.in_err-reply-in-Ok-Some.field-0.0 c.in_err-reply-in-Ok-Some.ensures.other
-    c.in_err-reply-in-Ok-Some.ensures.idle
-    in let is : c.from_residual.result ≡ Err c.in_err-reply-in-Ok-Some.field-0.0 = search rules
-    in subst (λ (r : Result Served EndErr). IfErr r (λ e. IsIdleOn (line_asked c.args.user.now c.args.line.now) e c.args.store.now c.answer.new.store (g.T.Stage.staged c.args.stage.now) (g.T.Stage.staged c.answer.new.stage) (g.H.Host.state c.args.host.now) (g.H.Host.state c.answer.new.host))) (sym is) fact
+pub returns-in_err-take_steps-clause-serves : goal.returns-in_err-take_steps-clause-serves
+returns-in_err-take_steps-clause-serves g c = λ w told at.
+    let s = session_of (g.T.Stage.staged c.args.stage.now).files c.args.user.now
+    in let t = session_of (g.T.Stage.staged c.serve_line.new.stage).files c.args.user.now
+    in let some : is_comment_of c.in_ok-served.served ≡ false = sym c.is_comment.ensures ∙ c.if-is_comment.false
+    in let is = err_is c.from_residual-in_err-take_steps.result c.in_err-take_steps.field-0.0 c.from_residual-in_err-take_steps.ensures.0 c.from_residual-in_err-take_steps.ensures.1
+    in let line : Serves 0 w s t c.args.line.now true (is_refusal_of c.in_ok-served.served) c.args.store.now.held c.serve_line.new.store.held (g.H.Host.state c.args.host.now) (g.H.Host.state c.serve_line.new.host) = c.in_ok-served.ensures.serves w told at
+    in subst (λ (r : Result Served EndErr). Serves c.args.steps w s t c.args.line.now (is_ok r) (is_refused r) c.args.store.now.held c.take_steps.new.store.held (g.H.Host.state c.args.host.now) (g.H.Host.state c.take_steps.new.host)) (sym is)
+    (serves_halted c.args.steps w s t c.args.line.now (some_line c.args.user.now c.args.line.now (sym c.in_ok-served.ensures.comment ∙ some)) (is_refusal_of c.in_ok-served.served) c.args.store.now.held c.serve_line.new.store.held c.take_steps.new.store.held (g.H.Host.state c.args.host.now) (g.H.Host.state c.serve_line.new.host) (g.H.Host.state c.take_steps.new.host) line
+    (λ v on. c.in_err-take_steps.ensures.stepped v on))
 
-pub returns-in_err-refusal-in-Err-clause-idle : goal.returns-in_err-refusal-in-Err-clause-idle
-returns-in_err-refusal-in-Err-clause-idle g c =
-    let memory : c.from_residual-in_err-refusal-in-Err.result ≡ Err ending.Memory = search rules
-    in subst (λ (r : Result Served EndErr). IfErr r (λ e. IsIdleOn (line_asked c.args.user.now c.args.line.now) e c.args.store.now c.args.store.now (g.T.Stage.staged c.args.stage.now) (g.T.Stage.staged c.args.stage.now) (g.H.Host.state c.args.host.now) (g.H.Host.state c.args.host.now))) (sym memory)
-    (unsaid_line c.args.store.now c.args.store.now (g.T.Stage.staged c.args.stage.now) (g.T.Stage.staged c.args.stage.now) (g.H.Host.state c.args.host.now) (g.H.Host.state c.args.host.now) (line_asked c.args.user.now c.args.line.now) ending.Memory tt)
+pub returns-clause-goes : goal.returns-clause-goes
+returns-clause-goes g c = record {
+  told = c.take_steps.ensures.goes.told ∙ c.serve_line.ensures.goes.told;
+  kept = c.take_steps.ensures.goes.kept ∙ c.serve_line.ensures.goes.kept;
+  faults = omega (arith, c.serve_line.ensures.goes.faults, c.take_steps.ensures.goes.faults);
+  fetched = omega (arith, c.serve_line.ensures.goes.fetched, c.take_steps.ensures.goes.fetched);
+}
 
-pub returns-in_ok-reply-in-Ok-Some-clause-idle : goal.returns-in_ok-reply-in-Ok-Some-clause-idle
-returns-in_ok-reply-in-Ok-Some-clause-idle g c =
-    idle_unsaid_on c.args.store.now c.answer.new.store (g.T.Stage.staged c.args.stage.now) (g.T.Stage.staged c.answer.new.stage) (g.H.Host.state c.args.host.now) (g.H.Host.state c.say.new.host) (line_asked c.args.user.now c.args.line.now) c.say.result c.say.ensures.host_alone
+pub returns-clause-still : goal.returns-clause-still
+returns-clause-still g c = λ none reads.
+    ap (λ (k : Kept). k.held) (c.take_steps.ensures.none (no_step c.args.steps c.args.store.now.held c.serve_line.new.store.held c.in_ok-served.ensures.begins_none none)).1 ∙ c.serve_line.ensures.still reads
 
-pub returns-in_ok-refusal-in-Err-clause-idle : goal.returns-in_ok-refusal-in-Err-clause-idle
-returns-in_ok-refusal-in-Err-clause-idle g c =
-    idle_unsaid_on c.args.store.now c.args.store.now (g.T.Stage.staged c.args.stage.now) (g.T.Stage.staged c.args.stage.now) (g.H.Host.state c.args.host.now) (g.H.Host.state c.say-in-Err.new.host) (line_asked c.args.user.now c.args.line.now) c.say-in-Err.result c.say-in-Err.ensures.host_alone
+pub returns-clause-fetched : goal.returns-clause-fetched
+returns-clause-fetched g c = λ none.
+    fetched_then c.args.user.now (line_asked c.args.user.now c.args.line.now) c.args.store.now.held c.serve_line.new.store c.take_steps.new.store _ _ (g.H.Host.state c.args.host.now) (g.H.Host.state c.serve_line.new.host) (g.H.Host.state c.take_steps.new.host)
+    (λ e. absurd (no_end c.in_ok-served.served ending.Host e)) ((c.take_steps.ensures.none (no_step c.args.steps c.args.store.now.held c.serve_line.new.store.held c.in_ok-served.ensures.begins_none none)).1, (c.take_steps.ensures.none (no_step c.args.steps c.args.store.now.held c.serve_line.new.store.held c.in_ok-served.ensures.begins_none none)).2) c.in_ok-served.ensures.fetched
 
-pub returns-in-Ok-None-clause-at : goal.returns-in-Ok-None-clause-at
-returns-in-Ok-None-clause-at g c = λ w at. (w, at)
+pub returns-clause-unread : goal.returns-clause-unread
+returns-clause-unread g c = λ none off.
+    ap (λ (s : State). s.fetched) (c.take_steps.ensures.none (no_step c.args.steps c.args.store.now.held c.serve_line.new.store.held c.in_ok-served.ensures.begins_none none)).2 ∙ c.serve_line.ensures.unread off
 
-pub returns-in_ok-reply-in-Ok-Some-clause-at : goal.returns-in_ok-reply-in-Ok-Some-clause-at
-returns-in_ok-reply-in-Ok-Some-clause-at g c = λ w at.
-    at_said c.answer.new.store.held (g.H.Host.state c.answer.new.host) (g.H.Host.state c.say.new.host) c.in_ok-reply-in-Ok-Some.reply c.say.result
-    (record { answer = c.say.ensures.served; why = c.say.ensures.host_alone; silent = c.say.ensures.unsaid; printed = c.say.ensures.said })
-    (c.in_ok-reply-in-Ok-Some.ensures.at w at).at
+pub returns-clause-by_journal : goal.returns-clause-by_journal
+returns-clause-by_journal g c = λ by fine. c.in_ok-take_steps.ensures.by_journal (c.in_ok-served.ensures.by_journal by (λ e. cc)) (λ e. cc)
 
-pub returns-in_ok-refusal-in-Err-clause-at : goal.returns-in_ok-refusal-in-Err-clause-at
-returns-in_ok-refusal-in-Err-clause-at g c = λ w at.
-    at_said c.args.store.now.held (g.H.Host.state c.args.host.now) (g.H.Host.state c.say-in-Err.new.host) (says.Refused c.in_ok-refusal-in-Err.field-0) c.say-in-Err.result
-    (record { answer = c.say-in-Err.ensures.served; why = c.say-in-Err.ensures.host_alone; silent = c.say-in-Err.ensures.unsaid; printed = c.say-in-Err.ensures.said }) (w, at)
+pub returns-clause-at : goal.returns-clause-at
+returns-clause-at g c = λ w at.
+    let on = c.in_ok-served.ensures.at w at in (c.in_ok-take_steps.ensures.at on.0 on.1).at
 
--- ---- its reply
+pub returns-clause-whole : goal.returns-clause-whole
+returns-clause-whole g c = λ command page asked told. c.in_ok-served.ensures.whole command page asked told
 
-pub returns-in-Ok-None-clause-replied : goal.returns-in-Ok-None-clause-replied
-returns-in-Ok-None-clause-replied g c = refl
+pub returns-clause-replied : goal.returns-clause-replied
+returns-clause-replied g c =
+    let some : is_comment_of c.in_ok-served.served ≡ false = sym c.is_comment.ensures ∙ c.if-is_comment.false
+    in replied_then c.args.steps (line_asked c.args.user.now c.args.line.now) c.args.store.now.held (g.T.Stage.staged c.args.stage.now) (g.T.Stage.staged c.serve_line.new.stage) (g.H.Host.state c.args.host.now) (g.H.Host.state c.serve_line.new.host) (g.H.Host.state c.take_steps.new.host) c.in_ok-served.served some c.in_ok-served.ensures.replied
+    (behind_done c.args.steps c.args.store.now.held c.serve_line.new.store.held c.take_steps.new.store.held (g.H.Host.state c.args.host.now) (g.H.Host.state c.serve_line.new.host) (g.H.Host.state c.take_steps.new.host) c.take_steps.ensures.goes
+    (λ none. (c.take_steps.ensures.none (no_step c.args.steps c.args.store.now.held c.serve_line.new.store.held c.in_ok-served.ensures.begins_none none)).2) (λ on. c.in_ok-served.ensures.at on.0 on.1) (λ w at. c.in_ok-take_steps.ensures.at w at))
 
-pub returns-in_ok-reply-in-Ok-Some-clause-replied : goal.returns-in_ok-reply-in-Ok-Some-clause-replied
-returns-in_ok-reply-in-Ok-Some-clause-replied g c =
-    is_replied (line_asked c.args.user.now c.args.line.now) c.in_ok-reply-in-Ok-Some.reply c.args.store.now.held (g.T.Stage.staged c.args.stage.now) (g.T.Stage.staged c.answer.new.stage) (g.H.Host.state c.args.host.now) (g.H.Host.state c.answer.new.host) (g.H.Host.state c.say.new.host)
-    (reply_shaped c.args.user.now c.in-Ok-Some.command (line_asked c.args.user.now c.args.line.now) (c.in-Ok-Some.ensures.ok ∙ ap (λ (o : Option Command). served_line (said o)) c.in-Ok-Some.field-0-is)
-    c.args.store.now c.answer.new.store (g.T.Stage.staged c.args.stage.now) (g.T.Stage.staged c.answer.new.stage) (g.H.Host.state c.args.host.now) (g.H.Host.state c.answer.new.host) c.in_ok-reply-in-Ok-Some.reply c.in_ok-reply-in-Ok-Some.ensures.other) c.answer.ensures.goes.told
-    (λ some. (c.in_ok-reply-in-Ok-Some.ensures.at some.0 some.1).printed) c.in_ok-reply-in-Ok-Some.ensures.missed c.say.result
-    (record { answer = c.say.ensures.served; why = c.say.ensures.host_alone; silent = c.say.ensures.unsaid; printed = c.say.ensures.said })
-
-pub returns-in_ok-refusal-in-Err-clause-replied : goal.returns-in_ok-refusal-in-Err-clause-replied
-returns-in_ok-refusal-in-Err-clause-replied g c =
-    is_replied (line_asked c.args.user.now c.args.line.now) (says.Refused c.in_ok-refusal-in-Err.field-0) c.args.store.now.held (g.T.Stage.staged c.args.stage.now) (g.T.Stage.staged c.args.stage.now) (g.H.Host.state c.args.host.now) (g.H.Host.state c.args.host.now) (g.H.Host.state c.say-in-Err.new.host)
-    (subst (λ (l : Line). IsReplyTo l (says.Refused c.in_ok-refusal-in-Err.field-0)) (sym (c.in-Err.ensures.err c.in_ok-refusal-in-Err.ensures.some ∙ ap Refused (sym c.in_ok-refusal-in-Err.ensures.refusal))) refl) refl
-    (λ some. refl) (refused_missed _ c.in_ok-refusal-in-Err.field-0 (λ file is. absurd (asked_seen c.in-Err.off file (sym c.in_ok-refusal-in-Err.ensures.refusal ∙ is)))) c.say-in-Err.result
-    (record { answer = c.say-in-Err.ensures.served; why = c.say-in-Err.ensures.host_alone; silent = c.say-in-Err.ensures.unsaid; printed = c.say-in-Err.ensures.said })
-
--- ---- its numbers
-
-pub returns-in_err-reply-in-Ok-Some-clause-by_journal : goal.returns-in_err-reply-in-Ok-Some-clause-by_journal
-returns-in_err-reply-in-Ok-Some-clause-by_journal g c = λ by fine.
-    let is : c.from_residual.result ≡ Err c.in_err-reply-in-Ok-Some.field-0.0 = search rules
-    in c.in_err-reply-in-Ok-Some.ensures.by_journal by
-    (λ e. let host : c.in_err-reply-in-Ok-Some.field-0.0 ≡ ending.Host = cc in fine (is ∙ ap Err host))
-
-pub returns-in_err-refusal-in-Err-clause-by_journal : goal.returns-in_err-refusal-in-Err-clause-by_journal
-returns-in_err-refusal-in-Err-clause-by_journal g c = λ by fine. by
-
-pub returns-in-Ok-None-clause-by_journal : goal.returns-in-Ok-None-clause-by_journal
-returns-in-Ok-None-clause-by_journal g c = λ by fine. by
-
-pub returns-in_ok-reply-in-Ok-Some-clause-by_journal : goal.returns-in_ok-reply-in-Ok-Some-clause-by_journal
-returns-in_ok-reply-in-Ok-Some-clause-by_journal g c = λ by fine.
-    journal_said c.answer.new.store.held (g.H.Host.state c.answer.new.host) (g.H.Host.state c.say.new.host) c.in_ok-reply-in-Ok-Some.reply c.say.result
-    (record { answer = c.say.ensures.served; why = c.say.ensures.host_alone; silent = c.say.ensures.unsaid; printed = c.say.ensures.said }) fine
-    (c.in_ok-reply-in-Ok-Some.ensures.by_journal by (λ e. cc))
-
-pub returns-in_ok-refusal-in-Err-clause-by_journal : goal.returns-in_ok-refusal-in-Err-clause-by_journal
-returns-in_ok-refusal-in-Err-clause-by_journal g c = λ by fine.
-    journal_said c.args.store.now.held (g.H.Host.state c.args.host.now) (g.H.Host.state c.say-in-Err.new.host) (says.Refused c.in_ok-refusal-in-Err.field-0) c.say-in-Err.result
-    (record { answer = c.say-in-Err.ensures.served; why = c.say-in-Err.ensures.host_alone; silent = c.say-in-Err.ensures.unsaid; printed = c.say-in-Err.ensures.said }) fine by
-
--- ---- an answer met no damage
-
-pub returns-in-Ok-None-clause-whole : goal.returns-in-Ok-None-clause-whole
-returns-in-Ok-None-clause-whole g c = λ command page asked told. absurd (comment_asks command (sym (c.in-Ok-None.ensures.ok ∙ ap (λ (o : Option Command). served_line (said o)) c.in-Ok-None.field-0-is) ∙ asked))
-
-pub returns-in_ok-reply-in-Ok-Some-clause-whole : goal.returns-in_ok-reply-in-Ok-Some-clause-whole
-returns-in_ok-reply-in-Ok-Some-clause-whole g c = λ command page asked told.
-    whole_shaped c.args.user.now c.in-Ok-Some.command (line_asked c.args.user.now c.args.line.now) (c.in-Ok-Some.ensures.ok ∙ ap (λ (o : Option Command). served_line (said o)) c.in-Ok-Some.field-0-is)
-    c.args.store.now c.answer.new.store (g.T.Stage.staged c.args.stage.now) (g.T.Stage.staged c.answer.new.stage) (g.H.Host.state c.args.host.now) (g.H.Host.state c.answer.new.host) c.in_ok-reply-in-Ok-Some.reply c.in_ok-reply-in-Ok-Some.ensures.other command page c.say.result asked
-    (c.in_ok-reply-in-Ok-Some.ensures.whole page told)
-
-pub returns-in_ok-refusal-in-Err-clause-whole : goal.returns-in_ok-refusal-in-Err-clause-whole
-returns-in_ok-refusal-in-Err-clause-whole g c = λ command page asked told. absurd (refused_asks c.in_ok-refusal-in-Err.field-0 command (sym (c.in-Err.ensures.err c.in_ok-refusal-in-Err.ensures.some ∙ ap Refused (sym c.in_ok-refusal-in-Err.ensures.refusal)) ∙ asked))
-
--- ---- what changes no store
-
-pub returns-in_err-reply-in-Ok-Some-clause-still : goal.returns-in_err-reply-in-Ok-Some-clause-still
-returns-in_err-reply-in-Ok-Some-clause-still g c =
-    still_shaped c.args.user.now c.in-Ok-Some.command (line_asked c.args.user.now c.args.line.now) (c.in-Ok-Some.ensures.ok ∙ ap (λ (o : Option Command). served_line (said o)) c.in-Ok-Some.field-0-is)
-    c.args.store.now c.answer.new.store (g.T.Stage.staged c.args.stage.now) (g.T.Stage.staged c.answer.new.stage) (g.H.Host.state c.args.host.now) (g.H.Host.state c.answer.new.host) c.answer.result c.answer.ensures.other c.answer.ensures.still
-
-pub returns-in_ok-reply-in-Ok-Some-clause-still : goal.returns-in_ok-reply-in-Ok-Some-clause-still
-returns-in_ok-reply-in-Ok-Some-clause-still g c =
-    still_shaped c.args.user.now c.in-Ok-Some.command (line_asked c.args.user.now c.args.line.now) (c.in-Ok-Some.ensures.ok ∙ ap (λ (o : Option Command). served_line (said o)) c.in-Ok-Some.field-0-is)
-    c.args.store.now c.answer.new.store (g.T.Stage.staged c.args.stage.now) (g.T.Stage.staged c.answer.new.stage) (g.H.Host.state c.args.host.now) (g.H.Host.state c.answer.new.host) c.answer.result c.answer.ensures.other c.answer.ensures.still
+pub returns-clause-serves : goal.returns-clause-serves
+returns-clause-serves g c = λ w told at.
+    let s = session_of (g.T.Stage.staged c.args.stage.now).files c.args.user.now
+    in let t = session_of (g.T.Stage.staged c.serve_line.new.stage).files c.args.user.now
+    in let some : is_comment_of c.in_ok-served.served ≡ false = sym c.is_comment.ensures ∙ c.if-is_comment.false
+    in let line : Serves 0 w s t c.args.line.now true (is_refusal_of c.in_ok-served.served) c.args.store.now.held c.serve_line.new.store.held (g.H.Host.state c.args.host.now) (g.H.Host.state c.serve_line.new.host) = c.in_ok-served.ensures.serves w told at
+    in serves_steps c.args.steps w s t c.args.line.now (some_line c.args.user.now c.args.line.now (sym c.in_ok-served.ensures.comment ∙ some)) (is_refusal_of c.in_ok-served.served) c.args.store.now.held c.serve_line.new.store.held c.take_steps.new.store.held (g.H.Host.state c.args.host.now) (g.H.Host.state c.serve_line.new.host) (g.H.Host.state c.take_steps.new.host) line true
+    (λ v on. c.in_ok-take_steps.ensures.stepped v on)

@@ -13,28 +13,28 @@ use Rattle.ov_top.specs.declared.errors.RunErr.TheVariants as running
 use Rattle.ov_top.proofs.Lined.{Gone, admin_is_name, ends_reading, ends_serving, err_is, given_true, gone_all, gone_ends, gone_more, gone_start, no_lines, nothing_left, read_whole, runs_start, not_seen, rose_in_all, serves_as, spent_by}
 use Rattle.ov_script.proofs.Readers.{next_lines}
 use Rattle.ov_session.specs.declared.errors.EndErr.TheVariants as ending
-use Rattle.ov_top.proofs.Reading.{Fetches, asked_among, err_end, fetches_all, fetches_ends, fetches_more, fetches_start, line_kept, lined_more, reading_harmless, run_damage, unharmed, unharmed_reading}
+use Rattle.ov_top.proofs.Reading.{Fetches, asked_among, err_end, fetches_all, fetches_ends, fetches_more, fetches_start, line_kept, lined_more, none_still, reading_harmless, reply_among, run_damage, unharmed, unharmed_reading}
 use Rattle.ov_top.proofs.runs.serve_all.Goals as goal
 
 pub returns-in_err-user-clause-served : goal.returns-in_err-user-clause-served
-returns-in_err-user-clause-served g c = λ w waits script stage at.
+returns-in_err-user-clause-served g c = λ w script stage at.
     let s = session_of (g.T.Stage.staged c.args.stage.now).files (codes "admin")
     in let source = g.S.Source.script c.args.source.now
     in let faults = (g.T.Stage.staged c.args.stage.now).faults
     in let is : c.from_residual.result ≡ Err running.Memory = search rules
     in subst (λ (r : Result Bool RunErr). AllServed c.args.steps w s s (lines_of source.left) (ended_lines (taken_of source source)) (Rose faults faults → ⊥) r c.args.store.held
     (g.H.Host.state c.args.host.now) (g.H.Host.state c.args.host.now)) (sym is)
-    (runs_start c.args.steps w s source.left c.args.store.held (g.H.Host.state c.args.host.now) waits at)
+    (runs_start c.args.steps w s source.left c.args.store.held (g.H.Host.state c.args.host.now) at)
 
 pub returns-in_err-reader-clause-served : goal.returns-in_err-reader-clause-served
-returns-in_err-reader-clause-served g c = λ w waits script stage at.
+returns-in_err-reader-clause-served g c = λ w script stage at.
     let s = session_of (g.T.Stage.staged c.args.stage.now).files (codes "admin")
     in let source = g.S.Source.script c.args.source.now
     in let faults = (g.T.Stage.staged c.args.stage.now).faults
     in let is : c.from_residual-in_err-reader.result ≡ Err running.Memory = search rules
     in subst (λ (r : Result Bool RunErr). AllServed c.args.steps w s s (lines_of source.left) (ended_lines (taken_of source source)) (Rose faults faults → ⊥) r c.args.store.held
     (g.H.Host.state c.args.host.now) (g.H.Host.state c.args.host.now)) (sym is)
-    (runs_start c.args.steps w s source.left c.args.store.held (g.H.Host.state c.args.host.now) waits at)
+    (runs_start c.args.steps w s source.left c.args.store.held (g.H.Host.state c.args.host.now) at)
 
 pub lines-init : goal.lines-init
 lines-init g c = record {
@@ -45,15 +45,15 @@ lines-init g c = record {
   counted = λ told. let none = ap (λ (r : Taken). r.count) c.in_ok-reader.ensures in omega (arith, none);
   call = c.requires.call;
   user = c.in_ok-user.ensures;
-  so_far = λ w waits script stage at.
+  so_far = λ w script stage at.
       let s = session_of (g.T.Stage.staged c.args.stage.now).files (codes "admin")
       in subst (λ (r : Taken). Gone c.args.steps w s s (g.S.Source.script c.args.source.now).left (left_of r (g.S.Source.script c.args.source.now)) r.ended false
       c.args.store.held c.args.store.held (g.H.Host.state c.args.host.now) (g.H.Host.state c.args.host.now)) (sym c.in_ok-reader.ensures)
-      (gone_start c.args.steps w s (g.S.Source.script c.args.source.now).left c.args.store.held (g.H.Host.state c.args.host.now) waits at);
+      (gone_start c.args.steps w s (g.S.Source.script c.args.source.now).left c.args.store.held (g.H.Host.state c.args.host.now) at);
   lined = λ told. ([], ap (λ (r : Taken). lines_of (left_of r (g.S.Source.script c.args.source.now))) (sym c.in_ok-reader.ensures));
   by_journal = λ by. by;
   at = λ w at. (w, at);
-  fetched = λ told are.
+  fetched = λ none told are.
       subst (λ (r : Taken). Fetches c.args.store.held c.args.store.held (lines_of (g.S.Source.script c.args.source.now).left)
       (lines_of (left_of r (g.S.Source.script c.args.source.now))) (g.H.Host.state c.args.host.now) (g.H.Host.state c.args.host.now)) (sym c.in_ok-reader.ensures)
       (fetches_start c.args.store.held (lines_of (g.S.Source.script c.args.source.now).left) (g.H.Host.state c.args.host.now) are);
@@ -61,7 +61,7 @@ lines-init g c = record {
 }
 
 pub returns-in_err-next_line-clause-served : goal.returns-in_err-next_line-clause-served
-returns-in_err-next_line-clause-served g c = λ w waits script stage at.
+returns-in_err-next_line-clause-served g c = λ w script stage at.
     let s = session_of (g.T.Stage.staged c.args.stage.now).files (codes "admin")
     in let t = session_of (g.T.Stage.staged c.lines.stage).files (codes "admin")
     in let first = g.S.Source.script c.args.source.now
@@ -73,14 +73,14 @@ returns-in_err-next_line-clause-served g c = λ w waits script stage at.
     in subst (λ (r : Result Bool RunErr). AllServed c.args.steps w s t (lines_of first.left) (ended_lines (taken_of first last)) still r c.args.store.held
     (g.H.Host.state c.args.host.now) (g.H.Host.state c.lines.host)) (sym is)
     (ends_reading c.args.steps w s t e c.lines.reader (left_of c.lines.reader (g.S.Source.script c.lines.source)) c.lines.failed c.args.store.held c.lines.store.held
-    (g.H.Host.state c.args.host.now) (g.H.Host.state c.lines.host) first last still (c.lines.invariant.so_far w waits script stage at)
+    (g.H.Host.state c.args.host.now) (g.H.Host.state c.lines.host) first last still (c.lines.invariant.so_far w script stage at)
     (c.in_err-next_line.ensures.cut_off (c.lines.invariant.told ∙ script)))
 
 pub serve-requires-clause-user : goal.serve-requires-clause-user
 serve-requires-clause-user g c = subst (λ (u : List ℕ). IsTrue (is_name u)) (sym c.lines.invariant.user) admin_is_name
 
 pub returns-in_err-served-clause-served : goal.returns-in_err-served-clause-served
-returns-in_err-served-clause-served g c = λ w waits script stage at.
+returns-in_err-served-clause-served g c = λ w script stage at.
     let s = session_of (g.T.Stage.staged c.args.stage.now).files (codes "admin")
     in let t = session_of (g.T.Stage.staged c.lines.stage).files (codes "admin")
     in let u = session_of (g.T.Stage.staged c.serve.new.stage).files (codes "admin")
@@ -90,13 +90,13 @@ returns-in_err-served-clause-served g c = λ w waits script stage at.
     in let later = left_of c.next_line.new.self last
     in let still = Rose (g.T.Stage.staged c.args.stage.now).faults (g.T.Stage.staged c.serve.new.stage).faults → ⊥
     in let e = c.in_err-served.field-0.0
-    in let gone = c.lines.invariant.so_far w waits script stage at
+    in let gone = c.lines.invariant.so_far w script stage at
     in let given = given_true _ _ _ _ _ c.if-branch.true (c.in_ok-next_line.ensures.given (c.lines.invariant.told ∙ script) (c.lines.invariant.at_end script))
     in let serves : Serves c.args.steps gone.so.world t u given.0 false false c.lines.store.held c.serve.new.store.held (g.H.Host.state c.lines.host) (g.H.Host.state c.serve.new.host)
     = serves_as c.args.steps gone.so.world (g.T.Stage.staged c.lines.stage).files (g.T.Stage.staged c.serve.new.stage).files c.lines.user c.serve.new.user (codes "admin")
     c.as_slice.result.now c.next_line.new.line.items given.0 false false c.lines.store.held c.serve.new.store.held (g.H.Host.state c.lines.host) (g.H.Host.state c.serve.new.host)
     c.lines.invariant.user c.serve.ensures.user c.as_slice.ensures.value given.2
-    (c.in_err-served.ensures.serves gone.so.world gone.so.waits (c.lines.invariant.attended.told ∙ stage) gone.so.at)
+    (c.in_err-served.ensures.serves gone.so.world (c.lines.invariant.attended.told ∙ stage) gone.so.at)
     in let is : c.from_residual-in_err-served.result ≡ Err (by_serving e)
     = err_is c.from_residual-in_err-served.result (by_serving e) c.from_residual-in_err-served.ensures.0 c.from_residual-in_err-served.ensures.1
     in subst (λ (r : Result Bool RunErr). AllServed c.args.steps w s u (lines_of first.left) (ended_lines (taken_of first last)) still r c.args.store.held
@@ -141,20 +141,20 @@ lines-preserved g c =
           in omega (arith, before, after);
       call = c.in_ok-served.ensures.usable;
       user = c.serve.ensures.user ∙ inv.user;
-      so_far = λ w waits script stage at.
+      so_far = λ w script stage at.
           let s = session_of (g.T.Stage.staged c.args.stage.now).files (codes "admin")
           in let t = session_of (g.T.Stage.staged c.lines.stage).files (codes "admin")
           in let u = session_of (g.T.Stage.staged c.serve.new.stage).files (codes "admin")
           in let all = (g.S.Source.script c.args.source.now).left
           in let left = left_of c.lines.reader (g.S.Source.script c.lines.source)
           in let later = left_of c.next_line.new.self (g.S.Source.script c.next_line.new.source)
-          in let gone = inv.so_far w waits script stage at
+          in let gone = inv.so_far w script stage at
           in let given = given_true _ _ _ _ _ c.if-branch.true (c.in_ok-next_line.ensures.given (inv.told ∙ script) (inv.at_end script))
           in let serves : Serves c.args.steps gone.so.world t u given.0 true (is_refusal_of c.in_ok-served.served) c.lines.store.held c.serve.new.store.held (g.H.Host.state c.lines.host) (g.H.Host.state c.serve.new.host)
           = serves_as c.args.steps gone.so.world (g.T.Stage.staged c.lines.stage).files (g.T.Stage.staged c.serve.new.stage).files c.lines.user c.serve.new.user (codes "admin")
           c.as_slice.result.now c.next_line.new.line.items given.0 true (is_refusal_of c.in_ok-served.served) c.lines.store.held c.serve.new.store.held
           (g.H.Host.state c.lines.host) (g.H.Host.state c.serve.new.host) inv.user c.serve.ensures.user c.as_slice.ensures.value given.2
-          (c.in_ok-served.ensures.serves gone.so.world gone.so.waits (inv.attended.told ∙ stage) gone.so.at)
+          (c.in_ok-served.ensures.serves gone.so.world (inv.attended.told ∙ stage) gone.so.at)
           in subst (λ (f : Bool). Gone c.args.steps w s u all later c.next_line.new.self.ended f c.args.store.held c.serve.new.store.held
           (g.H.Host.state c.args.host.now) (g.H.Host.state c.serve.new.host)) (sym c.or_refused-failed.ensures)
           (gone_more c.args.steps w s t u all left later given.0 c.lines.reader.ended c.next_line.new.self.ended c.lines.failed (is_refusal_of c.in_ok-served.served)
@@ -168,15 +168,16 @@ lines-preserved g c =
           let tells_old : (g.H.Host.state c.lines.host).tells ≡ true = sym c.serve.ensures.goes.told ∙ tells
           in c.in_ok-served.ensures.by_journal (inv.by_journal by tells_old) (λ is. cc);
       at = λ w at. let so = inv.at w at in c.in_ok-served.ensures.at so.0 so.1;
-      fetched = λ told are.
+      fetched = λ none told are.
           let left = left_of c.lines.reader (g.S.Source.script c.lines.source)
           in let later = left_of c.next_line.new.self (g.S.Source.script c.next_line.new.source)
           in let given = given_true _ _ _ _ _ c.if-branch.true (c.in_ok-next_line.ensures.given (inv.told ∙ told) (inv.at_end told))
           in fetches_more c.args.store.held c.lines.store.held (lines_of (g.S.Source.script c.args.source.now).left) (lines_of left) (lines_of later)
-          c.lines.user c.as_slice.result.now given.0 (g.H.Host.state c.args.host.now) (g.H.Host.state c.lines.host) (g.H.Host.state c.serve.new.host) (inv.fetched told are) inv.user
+          c.lines.user c.as_slice.result.now given.0 (g.H.Host.state c.args.host.now) (g.H.Host.state c.lines.host) (g.H.Host.state c.serve.new.host) (inv.fetched none told are) inv.user
           (next_lines c.next_line.new.self.ended given.0 left later given.1)
           (line_kept c.lines.user c.as_slice.result.now c.next_line.new.line.items given.0 inv.user c.as_slice.ensures.value given.2)
-          c.serve.new.store.held _ c.serve.ensures.fetched c.serve.ensures.still;
+          c.serve.new.store.held _ (c.serve.ensures.fetched (none_still c.args.steps c.args.store.held c.lines.store.held (inv.fetched none told are).same none))
+          (c.serve.ensures.still (none_still c.args.steps c.args.store.held c.lines.store.held (inv.fetched none told are).same none));
       at_end = λ told. c.in_ok-next_line.ensures.at_end (inv.told ∙ told) (inv.at_end told);
     }
 
@@ -210,14 +211,14 @@ returns-clause-spent g c =
     c.lines.invariant.told c.lines.invariant.faults c.lines.invariant.counted c.next_line.ensures.took c.next_line.ensures.bounded
 
 pub returns-clause-served : goal.returns-clause-served
-returns-clause-served g c = λ w waits script stage at.
+returns-clause-served g c = λ w script stage at.
     let s = session_of (g.T.Stage.staged c.args.stage.now).files (codes "admin")
     in let t = session_of (g.T.Stage.staged c.lines.stage).files (codes "admin")
     in let none = no_lines _ _ _ _ _ c.if-branch.false (c.in_ok-next_line.ensures.given (c.lines.invariant.told ∙ script) (c.lines.invariant.at_end script))
     in (
       c.lines.store.held,
       gone_all c.args.steps w s t (g.S.Source.script c.args.source.now).left (left_of c.lines.reader (g.S.Source.script c.lines.source)) c.lines.reader.ended c.lines.failed
-          c.args.store.held c.lines.store.held (g.H.Host.state c.args.host.now) (g.H.Host.state c.lines.host) (c.lines.invariant.so_far w waits script stage at) none,
+          c.args.store.held c.lines.store.held (g.H.Host.state c.args.host.now) (g.H.Host.state c.lines.host) (c.lines.invariant.so_far w script stage at) none,
     )
 
 pub returns-in_err-next_line-clause-damaged : goal.returns-in_err-next_line-clause-damaged
@@ -225,8 +226,8 @@ returns-in_err-next_line-clause-damaged g c = λ by.
     let e = c.in_err-next_line.field-0.0
     in let is : c.from_residual-in_err-next_line.result ≡ Err (by_reading e)
     = err_is c.from_residual-in_err-next_line.result (by_reading e) c.from_residual-in_err-next_line.ensures.0 c.from_residual-in_err-next_line.ensures.1
-    in subst (λ (r : Result Bool RunErr). IfErr r (IsRunDamage (g.S.Source.script c.args.source.now) (g.T.Stage.staged c.lines.stage) (g.H.Host.state c.lines.host))) (sym is)
-    (reading_harmless e (g.S.Source.script c.args.source.now) (g.T.Stage.staged c.lines.stage) (g.H.Host.state c.lines.host))
+    in subst (λ (r : Result Bool RunErr). IfErr r (IsRunDamage c.args.steps (g.S.Source.script c.args.source.now) (g.T.Stage.staged c.lines.stage) (g.H.Host.state c.lines.host))) (sym is)
+    (reading_harmless c.args.steps e (g.S.Source.script c.args.source.now) (g.T.Stage.staged c.lines.stage) (g.H.Host.state c.lines.host))
 
 pub returns-in_err-next_line-clause-undamaged : goal.returns-in_err-next_line-clause-undamaged
 returns-in_err-next_line-clause-undamaged g c = λ w at.
@@ -236,14 +237,14 @@ returns-in_err-next_line-clause-undamaged g c = λ w at.
     in subst (λ (r : Result Bool RunErr). IfErr r IsUnharmed) (sym is) (unharmed_reading e)
 
 pub returns-in_err-next_line-clause-fetched : goal.returns-in_err-next_line-clause-fetched
-returns-in_err-next_line-clause-fetched g c = λ told are.
+returns-in_err-next_line-clause-fetched g c = λ none told are.
     fetches_all c.args.store.held c.lines.store.held (lines_of (g.S.Source.script c.args.source.now).left)
-    (lines_of (left_of c.lines.reader (g.S.Source.script c.lines.source))) (g.H.Host.state c.args.host.now) (g.H.Host.state c.lines.host) (c.lines.invariant.fetched told are)
+    (lines_of (left_of c.lines.reader (g.S.Source.script c.lines.source))) (g.H.Host.state c.args.host.now) (g.H.Host.state c.lines.host) (c.lines.invariant.fetched none told are)
 
 pub returns-clause-fetched : goal.returns-clause-fetched
-returns-clause-fetched g c = λ told are.
+returns-clause-fetched g c = λ none told are.
     fetches_all c.args.store.held c.lines.store.held (lines_of (g.S.Source.script c.args.source.now).left)
-    (lines_of (left_of c.lines.reader (g.S.Source.script c.lines.source))) (g.H.Host.state c.args.host.now) (g.H.Host.state c.lines.host) (c.lines.invariant.fetched told are)
+    (lines_of (left_of c.lines.reader (g.S.Source.script c.lines.source))) (g.H.Host.state c.args.host.now) (g.H.Host.state c.lines.host) (c.lines.invariant.fetched none told are)
 
 pub returns-in_err-served-clause-damaged : goal.returns-in_err-served-clause-damaged
 returns-in_err-served-clause-damaged g c = λ by.
@@ -256,17 +257,21 @@ returns-in_err-served-clause-damaged g c = λ by.
     in let e = c.in_err-served.field-0.0
     in let is : c.from_residual-in_err-served.result ≡ Err (by_serving e)
     = err_is c.from_residual-in_err-served.result (by_serving e) c.from_residual-in_err-served.ensures.0 c.from_residual-in_err-served.ensures.1
-    in subst (λ (r : Result Bool RunErr). IfErr r (IsRunDamage first staged host)) (sym is)
+    in subst (λ (r : Result Bool RunErr). IfErr r (IsRunDamage c.args.steps first staged host)) (sym is)
     (run_damage c.lines.user c.as_slice.result.now c.lines.invariant.user c.lines.store c.serve.new.store first stage staged (g.H.Host.state c.lines.host) host c.serve.ensures.attended.told
     (λ command asks_ told.
     let given = given_true _ _ _ _ _ c.if-branch.true (c.in_ok-next_line.ensures.given (c.lines.invariant.told ∙ told) (c.lines.invariant.at_end told))
     in asked_among c.next_line.new.self.ended c.lines.user c.as_slice.result.now c.next_line.new.line.items given.0 first.left left later c.lines.invariant.user c.as_slice.ensures.value given.2
     (c.lines.invariant.lined told) given.1 command asks_)
-    e
+    (λ some told.
+    let given = given_true _ _ _ _ _ c.if-branch.true (c.in_ok-next_line.ensures.given (c.lines.invariant.told ∙ told) (c.lines.invariant.at_end told))
+    in reply_among c.next_line.new.self.ended c.lines.user c.as_slice.result.now c.next_line.new.line.items given.0 first.left left later c.lines.invariant.user c.as_slice.ensures.value given.2
+    (c.lines.invariant.lined told) given.1 some)
+    c.args.steps e
     (λ fine tells.
     let tells_old : (g.H.Host.state c.lines.host).tells ≡ true = sym c.serve.ensures.goes.told ∙ tells
     in c.in_err-served.ensures.by_journal (c.lines.invariant.by_journal by tells_old) (λ is. fine (err_end e ending.Host is)))
-    c.in_err-served.ensures.damaged c.in_err-served.ensures.idle)
+    c.in_err-served.ensures.damaged)
 
 pub returns-in_err-served-clause-undamaged : goal.returns-in_err-served-clause-undamaged
 returns-in_err-served-clause-undamaged g c = λ w at.
@@ -277,12 +282,12 @@ returns-in_err-served-clause-undamaged g c = λ w at.
     in subst (λ (r : Result Bool RunErr). IfErr r IsUnharmed) (sym is) (unharmed e (c.in_err-served.ensures.undamaged so.0 so.1))
 
 pub returns-in_err-served-clause-fetched : goal.returns-in_err-served-clause-fetched
-returns-in_err-served-clause-fetched g c = λ told are.
+returns-in_err-served-clause-fetched g c = λ none told are.
     let left = left_of c.lines.reader (g.S.Source.script c.lines.source)
     in let later = left_of c.next_line.new.self (g.S.Source.script c.next_line.new.source)
     in let given = given_true _ _ _ _ _ c.if-branch.true (c.in_ok-next_line.ensures.given (c.lines.invariant.told ∙ told) (c.lines.invariant.at_end told))
     in fetches_ends c.args.store.held c.lines.store.held (lines_of (g.S.Source.script c.args.source.now).left) (lines_of left) (lines_of later)
-    c.lines.user c.as_slice.result.now given.0 (g.H.Host.state c.args.host.now) (g.H.Host.state c.lines.host) (g.H.Host.state c.serve.new.host) (c.lines.invariant.fetched told are) c.lines.invariant.user
+    c.lines.user c.as_slice.result.now given.0 (g.H.Host.state c.args.host.now) (g.H.Host.state c.lines.host) (g.H.Host.state c.serve.new.host) (c.lines.invariant.fetched none told are) c.lines.invariant.user
     (next_lines c.next_line.new.self.ended given.0 left later given.1)
     (line_kept c.lines.user c.as_slice.result.now c.next_line.new.line.items given.0 c.lines.invariant.user c.as_slice.ensures.value given.2)
-    c.serve.new.store.held _ c.serve.ensures.fetched
+    c.serve.new.store.held _ (c.serve.ensures.fetched (none_still c.args.steps c.args.store.held c.lines.store.held (c.lines.invariant.fetched none told are).same none))

@@ -1,12 +1,12 @@
 use Rattle.std.proofs.Common.{◌≡◌, ◌≤◌, ◌+◌, ℕ, List, ◌++◌, true, length, codes}
 use Rattle.ov_core.specs.AtWorld.{IsAtWorld}
-use Rattle.law_runs.specs.Idle.{TakesNone}
 use Rattle.law_runs.specs.Serving.{session_of}
 use Rattle.ov_core.specs.Held.{IsByJournal}
 use Rattle.ov_model.specs.Words.{lines_of}
 use Rattle.ov_model.specs.World.{World}
 use Rattle.ov_session.specs.Commands.{Attended, Goes}
 use Rattle.ov_session.specs.Standing.{IsAtSome}
+use Rattle.ov_session.specs.Stepping.{TakesNoStep}
 use Rattle.ov_store.specs.Kept.{MayCall}
 use Rattle.ov_script.specs.Reader.{IsAtEnd, left_of, room_of}
 use Rattle.ov_top.specs.Running.{AreReading}
@@ -27,7 +27,7 @@ invariant-lines g l =
       counted : (script l.fn.source).tells ≡ true → length (script l.fn.source).left ≡ length (script l.source).left + l.reader.count;
       call : MayCall l.store (state l.host);
       user : l.user ≡ codes "admin";
-      so_far : (w : World) → TakesNone l.fn.steps w → (script l.fn.source).tells ≡ true → (staged l.fn.stage).tells ≡ true → IsAtWorld w l.fn.store.held (state l.fn.host)
+      so_far : (w : World) → (script l.fn.source).tells ≡ true → (staged l.fn.stage).tells ≡ true → IsAtWorld w l.fn.store.held (state l.fn.host)
           → Gone l.fn.steps w (session_of (staged l.fn.stage).files (codes "admin")) (session_of (staged l.stage).files (codes "admin"))
           (script l.fn.source).left (left_of l.reader (script l.source)) l.reader.ended l.failed l.fn.store.held l.store.held (state l.fn.host) (state l.host);
       lined : (script l.fn.source).tells ≡ true
@@ -35,7 +35,7 @@ invariant-lines g l =
       by_journal : ((state l.fn.host).tells ≡ true → IsByJournal l.fn.store.held (state l.fn.host)) → (state l.host).tells ≡ true
           → IsByJournal l.store.held (state l.host);
       at : (w : World) → IsAtWorld w l.fn.store.held (state l.fn.host) → IsAtSome l.store.held (state l.host);
-      fetched : (script l.fn.source).tells ≡ true → AreReading (lines_of (script l.fn.source).left)
+      fetched : TakesNoStep l.fn.steps l.fn.store.held.numbers → (script l.fn.source).tells ≡ true → AreReading (lines_of (script l.fn.source).left)
           → Fetches l.fn.store.held l.store.held (lines_of (script l.fn.source).left) (lines_of (left_of l.reader (script l.source)))
           (state l.fn.host) (state l.host);
       at_end : (script l.fn.source).tells ≡ true → IsAtEnd l.reader (script l.source);
