@@ -4,13 +4,13 @@ use Rattle.std.specs.Prelude.{if◌then◌else◌, codes, Result, Ok, Err}
 use Rattle.ov_value.specs.Making.{schema_of}
 use Rattle.ov_value.specs.Naming.{is_name}
 use Rattle.ov_model.specs.BuiltShapes.{if_built, is_built_shape, made_if_built, served_form, served_forms}
-use Rattle.ov_model.specs.Forms.{Form, Choice, Values, text_in, columns_in, names_in, word_of, choice, or_schema_refusal, make_init, some_columns, before_in, own_in, alone, of_cvd, of_name, init_form, checkout_form, commit_staged_form, commit_form, run_form, optimize_form, advise_form, migrate_form, generate_form, unstage_form, file_or_table, may_have, all_forms, built_forms}
+use Rattle.ov_model.specs.Forms.{Form, Choice, Values, text_in, columns_in, names_in, word_of, choice, or_schema_refusal, make_init, some_columns, before_in, own_in, alone, of_cvd, of_name, init_form, checkout_form, commit_staged_form, commit_form, run_form, optimize_form, advise_form, migrate_form, generate_form, unstage_form, file_or_table, threshold_or_budget, needs, may_have, all_forms, built_forms}
 use Rattle.ov_model.specs.Line.{has}
 use Rattle.ov_model.specs.QueryTexts.{asked_of}
 use Rattle.ov_model.specs.Values.{number_from}
 use Rattle.ov_model.specs.declared.command.Command.{Command}
 use Rattle.ov_model.specs.declared.command.Command.TheVariants as asks
-use Rattle.ov_model.specs.declared.given.Reading.TheVariants.{FileName, SchemaItems}
+use Rattle.ov_model.specs.declared.given.Reading.TheVariants.{FileName, SchemaItems, TwoNumbers}
 use Rattle.ov_model.specs.declared.refusal.Refusal.{Refusal}
 use Rattle.ov_model.specs.declared.refusal.Refusal.TheVariants as no
 use Rattle.law_partitions.specs.Sound.{NamesVersions, AllNameVersions}
@@ -49,9 +49,9 @@ commit_is more reads = record {
 run_is : IsForm run_form
 run_is = record { reads = tt; makes = λ v none good. tt; whole = λ e v. tt }
 
-optimize_is : IsForm optimize_form
-optimize_is = record {
-  reads = (((λ e. off e), refl), (((λ e. off e), refl), tt));
+optimize_is : (choices : List Choice) → AllRead choices → IsForm (optimize_form choices)
+optimize_is choices reads = record {
+  reads = reads;
   makes = λ v none good. optimize_names (text_in (word_of v 0)) (choice v (codes "-d")) (choice v (codes "-s"));
   whole = λ e. off e;
 }
@@ -151,14 +151,20 @@ built_are = (
       (
         run_is,
         (
-          cvd_is (codes "layout") asks.Layout (λ cvd. tt),
+          optimize_is (needs (codes "-d") TwoNumbers ∷ []) (((λ e. off e), refl), tt),
           (
-            cvd_is (codes "log") asks.Log (λ cvd. tt),
+            migrate_is,
             (
-              cvd_is (codes "drop") asks.DropCvd (λ cvd. tt),
+              cvd_is (codes "layout") asks.Layout (λ cvd. tt),
               (
-                alone_is (codes "ls") asks.Ls tt,
-                (generate_is, tt),
+                cvd_is (codes "log") asks.Log (λ cvd. tt),
+                (
+                  cvd_is (codes "drop") asks.DropCvd (λ cvd. tt),
+                  (
+                    alone_is (codes "ls") asks.Ls tt,
+                    (generate_is, tt),
+                  ),
+                ),
               ),
             ),
           ),

@@ -1,6 +1,6 @@
 -- Each command that a line asks for, by the forms that the program has.
 use Rattle.std.proofs.Common.{◌≡◌, ◌≤◌, ◌^◌, ℕ, Bool, true, false, ◌||◌, ◌==◌, List, [], ◌∷◌, ◌++◌, length, drop, refl, sym, ap, subst, arith}
-use Rattle.std.specs.Prelude.{◌≢◌, ◌&&◌, not, if◌then◌else◌, nat_lt, codes, Option, Some, None, Result, Ok, Err, IfOk}
+use Rattle.std.specs.Prelude.{◌≢◌, ◌&&◌, not, if◌then◌else◌, nat_lt, codes, is_some, Option, Some, None, Result, Ok, Err, IfOk}
 use Rattle.std.specs.List.{position_or_len}
 use Rattle.std.specs.Option.{option_map}
 use Rattle.std.specs.Str.{bytes_eq, is_utf8}
@@ -9,21 +9,21 @@ use Rattle.std.proofs.lemmas.List.{length-drop}
 use Rattle.ov_value.specs.Making.{schema_of}
 use Rattle.ov_value.specs.Naming.{is_name}
 use Rattle.ov_value.specs.Shapes.{Shape}
-use Rattle.ov_model.specs.Forms.{Values, Form, text_in, vids_in, columns_in, names_in, before_in, own_in, generate_form, word_of, choice, or_schema_refusal, init_with, make_init, make_checkout, some_columns, commit_with, make_commit, alone, of_cvd, init_form, checkout_form, commit_form, run_form, may_have, built_forms}
-use Rattle.ov_model.specs.Line.{Line, Comment, Asks, Refused, Read, missing, unless_missing, made_by, answer, by_words, first_of, has_second, form_of, off_all, by_form, by_name, read_words, line_of}
+use Rattle.ov_model.specs.Forms.{Values, Form, text_in, vids_in, columns_in, names_in, before_in, own_in, generate_form, word_of, choice, or_schema_refusal, init_with, make_init, make_checkout, some_columns, commit_with, make_commit, alone, of_cvd, init_form, checkout_form, commit_form, run_form, optimize_by, optimize_form, migrate_form, needs, may_have, built_forms}
+use Rattle.ov_model.specs.Line.{Line, Comment, Asks, Refused, Read, has, missing, unless_missing, made_by, answer, by_words, first_of, has_second, form_of, off_all, by_form, by_name, read_words, line_of}
 use Rattle.ov_model.specs.Words.{Next, NoWord, Word, Unclosed, next_word, words_of, without_blanks, is_blank, is_comment, is_no_blank, plain, quoted, word_at}
 use Rattle.ov_model.specs.declared.command.Command.{Command}
 use Rattle.ov_model.specs.declared.command.Command.TheVariants as asks
 use Rattle.ov_model.specs.Values.{number_from}
 use Rattle.ov_model.specs.declared.given.Given.{Given}
 use Rattle.ov_model.specs.declared.given.Given.TheVariants.{Text}
-use Rattle.ov_model.specs.declared.given.Reading.TheVariants.{FileName}
+use Rattle.ov_model.specs.declared.given.Reading.TheVariants.{FileName, TwoNumbers}
 use Rattle.ov_model.specs.declared.refusal.Refusal.{Refusal}
 use Rattle.ov_model.specs.declared.refusal.Refusal.TheVariants as no
 use Rattle.ov_cmd.specs.Asked.{IsAsked, AsksBuilt}
 use Rattle.ov_cmd.specs.Said.{said}
 use Rattle.ov_cmd.specs.declared.line_err.LineErr.{LineErr}
-use Rattle.ov_cmd.proofs.FormValues.{AreBoth, AreGood, AllRead, WordsRead, four_read, words_good, words_read, no_table, no_added, versions_there, message_short}
+use Rattle.ov_cmd.proofs.FormValues.{AreBoth, AreGood, AllRead, WordsRead, four_read, words_good, words_read, no_blank, first_there, no_table, no_added, versions_there, message_short}
 
 -- what is made is a command with what is known of it, or a refusal
 abbrev IsMade : Result Command Refusal → Type 0
@@ -113,6 +113,23 @@ commit_is = record {
 run_is : IsForm run_form
 run_is = record { reads = tt; makes = λ plain. on plain; whole = λ e text short. short }
 
+-- by a threshold, which is needed
+optimize_made : (cvd : List ℕ) (ratio budget : Option Given) → is_some ratio ≡ true → IsMade (Ok (optimize_by cvd ratio budget))
+optimize_made cvd (Some ratio) budget there = tt
+optimize_made cvd None budget there = off there
+
+optimize_is : IsForm (optimize_form (needs (codes "-d") TwoNumbers ∷ []))
+optimize_is = record {
+  reads = (record { versions = λ e. off e; message = λ e. off e; written = refl; no_table = refl; no_added = refl }, tt);
+  makes = λ plain v none good words.
+      optimize_made (text_in (word_of v 0)) (choice v (codes "-d")) (choice v (codes "-s"))
+      (first_there (has v.options (codes "-d")) (has v.options []) (codes "-d") None (no_blank v.options good) none);
+  whole = λ e. off e;
+}
+
+migrate_is : IsForm migrate_form
+migrate_is = record { reads = tt; makes = λ plain v none good words. tt; whole = λ e. off e }
+
 cvd_is : (name : List ℕ) (ask : List ℕ → Command) → ((cvd : List ℕ) → IsAsked (ask cvd)) → IsForm (of_cvd name ask)
 cvd_is name ask is = record { reads = tt; makes = λ plain v none good words. is (text_in (word_of v 0)); whole = λ e. off e }
 
@@ -143,14 +160,20 @@ built_are = (
       (
         run_is,
         (
-          cvd_is (codes "layout") asks.Layout (λ cvd. tt),
+          optimize_is,
           (
-            cvd_is (codes "log") asks.Log (λ cvd. tt),
+            migrate_is,
             (
-              cvd_is (codes "drop") asks.DropCvd (λ cvd. tt),
+              cvd_is (codes "layout") asks.Layout (λ cvd. tt),
               (
-                alone_is (codes "ls") asks.Ls tt,
-                (generate_is, tt),
+                cvd_is (codes "log") asks.Log (λ cvd. tt),
+                (
+                  cvd_is (codes "drop") asks.DropCvd (λ cvd. tt),
+                  (
+                    alone_is (codes "ls") asks.Ls tt,
+                    (generate_is, tt),
+                  ),
+                ),
               ),
             ),
           ),

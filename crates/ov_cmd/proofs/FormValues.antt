@@ -171,7 +171,7 @@ has_versions (o ∷ os) good e = versions_if (bytes_eq o.0 (codes "-v")) o os go
 some_none : {X : Type 0} (x : X) → Some x ≡ None → ⊥
 some_none x e = cc
 
-first_there : (t u : Bool) (letter : List ℕ) (rest : Option (List ℕ)) → u ≡ false → (if not (t || u) then Some letter else rest) ≡ None → t ≡ true
+pub first_there : (t u : Bool) (letter : List ℕ) (rest : Option (List ℕ)) → u ≡ false → (if not (t || u) then Some letter else rest) ≡ None → t ≡ true
 first_there true u letter rest f e = refl
 first_there false true letter rest f e = cc
 first_there false false letter rest f e = absurd (some_none letter e)

@@ -123,6 +123,13 @@ const THRESHOLD: Choice = Choice {
     rival: "-s",
 };
 
+const BY_THRESHOLD: Choice = Choice {
+    letter: "-d",
+    reads: Reading::TwoNumbers,
+    needed: true,
+    rival: "",
+};
+
 const BUDGET_OR_THRESHOLD: Choice = Choice {
     letter: "-s",
     reads: A_NUMBER,
@@ -307,7 +314,7 @@ static ALL: [Form; 19] = [
 ];
 
 /// The commands that the program has so far.
-static BUILT: [Form; 9] = [
+static BUILT: [Form; 11] = [
     Form {
         name: "init",
         second: None,
@@ -339,6 +346,25 @@ static BUILT: [Form; 9] = [
         params: &[],
         choices: &[],
         maker: Maker::Run,
+    },
+    Form {
+        name: "optimize",
+        second: None,
+        whole: false,
+        params: &[CVD],
+        choices: &[BY_THRESHOLD],
+        maker: Maker::Optimize,
+    },
+    Form {
+        name: "migrate",
+        second: None,
+        whole: false,
+        params: &[Param {
+            what: "n",
+            reads: Reading::CountTo { most: 1_000_000 },
+        }],
+        choices: &[],
+        maker: Maker::Migrate,
     },
     Form {
         name: "layout",

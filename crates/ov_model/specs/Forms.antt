@@ -230,10 +230,9 @@ commit_staged_form = record {
 abbrev pub run_form : Form
 run_form = record { name = codes "run"; second = None; whole = true; params = []; choices = []; make = λ v. Ok (asks.Run (text_in (word_of v 0))) }
 
-abbrev pub optimize_form : Form
-optimize_form =
-    form (codes "optimize") (word (codes "cvd") ∷ [])
-    (either true (codes "-s") (codes "-d") TwoNumbers ∷ either false (codes "-d") (codes "-s") (NumberFrom 0 (10 ^ 18)) ∷ []) make_optimize
+-- with these options
+abbrev pub optimize_form : List Choice → Form
+optimize_form choices = form (codes "optimize") (word (codes "cvd") ∷ []) choices make_optimize
 
 abbrev pub advise_form : Form
 advise_form =
@@ -257,15 +256,19 @@ unstage_form =
 abbrev pub file_or_table : List Choice
 file_or_table = either false (codes "-t") (codes "-f") FileName ∷ either false (codes "-f") (codes "-t") AnyText ∷ []
 
+abbrev pub threshold_or_budget : List Choice
+threshold_or_budget = either true (codes "-s") (codes "-d") TwoNumbers ∷ either false (codes "-d") (codes "-s") (NumberFrom 0 (10 ^ 18)) ∷ []
+
 abbrev pub all_forms : List Form
 all_forms =
     init_form ∷ checkout_form file_or_table ∷ commit_staged_form ∷ commit_form (may_have (codes "-a") SchemaItems ∷ []) ∷ run_form
-    ∷ optimize_form ∷ advise_form ∷ migrate_form ∷ of_cvd (codes "layout") asks.Layout ∷ of_cvd (codes "log") asks.Log
+    ∷ optimize_form threshold_or_budget ∷ advise_form ∷ migrate_form ∷ of_cvd (codes "layout") asks.Layout ∷ of_cvd (codes "log") asks.Log
     ∷ of_cvd (codes "drop") asks.DropCvd ∷ alone (codes "ls") asks.Ls ∷ alone (codes "checkpoint") asks.Checkpoint
     ∷ alone (codes "whoami") asks.Whoami ∷ alone (codes "tables") asks.Tables ∷ generate_form
     ∷ of_name (codes "create_user") asks.CreateUser ∷ of_name (codes "config") asks.Config ∷ unstage_form ∷ []
 
 abbrev pub built_forms : List Form
 built_forms =
-    init_form ∷ checkout_form (may_have (codes "-f") FileName ∷ []) ∷ commit_form [] ∷ run_form ∷ of_cvd (codes "layout") asks.Layout
+    init_form ∷ checkout_form (may_have (codes "-f") FileName ∷ []) ∷ commit_form [] ∷ run_form
+    ∷ optimize_form (needs (codes "-d") TwoNumbers ∷ []) ∷ migrate_form ∷ of_cvd (codes "layout") asks.Layout
     ∷ of_cvd (codes "log") asks.Log ∷ of_cvd (codes "drop") asks.DropCvd ∷ alone (codes "ls") asks.Ls ∷ generate_form ∷ []
