@@ -116,7 +116,7 @@ pub const NOBODY: [Line; 5] = [
     ("checkout none -v 1", "id,name,score\n"),
 ];
 
-pub const OFF_LINES: [Line; 15] = [
+pub const OFF_LINES: [Line; 21] = [
     ("checkout people\n", "error 52: missing -v\n"),
     ("ls x\n", "error 53: unexpected word 2\n"),
     (
@@ -149,8 +149,14 @@ pub const OFF_LINES: [Line; 15] = [
         "error 31: the header differs from the schema\n",
     ),
     ("layout\n", "error 52: missing cvd\n"),
-    ("optimize people -d 1/2\n", "error 51: unknown command\n"),
-    ("migrate 3\n", "error 51: unknown command\n"),
+    ("optimize people -d 1/2\n", "error 10: no dataset people\n"),
+    ("optimize people\n", "error 52: missing -d\n"),
+    ("optimize people -s 9\n", "error 53: unexpected word 3\n"),
+    ("optimize people -d half\n", "error 54: bad number\n"),
+    ("migrate\n", "error 52: missing n\n"),
+    ("migrate 1000001\n", "error 54: bad number\n"),
+    ("migrate 3\n", "steps 0 left 0\n"),
+    ("checkpoint\n", "error 51: unknown command\n"),
     ("\"\n", "error 58: a quote is not closed\n"),
     ("frob", "error 51: unknown command\n"),
 ];

@@ -8,20 +8,22 @@ use std::alloc::{AllocError, Global};
 use std::test::Fail;
 
 // Each has one reply, and makes one move at most.
-const LINES: [&str; 9] = [
+const LINES: [&str; 11] = [
     "init people -s id:int,name:text,score:int -k id -f a.csv\n",
     "commit people -v 1 -f b.csv -m raise\n",
     "checkout people -v 1,2\n",
     "run SELECT vid, COUNT(*), SUM(score) FROM CVD people GROUP BY vid\n",
     "commit people -v 7 -f b.csv -m none\n",
     "commit people -v 1,2 -f m.csv -m both\n",
+    "optimize people -d 1/1\n",
+    "migrate 1\n",
     "init other -s id:int,name:text,score:int -k id -f b.csv\n",
     "drop people\n",
     "checkout other -v 1 -f out.csv\n",
 ];
 
 const PROBE: &str =
-    "ls\nlog people\nlog other\ncheckout people -v 1\ncheckout people -v 2,1\ncheckout people -v 3\ncheckout other -v 1\n";
+    "ls\nlog people\nlog other\nlayout people\ncheckout people -v 1\ncheckout people -v 2,1\ncheckout people -v 3\ncheckout other -v 1\n";
 
 fn script_of(alloc: Global, lines: &[&str]) -> Result<Vec<u8>, AllocError> {
     let mut script = Vec::new(alloc);
