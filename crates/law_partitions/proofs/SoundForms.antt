@@ -96,7 +96,7 @@ all_are = (
         (
           run_is,
           (
-            optimize_is,
+            optimize_is threshold_or_budget (((λ e. off e), refl), (((λ e. off e), refl), tt)),
             (
               advise_is,
               (
