@@ -1,0 +1,4 @@
+pub mod Ends
+pub mod Leaves
+pub mod Runs
+pub mod Told

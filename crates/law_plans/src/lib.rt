@@ -1,0 +1,13 @@
+//! Laws of finished plans: what a plan leaves that ended in a run, and that its optimize told it.
+//!
+//! There is no code here. Each law is the contract of a function that does nothing, over the definitions of `ov_model` and
+//! `law_partitions`. The laws are of every run from a World of which `HasPlans` holds, as it does of each that an image stands
+//! for.
+#![tactic(auto)]
+
+mod laws;
+
+pub use laws::{
+    a_finished_plan_is_as_told, a_finished_plan_is_the_split, a_plan_has_all_versions_until_a_commit,
+    a_split_stays, the_last_flip_leaves_all_tight, worlds_of_images_have_plans,
+};
