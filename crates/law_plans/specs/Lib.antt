@@ -2,3 +2,4 @@ pub mod Ends
 pub mod Leaves
 pub mod Runs
 pub mod Told
+pub mod Worked

@@ -8,6 +8,7 @@
 mod laws;
 
 pub use laws::{
-    a_finished_plan_is_as_told, a_finished_plan_is_the_split, a_plan_has_all_versions_until_a_commit,
-    a_split_stays, the_last_flip_leaves_all_tight, worlds_of_images_have_plans,
+    a_finished_plan_is_as_told, a_finished_plan_is_the_split, a_plan_ends_in_a_run,
+    a_plan_has_all_versions_until_a_commit, a_split_stays, the_last_flip_leaves_all_tight,
+    worlds_of_images_have_plans,
 };

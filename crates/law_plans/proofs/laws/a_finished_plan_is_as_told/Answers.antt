@@ -1,4 +1,5 @@
 use Rattle.law_plans.proofs.Answering.{answered}
+use Rattle.law_plans.proofs.FromImages.{image_told}
 use Rattle.law_plans.proofs.Standing.{as_told}
 use Rattle.law_plans.proofs.Telling.{threshold_is}
 use Rattle.law_plans.proofs.laws.a_finished_plan_is_as_told.Goals as goal
@@ -11,3 +12,6 @@ returns-clause-threshold c = threshold_is
 
 pub returns-clause-run : goal.returns-clause-run
 returns-clause-run c = as_told
+
+pub returns-clause-image : goal.returns-clause-image
+returns-clause-image c = image_told
