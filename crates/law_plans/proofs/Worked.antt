@@ -1,6 +1,8 @@
 -- The worked run, by computing.
 use Rattle.std.proofs.Common.{◌≡◌, ◌≤◌, ◌<◌, ℕ, ◌+◌, List, [], ◌∷◌, refl, sym, ap, subst, inl, arith}
 use Rattle.std.specs.Prelude.{Some, None, codes, slice_get}
+use lib.Utf8.{encode}
+use Rattle.std.specs.Str.{is_utf8, chars}
 use Rattle.ov_graph.specs.Splits.{is_under, stops, may_cut, versions_apart, records_apart, chosen, cuts_within, cuts_of}
 use Rattle.ov_value.specs.Making.{name_refusal, column_refusal, key_refusal}
 use Rattle.ov_value.specs.Naming.{is_name, is_vid, is_column_name}
@@ -23,7 +25,7 @@ pub the_run : IsRun the_world the_items
 the_run = any_run the_image the_world 1 the_session (lines_of (codes "optimize people -d 1/2\n")) [] the_image_stands
 
 the_moves : moves_of the_items ≡ BeginPlan 1 1 2 ∷ Flip 1 ∷ []
-unfolding is_name is_vid is_column_name name_refusal column_refusal key_refusal is_under stops may_cut versions_apart records_apart chosen cuts_within cuts_of
+unfolding encode is_utf8 chars is_name is_vid is_column_name name_refusal column_refusal key_refusal is_under stops may_cut versions_apart records_apart chosen cuts_within cuts_of
 the_moves = refl
 
 the_first : slice_get (moves_of the_items) 0 ≡ Some (BeginPlan 1 1 2)

@@ -36,7 +36,7 @@ pub fn worlds_of_images_have_plans()
 
 /// Directly behind the flip that ends a plan which has all versions of its dataset, the partitions, by number, are the parts of
 /// the split in order, each tight, and both bounds hold of them.
-pub fn a_finished_plan_is_the_split()
+pub fn the_last_flip_leaves_the_split()
     ensures run { (w : World) (items : List Item) (k : ℕ) (d : Dataset) (plan : Plan) → IsRun w items → EndsPlan w items k d plan → HasAllVersions d plan
         → IsFinished (world_at w items (k + 1)) (flipped d) plan.p plan.q }
     ensures image { (c : Image) (w : World) (steps : ℕ) (s : Session) (lines : List (List ℕ)) (space : Space) (k : ℕ) (d : Dataset) (plan : Plan) → StandsAs w c
@@ -45,7 +45,7 @@ pub fn a_finished_plan_is_the_split()
 {}
 
 /// They stay so in each later World until a commit to that dataset, a flip of it or its drop.
-pub fn a_split_stays()
+pub fn the_split_stays()
     ensures run { (w : World) (items : List Item) (k j : ℕ) (d : Dataset) (plan : Plan) → IsRun w items → EndsPlan w items k d plan → HasAllVersions d plan
         → k < j → Between items (k + 1) j (LeavesParts d.cvd.number) → StaysSplit (world_at w items j) (flipped d) plan.p plan.q }
     ensures image { (c : Image) (w : World) (steps : ℕ) (s : Session) (lines : List (List ℕ)) (space : Space) (k j : ℕ) (d : Dataset) (plan : Plan) → StandsAs w c
@@ -55,7 +55,7 @@ pub fn a_split_stays()
 {}
 
 /// A plan that began in a run has all versions of its dataset where it ends, exactly if no commit to that dataset came since.
-pub fn a_plan_has_all_versions_until_a_commit()
+pub fn all_versions_are_there_without_a_commit()
     ensures untouched { (w : World) (items : List Item) (b k p q : ℕ) (d : Dataset) (plan : Plan) → IsRun w items → EndsPlan w items k d plan
         → BeganAt items b k d.cvd.number p q → Between items (b + 1) k (BringsNoVersion d.cvd.number) → HasAllVersions d plan }
     ensures committed { (w : World) (items : List Item) (b k p q : ℕ) (d : Dataset) (plan : Plan) → IsRun w items → EndsPlan w items k d plan

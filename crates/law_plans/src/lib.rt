@@ -8,7 +8,7 @@
 mod laws;
 
 pub use laws::{
-    a_finished_plan_is_as_told, a_finished_plan_is_the_split, a_plan_ends_in_a_run,
-    a_plan_has_all_versions_until_a_commit, a_split_stays, the_last_flip_leaves_all_tight,
+    a_finished_plan_is_as_told, a_plan_ends_in_a_run, all_versions_are_there_without_a_commit,
+    the_last_flip_leaves_all_tight, the_last_flip_leaves_the_split, the_split_stays,
     worlds_of_images_have_plans,
 };

@@ -1,6 +1,6 @@
 use Rattle.law_plans.proofs.Finishing.{split_stays}
 use Rattle.law_plans.proofs.FromImages.{image_stays}
-use Rattle.law_plans.proofs.laws.a_split_stays.Goals as goal
+use Rattle.law_plans.proofs.laws.the_split_stays.Goals as goal
 
 pub returns-clause-run : goal.returns-clause-run
 returns-clause-run c = split_stays

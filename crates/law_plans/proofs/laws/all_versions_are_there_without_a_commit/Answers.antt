@@ -1,5 +1,5 @@
 use Rattle.law_plans.proofs.Telling.{has_all, no_commit}
-use Rattle.law_plans.proofs.laws.a_plan_has_all_versions_until_a_commit.Goals as goal
+use Rattle.law_plans.proofs.laws.all_versions_are_there_without_a_commit.Goals as goal
 
 pub returns-clause-untouched : goal.returns-clause-untouched
 returns-clause-untouched c = has_all
