@@ -1,0 +1,56 @@
+-- What the laws of runs ask of the World in which a run begins, where an image stands for it.
+use Rattle.std.proofs.Common.{◌≡◌, ℕ, List, [], ◌∷◌, refl, sym, subst, inl, inr}
+use Rattle.ov_host.specs.Disk.{Image}
+use Rattle.ov_model.specs.Act.{Session}
+use Rattle.ov_model.specs.BuiltShapes.{served_forms}
+use Rattle.ov_model.specs.Course.{Item, Space, course}
+use Rattle.ov_model.specs.Forms.{Form, all_forms}
+use Rattle.ov_model.specs.Moves.{Move, moved}
+use Rattle.ov_model.specs.World.{World, empty_world, empty_world_of}
+use Rattle.law_partitions.specs.PlanEnds.{ArePlanned}
+use Rattle.law_partitions.specs.Sound.{AllNameVersions}
+use Rattle.law_partitions.proofs.PlanMoves.{moved_planned}
+use Rattle.law_partitions.proofs.SoundForms.{all_name, served_name}
+use Rattle.law_partitions.proofs.SoundMoves.{empty_sound}
+use Rattle.ov_catalog.specs.Reached.{Leads, Reached}
+use Rattle.ov_catalog.proofs.Good.{IsGood, fits_due, good, good_moved, partitions}
+use Rattle.law_image.specs.Images.{StandsAs}
+use Rattle.law_plans.specs.Runs.{HasPlans, IsRun}
+
+pub empty_plans : HasPlans empty_world
+empty_plans = record { sound = empty_sound; old_or_new = tt; planned = tt }
+
+-- plans are kept by the moves that fit
+planned_leads : (ms : List Move) (v w : World) → Leads v ms w → IsGood v → ArePlanned v.sets → ArePlanned w.sets
+planned_leads [] v w leads is are = subst (λ x. ArePlanned x.sets) leads are
+planned_leads (m ∷ ms) v w leads is are =
+    planned_leads ms (moved m v) w leads.1 (good_moved m v leads.0 is) (moved_planned m v (fits_due m v leads.0 is) (partitions v is.sound) is.old are)
+
+reached_plans : (w : World) → Reached w → HasPlans w
+reached_plans w reached =
+    let is : IsGood w = good w reached
+    in let start : IsGood (empty_world_of reached.0) = good (empty_world_of reached.0) (reached.0, reached.1, [], refl)
+    in record { sound = is.sound; old_or_new = is.old; planned = planned_leads reached.2 (empty_world_of reached.0) w reached.3 start tt }
+
+pub image_plans : (c : Image) (w : World) → StandsAs w c → HasPlans w
+image_plans c w (inl new) = subst HasPlans (sym new.world) empty_plans
+image_plans c w (inr made) = reached_plans w made.by.stands.reached
+
+run_by : (forms : List Form) (c : Image) (w : World) (steps : ℕ) (s : Session) (lines : List (List ℕ)) (space : Space) → AllNameVersions forms lines → StandsAs w c
+    → IsRun w (course forms steps w s lines space).items
+run_by forms c w steps s lines space names stands = record {
+  forms = forms;
+  steps = steps;
+  session = s;
+  lines = lines;
+  space = space;
+  names = names;
+  plans = image_plans c w stands;
+  are = refl;
+}
+
+pub served_run : (c : Image) (w : World) (steps : ℕ) (s : Session) (lines : List (List ℕ)) (space : Space) → StandsAs w c → IsRun w (course served_forms steps w s lines space).items
+served_run c w steps s lines space stands = run_by served_forms c w steps s lines space (served_name lines) stands
+
+pub any_run : (c : Image) (w : World) (steps : ℕ) (s : Session) (lines : List (List ℕ)) (space : Space) → StandsAs w c → IsRun w (course all_forms steps w s lines space).items
+any_run c w steps s lines space stands = run_by all_forms c w steps s lines space (all_name lines) stands

@@ -1,0 +1,11 @@
+pub mod Answering
+pub mod Datasets
+pub mod Deeds
+pub mod Finishing
+pub mod FromImages
+pub mod Images
+pub mod Standing
+pub mod Telling
+pub mod Waiting
+pub mod Walking
+pub mod Worked

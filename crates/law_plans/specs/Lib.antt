@@ -1,0 +1,5 @@
+pub mod Ends
+pub mod Leaves
+pub mod Runs
+pub mod Told
+pub mod Worked
