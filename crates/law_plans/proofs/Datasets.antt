@@ -1,12 +1,12 @@
 -- What a move makes of each dataset, and from which one each dataset came.
-use Rattle.std.proofs.Common.{◌≡◌, ◌≤◌, ◌<◌, ◌⊎◌, ℕ, ◌+◌, Bool, true, false, ◌==◌, List, [], ◌∷◌, ◌++◌, map, filter, refl, sym, ◌∙◌, ap, subst, inl, inr, arith}
+use Rattle.std.proofs.Common.{◌≡◌, ◌≤◌, ◌<◌, ◌⊎◌, ℕ, Bool, true, false, List, [], ◌∷◌, ◌++◌, map, filter, refl, sym, ◌∙◌, ap, subst, inl, inr, arith}
 use Rattle.std.specs.Prelude.{◌≢◌, not, nat_lt, if◌then◌else◌, Option, Some, None}
-use Rattle.std.proofs.lemmas.Bool.{cases_Bool, eqb-true, ltb-true, ltb-false, ne_eqb}
+use Rattle.std.proofs.lemmas.Bool.{cases_Bool, ltb-true, ltb-false, ne_eqb}
 use Rattle.ov_model.specs.Lists.{IsIn}
 use Rattle.ov_model.specs.Moves.{Move, Init, Commit, BeginPlan, Copy, Flip, Drop, Checkpoint, moved, change, numbered, committed, new_set}
 use Rattle.ov_model.specs.Plans.{planned, copied_more, flipped_by, flipped}
 use Rattle.ov_model.specs.World.{Plan, Dataset, World}
-use Rattle.law_partitions.specs.Countdown.{AreNumbered, number_times}
+use Rattle.law_partitions.specs.Countdown.{AreNumbered}
 use Rattle.law_partitions.proofs.CourseNumbers.{committed_number, some_number}
 use Rattle.law_partitions.proofs.OldParts.{in_append, in_map, in_filter}
 

@@ -1,14 +1,14 @@
 -- What a command does begins no plan; or it begins one and does nothing else, and its reply tells what will stand.
-use Rattle.std.proofs.Common.{◌≡◌, ◌⊎◌, ℕ, zero, suc, ◌+◌, Bool, true, false, ◌==◌, List, [], ◌∷◌, ◌++◌, length, map, filter, refl, inl, inr}
-use Rattle.std.specs.Prelude.{not, nat_lt, codes, if◌then◌else◌, Option, Some, None, Result, Ok, Err}
+use Rattle.std.proofs.Common.{◌≡◌, ◌⊎◌, ℕ, zero, suc, Bool, true, false, ◌==◌, List, [], ◌∷◌, length, map, filter, refl, inl, inr}
+use Rattle.std.specs.Prelude.{not, nat_lt, if◌then◌else◌, Option, Some, None, Result, Ok, Err}
 use Rattle.ov_value.specs.Shapes.{Shape}
 use Rattle.ov_value.specs.declared.column.Column.{Column}
 use Rattle.ov_value.specs.declared.column.Kind.{Kind}
 use Rattle.ov_value.specs.declared.schema_err.SchemaErr.{SchemaErr}
-use Rattle.ov_model.specs.Act.{Session, Deed, checkout_deed, columns_of, commit_deed, commit_refusal, commit_rows, commit_under, does, drop_deed, fresh_of, generate_by, gives, if_so, init_deed, init_refusal, is_threshold, layout_deed, log_deed, merge_of, optimize_deed, optimize_refusal, optimized, records_refusal, refuses, rows_refusal, schema_with, tells, unless, vids_refusal, from_file, with_file, with_rows}
+use Rattle.ov_model.specs.Act.{Session, Deed, checkout_deed, columns_of, commit_deed, commit_refusal, commit_rows, commit_under, does, drop_deed, generate_by, gives, if_so, init_deed, init_refusal, is_threshold, layout_deed, log_deed, merge_of, optimize_deed, optimize_refusal, optimized, refuses, rows_refusal, schema_with, tells, unless, vids_refusal, from_file, with_file, with_rows}
 use Rattle.ov_model.specs.Asking.{answered, name_read, query_by, query_refusal, run_deed}
 use Rattle.ov_model.specs.Book.{Cvd, Row}
-use Rattle.ov_model.specs.Budget.{advise_by, advise_deed, choice, table, within_by, within_deed, within_refusal, within_reply}
+use Rattle.ov_model.specs.Budget.{advise_by, advise_deed, choice, table, within_by, within_deed, within_refusal}
 use Rattle.ov_model.specs.Csv.{rows_of}
 use Rattle.ov_model.specs.Deed.{changes, commit_from, commit_staged_deed, config_deed, config_refusal, create_refusal, create_user_deed, deed, file_of_table, is_own, permitted, stage_deed, stage_of, stage_refusal, staged, staged_by, staged_refusal, table_shown, tables_deed, unstage_deed, unstage_refusal, with_staged}
 use Rattle.ov_model.specs.Generator.{commits, generated}
@@ -16,7 +16,7 @@ use Rattle.ov_model.specs.Joins.{join_answer, join_by, join_deed, join_kinds, jo
 use Rattle.ov_model.specs.Kinds.{kinds}
 use Rattle.ov_model.specs.Lists.{IsIn}
 use Rattle.ov_model.specs.Merge.{in_key_order}
-use Rattle.ov_model.specs.Moves.{Move, Init, Commit, BeginPlan, Copy, Flip, Drop, Checkpoint, moved}
+use Rattle.ov_model.specs.Moves.{Move, Init, Commit, BeginPlan, Copy, Flip, moved}
 use Rattle.ov_model.specs.Plans.{missing, parts_at}
 use Rattle.ov_model.specs.QueryTexts.{Asked, AsksJoin, AsksQuery, BadByte, NoQuery, asked_of}
 use Rattle.ov_model.specs.Registry.{change_of, change_refusal, is_foreign, last_rows, stage_name, stage_schema, table_in, table_row, user_row, users_name, users_schema, version_rows, with_row, without_row}

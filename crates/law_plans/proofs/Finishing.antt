@@ -1,16 +1,15 @@
 -- The split that a finished plan leaves, and that it stays.
-use Rattle.std.proofs.Common.{◌≡◌, ◌≤◌, ◌<◌, ℕ, ◌+◌, ◌*◌, ◌^◌, Bool, true, false, ◌==◌, List, [], ◌∷◌, map, length, refl, sym, ◌∙◌, ap, subst, inl, inr, arith}
-use Rattle.std.specs.Prelude.{◌≢◌, if◌then◌else◌, Option, Some, None}
+use Rattle.std.proofs.Common.{◌≡◌, ◌≤◌, ◌<◌, ℕ, ◌+◌, ◌*◌, ◌^◌, true, ◌==◌, List, [], ◌∷◌, map, length, refl, sym, ◌∙◌, ap, subst, inl, inr, arith}
+use Rattle.std.specs.Prelude.{◌≢◌, None}
 use Rattle.std.specs.List.{sum}
 use Rattle.std.proofs.lemmas.Bool.{cond-true, eq-eqb, eqb-true}
 use Rattle.ov_graph.specs.Splits as splits
 use Rattle.ov_graph.specs.Trees.{all_records, all_members}
-use Rattle.ov_model.specs.Book.{Cvd}
 use Rattle.ov_model.specs.Course.{Item, world_at}
 use Rattle.ov_model.specs.Lists.{IsIn}
 use Rattle.ov_model.specs.Moves.{Move, Init, Commit, BeginPlan, Copy, Flip, Drop, Checkpoint, moved, numbered, committed}
 use Rattle.ov_model.specs.Plans.{planned, copied_more, flipped, depth_at, nodes_of_set, parts_at, sizes_of}
-use Rattle.ov_model.specs.World.{Part, Plan, Dataset, World, copied_records, cost, held, stored}
+use Rattle.ov_model.specs.World.{Plan, Dataset, World, copied_records, cost, held, stored}
 use Rattle.ov_model.proofs.Courses.{at_next}
 use Rattle.law_partitions.specs.OldOrNew.{IsOldOrNew}
 use Rattle.law_partitions.specs.Pieces.{ArePieces, HasPieces}

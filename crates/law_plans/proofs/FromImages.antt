@@ -13,7 +13,7 @@ use Rattle.law_partitions.specs.PlanEnds.{HasAllVersions}
 use Rattle.law_image.specs.Images.{StandsAs}
 use Rattle.law_plans.specs.Ends.{BeganAt, BeginsNoPlan, EndsPlan, LeavesParts, Waits}
 use Rattle.law_plans.specs.Leaves.{IsFinished, StaysSplit}
-use Rattle.law_plans.specs.Runs.{Between, IsRun}
+use Rattle.law_plans.specs.Runs.{Between}
 use Rattle.law_plans.specs.Told.{IsAsTold}
 use Rattle.law_plans.proofs.Finishing.{ends_finished, ends_tight, split_stays}
 use Rattle.law_plans.proofs.Images.{served_run}

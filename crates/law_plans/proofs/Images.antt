@@ -1,9 +1,9 @@
 -- What the laws of runs ask of the World in which a run begins, where an image stands for it.
-use Rattle.std.proofs.Common.{◌≡◌, ℕ, List, [], ◌∷◌, refl, sym, subst, inl, inr}
+use Rattle.std.proofs.Common.{ℕ, List, [], ◌∷◌, refl, sym, subst, inl, inr}
 use Rattle.ov_host.specs.Disk.{Image}
 use Rattle.ov_model.specs.Act.{Session}
 use Rattle.ov_model.specs.BuiltShapes.{served_forms}
-use Rattle.ov_model.specs.Course.{Item, Space, course}
+use Rattle.ov_model.specs.Course.{Space, course}
 use Rattle.ov_model.specs.Forms.{Form, all_forms}
 use Rattle.ov_model.specs.Moves.{Move, moved}
 use Rattle.ov_model.specs.World.{World, empty_world, empty_world_of}

@@ -1,5 +1,5 @@
 -- What stands when a plan has ended is what its optimize told.
-use Rattle.std.proofs.Common.{◌≡◌, ℕ, ◌+◌, List, map, length, refl, sym, ◌∙◌, ap, subst}
+use Rattle.std.proofs.Common.{◌≡◌, ℕ, ◌+◌, List, length, sym, ◌∙◌, ap, subst}
 use Rattle.std.specs.Prelude.{Some}
 use Rattle.std.proofs.lemmas.List.{length-map}
 use Rattle.ov_graph.specs.Trees.{all_records, all_members}
@@ -11,7 +11,7 @@ use Rattle.law_partitions.specs.PlanEnds.{HasAllVersions, IsSplit}
 use Rattle.law_plans.specs.Ends.{BeganAt, EndsPlan}
 use Rattle.law_plans.specs.Leaves.{IsFinished}
 use Rattle.law_plans.specs.Runs.{IsRun}
-use Rattle.law_plans.specs.Told.{Figures, IsAnswered, IsAsTold, figures_planned, figures_standing}
+use Rattle.law_plans.specs.Told.{IsAnswered, IsAsTold, figures_planned, figures_standing}
 use Rattle.law_plans.proofs.Finishing.{ends_finished}
 use Rattle.law_plans.proofs.Telling.{cvd_is, flipped_cvd, reply, threshold_is}
 

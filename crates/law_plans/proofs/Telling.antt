@@ -1,15 +1,13 @@
 -- From a plan's beginning on: its targets stay, and its dataset is as it was or has a version more.
-use Rattle.std.proofs.Common.{◌≡◌, ◌≤◌, ◌<◌, ◌⊎◌, ℕ, ◌+◌, Bool, true, false, ◌==◌, List, [], ◌∷◌, ◌++◌, map, length, refl, sym, ◌∙◌, ap, subst, inl, inr, arith}
+use Rattle.std.proofs.Common.{◌≡◌, ◌≤◌, ◌<◌, ◌⊎◌, ℕ, ◌+◌, Bool, true, false, ◌==◌, List, [], ◌∷◌, length, refl, sym, ◌∙◌, ap, subst, inl, inr, arith}
 use Rattle.std.specs.Prelude.{◌≢◌, nat_lt, if◌then◌else◌, Option, Some, None, slice_get}
 use Rattle.std.proofs.lemmas.Bool.{cond-true, eq-eqb, eqb-true}
-use Rattle.std.proofs.lemmas.List.{length-append, length-map}
-use Rattle.ov_graph.specs.Trees.{vids}
+use Rattle.std.proofs.lemmas.List.{length-append}
 use Rattle.ov_value.specs.declared.column.Column.{Column}
 use Rattle.ov_model.specs.Book.{Row}
 use Rattle.ov_model.specs.Course.{Item, moves_of, world_at}
-use Rattle.ov_model.specs.Lists.{IsIn}
-use Rattle.ov_model.specs.Moves.{Move, Init, Commit, BeginPlan, Copy, Flip, Drop, Checkpoint, moved, numbered, committed, version_of, wide, wide_plan}
-use Rattle.ov_model.specs.Plans.{copied_for, copied_more, flipped, flipped_by, next_target, parts_at, planned, targets_of}
+use Rattle.ov_model.specs.Moves.{Move, Init, Commit, BeginPlan, Copy, Flip, Drop, Checkpoint, numbered, committed, version_of, wide, wide_plan}
+use Rattle.ov_model.specs.Plans.{copied_for, copied_more, flipped, flipped_by, parts_at, planned, targets_of}
 use Rattle.ov_model.specs.World.{Plan, Dataset, World}
 use Rattle.ov_model.proofs.Counting.{range_versions}
 use Rattle.ov_model.proofs.Courses.{at_next}
@@ -20,7 +18,7 @@ use Rattle.law_partitions.proofs.CourseNumbers.{one_dataset}
 use Rattle.law_partitions.proofs.PlanMoves.{begun_has_all, copied_has_all, flipped_has_all}
 use Rattle.law_partitions.proofs.PlanParts.{parts_times, targets_times}
 use Rattle.law_plans.specs.Ends.{BeganAt, BeginsNoPlan, BringsNoVersion, EndsPlan}
-use Rattle.law_plans.specs.Runs.{Between, HasPlans, IsRun}
+use Rattle.law_plans.specs.Runs.{Between, IsRun}
 use Rattle.law_plans.specs.Told.{IsAnswered}
 use Rattle.law_plans.proofs.Answering.{answered}
 use Rattle.law_plans.proofs.Datasets.{Each, below_next, each_moved, kept_if, made}

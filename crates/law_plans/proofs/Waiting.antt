@@ -1,5 +1,5 @@
 -- A partition that waits for a plan is gone where the plan has ended.
-use Rattle.std.proofs.Common.{◌≡◌, ◌≤◌, ◌<◌, ℕ, ◌+◌, Bool, true, false, ◌==◌, List, [], ◌∷◌, ◌++◌, map, filter, length, refl, sym, ◌∙◌, ap, subst, inl, inr, arith}
+use Rattle.std.proofs.Common.{◌≡◌, ◌≤◌, ◌<◌, ℕ, ◌+◌, Bool, true, false, ◌==◌, List, [], ◌∷◌, map, length, refl, sym, ◌∙◌, ap, subst, inl, inr, arith}
 use Rattle.std.specs.Prelude.{◌≢◌, not, nat_lt, if◌then◌else◌, Option, Some, None}
 use Rattle.std.proofs.lemmas.Bool.{cases_Bool, eqb-true, ltb-false, ltb-true}
 use Rattle.std.proofs.lemmas.List.{length-map}
@@ -9,14 +9,14 @@ use Rattle.ov_value.specs.declared.column.Column.{Column}
 use Rattle.ov_model.specs.Book.{Row, Version}
 use Rattle.ov_model.specs.Course.{Item, world_at}
 use Rattle.ov_model.specs.Lists.{IsIn}
-use Rattle.ov_model.specs.Moves.{Move, Init, Commit, BeginPlan, Copy, Flip, Drop, Checkpoint, moved, numbered, committed, next_with, own_part, parts_with, placed_at, version_of, wide, wide_part, wide_plan, wide_version, with_joined, with_version}
-use Rattle.ov_model.specs.Placed.{AllHaveParents, ArePlaced, AreThere, HasParents, IsPlaced, id_times, times}
+use Rattle.ov_model.specs.Moves.{Move, Init, Commit, BeginPlan, Copy, Flip, Drop, Checkpoint, numbered, committed, next_with, own_part, parts_with, placed_at, version_of, wide, wide_part, wide_plan, wide_version, with_joined, with_version}
+use Rattle.ov_model.specs.Placed.{AllHaveParents, ArePlaced, AreThere, HasParents, IsPlaced, id_times}
 use Rattle.ov_model.specs.Plans.{copied_more, current, flipped, flipped_by, leaving, left_parts, planned, target_part}
 use Rattle.ov_model.specs.Records.{Rec, ordered_records}
 use Rattle.ov_model.specs.World.{Part, Plan, Dataset, World, is_unmoved}
 use Rattle.ov_model.proofs.Counting.{one_if, one_same}
 use Rattle.law_partitions.specs.Courses.{IsDue}
-use Rattle.law_partitions.specs.OldOrNew.{IsNew, IsOld, IsOldOrNew, Runs}
+use Rattle.law_partitions.specs.OldOrNew.{IsOld, IsOldOrNew, Runs}
 use Rattle.law_partitions.proofs.CourseNumbers.{one_dataset}
 use Rattle.law_partitions.proofs.OldGone.{copied_waits, flipped_waits, version_waits}
 use Rattle.law_partitions.proofs.OldMoves.{flip_old, wide_placed}

@@ -1,7 +1,7 @@
 -- What each move of a run keeps holds from one World of it to a later one.
-use Rattle.std.proofs.Common.{◌≡◌, ◌≤◌, ◌<◌, ℕ, zero, suc, ◌+◌, ◌-◌, List, [], ◌∷◌, refl, sym, ◌∙◌, ap, subst, arith}
+use Rattle.std.proofs.Common.{◌≡◌, ◌≤◌, ℕ, zero, suc, ◌+◌, ◌-◌, List, [], ◌∷◌, refl, sym, subst, arith}
 use Rattle.std.specs.Prelude.{Option, Some, None, slice_get}
-use Rattle.ov_model.specs.Course.{Item, Makes, Says, course, moves_of, world_at}
+use Rattle.ov_model.specs.Course.{Item, Makes, Says, moves_of, world_at}
 use Rattle.ov_model.specs.Moves.{Move, moved}
 use Rattle.ov_model.specs.World.{World}
 use Rattle.ov_model.proofs.Courses.{at_next}

@@ -1,5 +1,5 @@
 -- The worked run, by computing.
-use Rattle.std.proofs.Common.{◌≡◌, ◌≤◌, ◌<◌, ℕ, ◌+◌, List, [], ◌∷◌, refl, sym, ap, subst, inl, arith}
+use Rattle.std.proofs.Common.{◌≡◌, [], ◌∷◌, refl, sym, ap, subst, inl, arith}
 use Rattle.std.specs.Prelude.{Some, None, codes, slice_get}
 use lib.Utf8.{encode}
 use Rattle.std.specs.Str.{is_utf8, chars}
@@ -8,7 +8,7 @@ use Rattle.ov_value.specs.Making.{name_refusal, column_refusal, key_refusal}
 use Rattle.ov_value.specs.Naming.{is_name, is_vid, is_column_name}
 use Rattle.ov_model.specs.Course.{moves_of, world_at}
 use Rattle.ov_model.specs.Lists.{IsIn}
-use Rattle.ov_model.specs.Moves.{BeginPlan, Flip, moved}
+use Rattle.ov_model.specs.Moves.{BeginPlan, Flip}
 use Rattle.ov_model.specs.Plans.{flipped}
 use Rattle.ov_model.specs.Words.{lines_of}
 use Rattle.ov_model.proofs.Courses.{at_next}

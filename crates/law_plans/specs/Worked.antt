@@ -1,7 +1,7 @@
 -- A run on the store with one dataset of the worked image: its script begins a plan, and the step behind the reply ends it.
 --     the_items      what it does and says
 --     the_set, the_plan      the dataset and its plan before that step
-use Rattle.std.specs.Prelude.{List, [], ◌∷◌, None, codes}
+use Rattle.std.specs.Prelude.{List, [], None, codes}
 use Rattle.ov_model.specs.Act.{Session}
 use Rattle.ov_model.specs.Course.{Item, course}
 use Rattle.ov_model.specs.Forms.{all_forms}

@@ -21,8 +21,8 @@ ghost use Rattle.law_plans.specs.Told.{IsAnswered, IsAsTold};
 ghost use Rattle.law_plans.specs.Worked.{the_items, the_plan, the_set};
 
 /// What the laws below ask of the World in which a run begins holds where an image stands for it, and in the empty World; and
-/// it holds in each World of a run. So they are laws of the course of every script on such an image, of the commands that are
-/// served, and of all that are defined.
+/// it holds in each World of a run. So they are laws of the course of every script on such an image: of the commands that are
+/// served, as their clauses `image` say once more, and of all that are defined.
 pub fn worlds_of_images_have_plans()
     ensures start { HasPlans empty_world }
     ensures image { (c : Image) (w : World) → StandsAs w c → HasPlans w }
@@ -44,7 +44,8 @@ pub fn the_last_flip_leaves_the_split()
         → IsFinished (world_at w (course served_forms steps w s lines space).items (k + 1)) (flipped d) plan.p plan.q }
 {}
 
-/// They stay so in each later World until a commit to that dataset, a flip of it or its drop.
+/// The partitions that a finished plan left are the parts of its split in each later World until a commit to that dataset, a
+/// flip of it or its drop.
 pub fn the_split_stays()
     ensures run { (w : World) (items : List Item) (k j : ℕ) (d : Dataset) (plan : Plan) → IsRun w items → EndsPlan w items k d plan → HasAllVersions d plan
         → k < j → Between items (k + 1) j (LeavesParts d.cvd.number) → StaysSplit (world_at w items j) (flipped d) plan.p plan.q }
