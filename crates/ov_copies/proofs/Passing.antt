@@ -168,8 +168,8 @@ module _ (d : Cvd) (versions : List ℕ) (lists : List (List ℕ)) (rids : List 
         arith,
         h.few told count all,
         first (h.looked.told ∙ told) (count (part_in part))
-        (suffices (set_in d) versions lists part.versions paired (page_bytes s0) (page_bytes s1) rids (part_in part) (take (count (part_in part)) part.segments) asked.lists.items asked.sets.items refl (same_pages s0 s1 h.looked told)
-        asks.each (λ rid yes. h.within rid (asked_before (is_asked asked.sets.items rid) (has after rid) (has left rid) (asks.split rid) yes)) have),
+            (suffices (set_in d) versions lists part.versions paired (page_bytes s0) (page_bytes s1) rids (part_in part) (take (count (part_in part)) part.segments) asked.lists.items asked.sets.items refl (same_pages s0 s1 h.looked told)
+            asks.each (λ rid yes. h.within rid (asked_before (is_asked asked.sets.items rid) (has after rid) (has left rid) (asks.split rid) yes)) have),
       )
     where
       have : HasRecords (page_bytes s0) (set_in d) versions lists rids (part_in part) (take (count (part_in part)) part.segments)
