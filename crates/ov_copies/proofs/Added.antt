@@ -1,26 +1,27 @@
 -- The records of one partition.
-use Rattle.std.proofs.Common.{◌≡◌, ◌<◌, ℕ, zero, suc, Bool, true, false, ◌||◌, cond, Option, Some, None, List, [], ◌∷◌, length, get_or, refl, sym, ◌∙◌, ap, subst, inl, inr, arith}
+use Rattle.std.proofs.Common.{◌≡◌, ◌<◌, ℕ, zero, suc, Bool, true, false, ◌||◌, cond, Option, Some, None, List, [], ◌∷◌, length, take, get_or, refl, sym, ◌∙◌, ap, subst, inl, inr, arith}
 use Rattle.std.specs.Prelude.{is_some, slice_get}
 use Rattle.std.specs.List.{AllZip}
 use Rattle.std.proofs.lemmas.Bool.{eq-eqb, ne_eqb}
 use Rattle.ov_host.specs.declared.area.Extent.{Extent}
 use Rattle.ov_member.specs.Rids.{has}
-use Rattle.ov_member.proofs.RidLemmas.{has-head}
 use Rattle.ov_value.specs.Shapes.{Shape}
 use Rattle.ov_segment.specs.declared.numbered.Record.{Record}
 use Rattle.ov_segment.specs.Segments.{AreRecords}
+use Rattle.ov_catalog.specs.Numbers.{PartNumbers}
 use Rattle.ov_model.specs.Lists.{IsIn}
 use Rattle.ov_fetch.specs.declared.errors.FetchErr.{FetchErr}
 use Rattle.ov_fetch.specs.declared.errors.FetchErr.TheVariants.{Host, Memory, Damaged}
 use Rattle.ov_fetch.specs.Extents.{rids_of}
-use Rattle.ov_fetch.specs.Rows.{AreSegments, HasNoSegment, is_asked, joined, record_of}
+use Rattle.ov_fetch.specs.Firsts.{IsOffNext, RefusesFirstRows, Suffice}
+use Rattle.ov_fetch.specs.Rows.{AreSegments, is_asked, joined, record_of}
 use Rattle.ov_fetch.proofs.Ordered.{has_record}
 use Rattle.law_reads.proofs.Together.{in_has}
 use Rattle.ov_catalog.proofs.Members.{in_map}
 use Rattle.ov_read.specs.Agreement.{Numbers, segments_of}
 use Rattle.ov_copies.specs.Asking.{IsPartOf}
-use Rattle.ov_copies.specs.Copies.{HasBadSegment, IsFrom, IsOnList, RefusesCopy}
-use Rattle.ov_copies.specs.Gathering.{AreFor, RefusesPart}
+use Rattle.ov_copies.specs.Copies.{HasBadSegment, HasRecords, IsFrom, IsOnList, RefusesCopy}
+use Rattle.ov_copies.specs.Gathering.{AreFor}
 
 -- ---- what was asked for
 
@@ -34,13 +35,14 @@ has_asked schema area segments [] more rid none = ap (λ (rs : List Record). has
 has_asked schema area segments (set ∷ sets) more rid are = has_record rid more ∙ by (is_asked (set ∷ sets) rid) refl
   where
     by : (b : Bool) → is_asked (set ∷ sets) rid ≡ b → is_some (record_of more rid) ≡ b
-    by true e = ap is_some (are.rows.asked rid e) ∙ are.rows.there rid e
-    by false e = ap is_some (are.rows.others rid e)
+    by true e = ap is_some (are.rows.rows.asked rid e) ∙ are.rows.rows.there rid e
+    by false e = ap is_some (are.rows.rows.others rid e)
 
--- where nothing was asked for there is no record, and else the segments are whole
+-- where nothing was asked for there is no record, and else the first segments are whole
 pub record AreOf (schema : Shape) (area : List ℕ) (segments : List Extent) (sets : List (List ℕ)) (more : List Record) (r : Record) : Type 0 where
+  pub count : ℕ
   pub contents : List (List Record)
-  pub read : AreSegments schema area segments contents
+  pub read : AreSegments schema area (take count segments) contents
   pub first : record_of (joined contents) r.rid ≡ Some r
   pub asked : is_asked sets r.rid ≡ true
 
@@ -65,9 +67,10 @@ one_of schema area segments (set ∷ sets) more r are for is =
     let asked : is_asked (set ∷ sets) r.rid ≡ true =
     sym (has_asked schema area segments (set ∷ sets) more r.rid for) ∙ in_has (rids_of more) r.rid (in_map (λ (q : Record). q.rid) more r is)
     in record {
-      contents = for.contents;
-      read = for.read;
-      first = sym (for.rows.asked r.rid asked) ∙ own_record schema 0 more r are is;
+      count = for.count;
+      contents = for.rows.contents;
+      read = for.rows.read;
+      first = sym (for.rows.rows.asked r.rid asked) ∙ own_record schema 0 more r are is;
       asked = asked;
     }
 
@@ -124,7 +127,7 @@ get_at (x ∷ xs) zero d low = refl
 get_at (x ∷ xs) (suc k) d low = get_at xs k d (omega (arith, low))
 
 module _ (s : Numbers) (versions : List ℕ) (lists : List (List ℕ)) (served : List ℕ) (paired : length lists ≡ length versions) where
-  on_list : (extent : Extent) (set : List ℕ) (rid : ℕ) (is : IsPartOf s versions lists served extent set) → has set rid ≡ true
+  pub on_list : (extent : Extent) (set : List ℕ) (rid : ℕ) (is : IsPartOf s versions lists served extent set) → has set rid ≡ true
       → IsOnList versions lists (get_or versions is.place 0) rid
   on_list extent set rid is member = record {
     place = is.place;
@@ -143,41 +146,58 @@ module _ (s : Numbers) (versions : List ℕ) (lists : List (List ℕ)) (served :
       in record {
         vid = vid;
         listed = on_list at.extent at.set r.rid at.beside at.member;
+        count = of.count;
         contents = of.contents;
-        read = subst (λ es. AreSegments s.schema area es of.contents) (sym (own vid at.beside.member)) of.read;
+        read = subst (λ es. AreSegments s.schema area (take of.count es) of.contents) (sym (own vid at.beside.member)) of.read;
         first = of.first;
       }
 
   -- ---- why there are none
 
-  first_rid : (set : List ℕ) → 0 < length set → has set (get_or set 0 0) ≡ true
-  first_rid [] some = absurd (omega (arith, some))
-  first_rid (rid ∷ set) some = has-head rid set
-
-  bad_segment : (area : List ℕ) (rids : List ℕ) (segments extents : List Extent) (sets : List (List ℕ)) (page : ℕ) → ((vid : ℕ) → has served vid ≡ true → segments_of s vid ≡ segments)
-      → AllZip (IsPartOf s versions lists served) extents sets → ((rid : ℕ) → is_asked sets rid ≡ true → has rids rid ≡ true) → 0 < length sets
-      → HasNoSegment s.schema area segments page → HasBadSegment area s versions lists rids page
-  bad_segment area rids segments [] [] page own each within some bad = absurd (omega (arith, some))
-  bad_segment area rids segments [] (set ∷ sets) page own each within some bad = absurd each
-  bad_segment area rids segments (e ∷ extents) [] page own each within some bad = absurd each
-  bad_segment area rids segments (e ∷ extents) (set ∷ sets) page own each within some bad =
-      let member : has set (get_or set 0 0) ≡ true = first_rid set each.0.some
+  -- the next segment of a partition is off, where those before it lack a rid
+  bad_segment : (area rids : List ℕ) (segments extents : List Extent) (sets : List (List ℕ)) (page : ℕ) → ((vid : ℕ) → has served vid ≡ true → segments_of s vid ≡ segments)
+      → AllZip (IsPartOf s versions lists served) extents sets → ((rid : ℕ) → is_asked sets rid ≡ true → has rids rid ≡ true)
+      → IsOffNext s.schema area segments (is_asked sets) page → HasBadSegment area s versions lists rids page
+  bad_segment area rids segments extents sets page own each within bad =
+      let rid : ℕ = bad.before.rid
+      in let at = asked_at (IsPartOf s versions lists served) extents sets rid each bad.before.asked
+      in let vid : ℕ = get_or versions at.beside.place 0
       in record {
-        vid = get_or versions each.0.place 0;
-        rid = get_or set 0 0;
-        listed = on_list e set (get_or set 0 0) each.0 member;
-        wanted = within (get_or set 0 0) (ap (λ b. b || is_asked sets (get_or set 0 0)) member);
-        bad = subst (λ es. HasNoSegment s.schema area es page) (sym (own (get_or versions each.0.place 0) each.0.member)) bad;
+        vid = vid;
+        rid = rid;
+        listed = on_list at.extent at.set rid at.beside at.member;
+        wanted = within rid bad.before.asked;
+        count = bad.count;
+        contents = bad.before.contents;
+        read = subst (λ es. AreSegments s.schema area (take bad.count es) bad.before.contents) (sym (own vid at.beside.member)) bad.before.read;
+        lacking = bad.before.lacking;
+        segment = bad.segment;
+        next = subst (λ (es : List Extent). slice_get es bad.count ≡ Some bad.segment) (sym (own vid at.beside.member)) bad.next;
+        off = bad.off;
+        page_is = bad.page_is;
       }
+
+  -- where segments have a record of each rid of the versions that are served, they suffice for what is asked
+  pub suffices : (area other rids : List ℕ) (part : PartNumbers Extent) (segments extents : List Extent) (sets : List (List ℕ)) → part.versions ≡ served → other ≡ area
+      → AllZip (IsPartOf s versions lists served) extents sets → ((rid : ℕ) → is_asked sets rid ≡ true → has rids rid ≡ true)
+      → HasRecords area s versions lists rids part segments → Suffice s.schema other segments (is_asked sets)
+  suffices area other rids part segments extents sets same pages each within have = record {
+    contents = have.contents;
+    read = subst (λ a. AreSegments s.schema a segments have.contents) (sym pages) have.read;
+    there = λ rid asked.
+        let at = asked_at (IsPartOf s versions lists served) extents sets rid each asked
+        in let vid : ℕ = get_or versions at.beside.place 0
+        in have.there vid rid (on_list at.extent at.set rid at.beside at.member) (within rid asked) (ap (λ (vs : List ℕ). has vs vid) same ∙ at.beside.member);
+  }
 
   pub refuses : (area rids : List ℕ) (segments extents : List Extent) (sets : List (List ℕ)) (e : FetchErr) → ((vid : ℕ) → has served vid ≡ true → segments_of s vid ≡ segments)
       → AllZip (IsPartOf s versions lists served) extents sets → ((rid : ℕ) → is_asked sets rid ≡ true → has rids rid ≡ true)
-      → RefusesPart e s.schema area segments extents sets → RefusesCopy e area s versions lists rids
+      → RefusesFirstRows e s.schema area segments extents sets → RefusesCopy e area s versions lists rids
   refuses area rids segments extents sets Host own each within why = tt
   refuses area rids segments extents sets Memory own each within why = tt
   refuses area rids segments extents sets (Damaged page) own each within why =
-      elim why.1 [
-        | inl bad ↦ inl (bad_segment area rids segments extents sets page own each within why.0 bad)
+      elim why [
+        | inl bad ↦ inl (bad_segment area rids segments extents sets page own each within bad)
         | inr lacks ↦
             let is : IsPartOf s versions lists served lacks.list lacks.rids =
             zip_get (IsPartOf s versions lists served) extents sets lacks.place lacks.list lacks.rids each lacks.list_there lacks.rids_there

@@ -1,10 +1,10 @@
 -- The records of partitions, one partition more.
-use Rattle.std.proofs.Common.{◌≡◌, ◌<◌, ◌≤◌, ◌+◌, ◌*◌, ℕ, zero, suc, Bool, true, false, ◌||◌, cond, List, [], ◌∷◌, ◌++◌, length, take, get_or, refl, sym, ◌∙◌, ap, subst, arith}
+use Rattle.std.proofs.Common.{◌≡◌, ◌<◌, ◌≤◌, ◌+◌, ◌*◌, ℕ, zero, suc, Bool, true, false, ◌||◌, cond, List, [], ◌∷◌, ◌++◌, length, map, take, get_or, refl, sym, ◌∙◌, ap, subst, arith}
 use Rattle.std.specs.List.{All, AllByRecursion, AllZip, list_any, sum_by}
-use Rattle.std.proofs.lemmas.List.{length-map, map-append}
+use Rattle.std.proofs.lemmas.List.{get_or-map, length-map, map-append}
 use Rattle.std.proofs.lemmas.List.Elements.{All-append, All-nil}
 use Rattle.std.proofs.lemmas.List.Folds.{list_any-append}
-use Rattle.std.proofs.lemmas.List.Sums.{sum_by-cons, sum_by_more_le, sum_by_push}
+use Rattle.std.proofs.lemmas.List.Sums.{sum_by-cons, sum_by-take-le, sum_by_more_le, sum_by_push}
 use Rattle.ov_host.specs.declared.area.Extent.{Extent}
 use Rattle.ov_host.specs.Extent.{pages_of}
 use Rattle.ov_host.specs.Host.{State}
@@ -15,11 +15,13 @@ use Rattle.ov_member.proofs.RidLemmas.{has-head}
 use Rattle.ov_segment.specs.declared.numbered.Record.{Record}
 use Rattle.ov_segment.specs.Tables.{Content}
 use Rattle.ov_catalog.specs.declared.cvd.Cvd.{Cvd}
+use Rattle.ov_catalog.specs.Numbers.{PartNumbers}
 use Rattle.ov_catalog.specs.Ready.{IsSet}
 use Rattle.ov_catalog.specs.Sets.{part_in, set_in, version_in}
 use Rattle.ov_model.specs.Placed.{times}
 use Rattle.ov_fetch.specs.declared.errors.FetchErr.{FetchErr}
 use Rattle.ov_fetch.specs.Extents.{Looked, page_bytes, rids_of}
+use Rattle.ov_fetch.specs.Firsts.{IsFetchedFirst, RefusesFirstRows}
 use Rattle.ov_fetch.specs.Gathering.{IsRecord}
 use Rattle.ov_fetch.specs.Rows.{is_asked}
 use Rattle.ov_fetch.proofs.Counted.{ascending}
@@ -32,9 +34,9 @@ use Rattle.ov_read.proofs.Passed.{all_fetched, own_segments, part_pages}
 use Rattle.law_reads.proofs.Orders.{all_of}
 use Rattle.ov_copies.specs.declared.asking.Asked.{Asked}
 use Rattle.ov_copies.specs.Asking.{IsAsked, IsPartOf}
-use Rattle.ov_copies.specs.Copies.{IsFrom, RefusesCopy}
-use Rattle.ov_copies.specs.Gathering.{AreFor, AreGathered, IsAdded, RefusesPart, bytes_if}
-use Rattle.ov_copies.proofs.Added.{from, has_asked, one_of, refuses}
+use Rattle.ov_copies.specs.Copies.{AllHave, HasRecords, IsFetchedFew, IsFrom, RefusesCopy}
+use Rattle.ov_copies.specs.Gathering.{AreFor, AreGathered, IsAdded, bytes_if}
+use Rattle.ov_copies.proofs.Added.{from, has_asked, one_of, refuses, suffices}
 use Rattle.ov_copies.proofs.Counting.{times_append, times_set}
 
 -- each rid has one record or is left, and no other has one
@@ -42,10 +44,16 @@ pub record AreTaken (area : List ℕ) (s : Numbers) (versions : List ℕ) (lists
   pub once : (rid : ℕ) → times (rids_of records) rid + cond (has left rid) 1 0 ≡ cond (has rids rid) 1 0
   pub each : All (IsFrom area s versions lists) records
 
+-- the bytes of so many first segments of a partition
+abbrev pub first_bytes : (PartNumbers Extent → ℕ) → Part → ℕ
+first_bytes count part = sum_by (λ e. e.bytes) (take (count (part_in part)) part.segments)
+
 -- these partitions were passed
 pub record HasPassed (before now : State) (d : Cvd) (versions : List ℕ) (lists : List (List ℕ)) (rids : List ℕ) (parts : List Part) (left : List ℕ) (found : Content) : Type 0 where
   pub looked : Looked before now
   pub fetched : now.fetched ≤ before.fetched + 4096 * sum_by (part_pages versions) parts
+  pub few : before.tells ≡ true → (count : PartNumbers Extent → ℕ) → AllHave (page_bytes before) (set_in d) versions lists rids count
+      → now.fetched ≤ before.fetched + sum_by (first_bytes count) parts
   pub columns : found.columns ≡ d.schema.columns
   pub are : AllByRecursion (IsRecord d.schema) found.records
   pub set : AreRids left
@@ -61,6 +69,7 @@ pub starts : (at : State) (d : Cvd) (versions : List ℕ) (lists : List (List �
 starts at d versions lists rids left found columns none set same = record {
   looked = looked_at_all at;
   fetched = omega arith;
+  few = λ told count all. omega arith;
   columns = columns;
   are = subst (AllByRecursion (IsRecord d.schema)) (sym none) tt;
   set = set;
@@ -128,18 +137,68 @@ asked_bytes : (s : Numbers) (versions : List ℕ) (lists : List (List ℕ)) (par
 asked_bytes s versions lists part extents [] each = omega arith
 asked_bytes s versions lists part extents (set ∷ sets) each = rw (serves_some s versions lists part extents (set ∷ sets) (omega arith) each) (bytes_pages part.segments)
 
+parts_bytes : (count : PartNumbers Extent → ℕ) (parts : List Part) → sum_by (first_bytes count) parts ≡ sum_by (λ p. sum_by (λ (e : Extent). e.bytes) (take (count p) p.segments)) (map part_in parts)
+parts_bytes count [] = refl
+parts_bytes count (part ∷ parts) =
+    omega (
+      arith,
+      parts_bytes count parts,
+      sum_by-cons (first_bytes count) part parts,
+      sum_by-cons (λ (p : PartNumbers Extent). sum_by (λ (e : Extent). e.bytes) (take (count p) p.segments)) (part_in part) (map part_in parts),
+    )
+
+-- what was fetched for the first partitions is no more than for all
+pub few_for : (s0 s1 : State) (d : Cvd) (versions : List ℕ) (lists : List (List ℕ)) (rids left : List ℕ) (found : Content) (k : ℕ)
+    → HasPassed s0 s1 d versions lists rids (take k d.layout.parts) left found → IsFetchedFew s0 s1 (set_in d) versions lists rids
+few_for s0 s1 d versions lists rids left found k h told count all =
+    omega (arith, h.few told count all, sum_by-take-le (first_bytes count) d.layout.parts k, parts_bytes count d.layout.parts)
+
 module _ (d : Cvd) (versions : List ℕ) (lists : List (List ℕ)) (rids : List ℕ) (paired : length lists ≡ length versions)
     (k : ℕ) (part : Part) (low : k < length d.layout.parts) (is : part ≡ get_or d.layout.parts k part) (once : (vid : ℕ) → times_placed vid d.layout.parts ≤ 1) where
   own : (vid : ℕ) → has part.versions vid ≡ true → segments_of (set_in d) vid ≡ part.segments
   own vid member = own_segments d vid k part low is member (once vid)
 
+  -- and so it was of the bytes of one more
+  few_more : (s0 s1 s2 : State) (parts : List Part) (left after : List ℕ) (asked : Asked) (old : Content)
+      → HasPassed s0 s1 d versions lists rids parts left old → IsAsked (set_in d) versions lists part.versions part.versions left after asked
+      → IsFetchedFirst d.schema s1 s2 part.segments (is_asked asked.sets.items)
+      → s0.tells ≡ true → (count : PartNumbers Extent → ℕ) → AllHave (page_bytes s0) (set_in d) versions lists rids count → s2.fetched ≤ s0.fetched + sum_by (first_bytes count) parts + first_bytes count part
+  few_more s0 s1 s2 parts left after asked old h asks first told count all =
+      omega (
+        arith,
+        h.few told count all,
+        first (h.looked.told ∙ told) (count (part_in part))
+            (suffices (set_in d) versions lists part.versions paired (page_bytes s0) (page_bytes s1) rids (part_in part) (take (count (part_in part)) part.segments) asked.lists.items asked.sets.items refl (same_pages s0 s1 h.looked told)
+            asks.each (λ rid yes. h.within rid (asked_before (is_asked asked.sets.items rid) (has after rid) (has left rid) (asks.split rid) yes)) have),
+      )
+    where
+      have : HasRecords (page_bytes s0) (set_in d) versions lists rids (part_in part) (take (count (part_in part)) part.segments)
+      have =
+          subst (λ (p : PartNumbers Extent). HasRecords (page_bytes s0) (set_in d) versions lists rids p (take (count p) p.segments))
+          (get_or-map part_in d.layout.parts k part (part_in part) low ∙ ap part_in (sym is))
+          (all k (part_in part) (omega (arith, low, length-map d.layout.parts part_in)))
+
+  -- what was fetched for some of the partitions is no more than for all
+  pub few_in_all : (s0 s2 : State) (left after : List ℕ) (asked : Asked) (old : Content) (s1 : State)
+      → HasPassed s0 s1 d versions lists rids (take k d.layout.parts) left old → IsAsked (set_in d) versions lists part.versions part.versions left after asked
+      → IsFetchedFirst d.schema s1 s2 part.segments (is_asked asked.sets.items) → IsFetchedFew s0 s2 (set_in d) versions lists rids
+  few_in_all s0 s2 left after asked old s1 h asks first told count all =
+      omega (
+        arith,
+        few_more s0 s1 s2 (take k d.layout.parts) left after asked old h asks first told count all,
+        ap (first_bytes count) is,
+        sum_by_more_le (first_bytes count) d.layout.parts k part low,
+        parts_bytes count d.layout.parts,
+      )
+
   pub goes_on : (s0 s1 s2 : State) (parts : List Part) (left after : List ℕ) (asked : Asked) (old new : Content)
       → HasPassed s0 s1 d versions lists rids parts left old → IsAsked (set_in d) versions lists part.versions part.versions left after asked → Looked s1 s2 → s2.fetched ≤ s1.fetched + bytes_if asked.sets.items part.segments
-      → new.columns ≡ old.columns
+      → IsFetchedFirst d.schema s1 s2 part.segments (is_asked asked.sets.items) → new.columns ≡ old.columns
       → IsAdded d.schema s1 part.segments asked.sets.items old.records new.records → HasPassed s0 s2 d versions lists rids (parts ++ part ∷ []) after new
-  goes_on s0 s1 s2 parts left after asked old new h asks looked fetched columns added = record {
+  goes_on s0 s1 s2 parts left after asked old new h asks looked fetched first columns added = record {
     looked = looked_again s0 s1 s2 h.looked looked;
     fetched = omega (arith, h.fetched, fetched, asked_bytes (set_in d) versions lists part asked.lists.items asked.sets.items asks.each, sum_by_push (part_pages versions) parts part);
+    few = λ told count all. omega (arith, few_more s0 s1 s2 parts left after asked old h asks first told count all, sum_by_push (first_bytes count) parts part);
     columns = columns ∙ h.columns;
     are = subst (AllByRecursion (IsRecord d.schema)) (sym added.new_is)
         (append_all (IsRecord d.schema) old.records added.more h.are (are_records d.schema 0 added.more added.are));
@@ -187,12 +246,12 @@ module _ (d : Cvd) (versions : List ℕ) (lists : List (List ℕ)) (rids : List 
       (omega (arith, h, one, asked_bytes (set_in d) versions lists part asked.lists.items asked.sets.items asks.each, ap (part_pages versions) is, sum_by_more_le (part_pages versions) d.layout.parts k part low))
 
   pub stops : (s0 s1 : State) (parts : List Part) (left after : List ℕ) (asked : Asked) (old : Content) (e : FetchErr) → HasPassed s0 s1 d versions lists rids parts left old
-      → IsAsked (set_in d) versions lists part.versions part.versions left after asked → s0.tells ≡ true → RefusesPart e d.schema (page_bytes s1) part.segments asked.lists.items asked.sets.items
+      → IsAsked (set_in d) versions lists part.versions part.versions left after asked → s0.tells ≡ true → RefusesFirstRows e d.schema (page_bytes s1) part.segments asked.lists.items asked.sets.items
       → RefusesCopy e (page_bytes s0) (set_in d) versions lists rids
   stops s0 s1 parts left after asked old e h asks told why =
       refuses (set_in d) versions lists part.versions paired (page_bytes s0) rids part.segments asked.lists.items asked.sets.items e own asks.each
       (λ rid yes. h.within rid (asked_before (is_asked asked.sets.items rid) (has after rid) (has left rid) (asks.split rid) yes))
-      (subst (λ (a : List ℕ). RefusesPart e d.schema a part.segments asked.lists.items asked.sets.items) (same_pages s0 s1 h.looked told) why)
+      (subst (λ (a : List ℕ). RefusesFirstRows e d.schema a part.segments asked.lists.items asked.sets.items) (same_pages s0 s1 h.looked told) why)
 
 -- ---- all partitions
 

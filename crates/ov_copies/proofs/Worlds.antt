@@ -1,18 +1,19 @@
 -- What is copied of a dataset of a World, and that nothing of it is damaged.
-use Rattle.std.proofs.Common.{◌≡◌, ◌<◌, ℕ, zero, suc, List, [], ◌∷◌, length, map, get_or, refl, sym, ◌∙◌, ap, subst, inl, inr, arith}
+use Rattle.std.proofs.Common.{◌≡◌, ◌<◌, ℕ, zero, suc, List, [], ◌∷◌, length, map, take, get_or, refl, sym, ◌∙◌, ap, subst, inl, inr, arith}
 use Rattle.std.specs.Prelude.{Some, slice_get}
 use Rattle.std.specs.List.{All}
+use Rattle.ov_host.specs.declared.area.Extent.{Extent}
 use Rattle.ov_member.specs.Rids.{has}
 use Rattle.ov_segment.specs.declared.numbered.Record.{Record}
 use Rattle.ov_fetch.specs.declared.errors.FetchErr.{FetchErr}
 use Rattle.ov_fetch.specs.declared.errors.FetchErr.TheVariants.{Host, Memory, Damaged}
 use Rattle.ov_fetch.specs.Extents.{rids_of}
-use Rattle.ov_fetch.specs.Rows.{joined}
+use Rattle.ov_fetch.specs.Rows.{AreSegments, joined}
 use Rattle.ov_model.specs.Lists.{IsIn, AreIn}
 use Rattle.ov_model.specs.Records.{Rec, order_of}
 use Rattle.ov_model.specs.World.{Dataset, World}
 use Rattle.ov_catalog.specs.Shown.{kept_as, list_of, segment_of, sorted_by}
-use Rattle.ov_catalog.proofs.Members.{all_at, heads, of_map, of_sorted, tails}
+use Rattle.ov_catalog.proofs.Members.{all_at, heads, left_in, of_append, of_map, of_sorted, right_in, tails}
 use Rattle.ov_core.specs.Brought.{segments_in}
 use Rattle.law_image.specs.Segments.{as_kept, segment_in}
 use Rattle.law_image.proofs.Readers.{rows_read}
@@ -82,11 +83,31 @@ module _ (w : World) (area : List ℕ) (s : Numbers) (d : Dataset) (of_world : I
   abbrev pub all : List Rec
   all = order_of d.cvd.versions
 
+  -- the records of the first segments are records of all of them
+  taken : (n : ℕ) (cs : List (List Record)) (r : Record) → IsIn (joined (take n cs)) r → IsIn (joined cs) r
+  taken zero cs r is = absurd is
+  taken (suc n) [] r is = absurd is
+  taken (suc n) (c ∷ cs) r is =
+      elim (of_append c (joined (take n cs)) r is) [
+        | inl here ↦ left_in c (joined cs) r here
+        | inr later ↦ right_in c (joined cs) r (taken n cs r later)
+      ]
+
+  segments_taken : (n : ℕ) (es : List Extent) (cs : List (List Record)) → AreSegments s.schema area es cs → AreSegments s.schema area (take n es) (take n cs)
+  segments_taken zero es cs are = tt
+  segments_taken (suc n) [] [] are = tt
+  segments_taken (suc n) [] (c ∷ cs) are = absurd are
+  segments_taken (suc n) (e ∷ es) [] are = absurd are
+  segments_taken (suc n) (e ∷ es) (c ∷ cs) are = (are.0, segments_taken n es cs are.1)
+
   from_rec : (r : Record) → IsFrom area s versions lists r → IsRec all r
   from_rec r is =
       let at : Serves area s d is.vid = serving_at w area s d is.vid of_world (listed_there s versions lists is.vid r.rid there is.listed)
-      in let same : is.contents ≡ map (records_in all) at.pieces = segments_once s.schema area (segments_of s is.vid) is.contents (map (records_in all) at.pieces) is.read at.read
-      in let it = from_contents all at.pieces r (subst (λ cs. IsIn (joined cs) r) same (record_there (joined is.contents) r.rid r is.first))
+      in let contents : List (List Record) = map (records_in all) at.pieces
+      in let same : is.contents ≡ take is.count contents =
+      segments_once s.schema area (take is.count (segments_of s is.vid)) is.contents (take is.count contents) is.read (segments_taken is.count (segments_of s is.vid) contents at.read)
+      in let it =
+      from_contents all at.pieces r (taken is.count contents r (subst (λ cs. IsIn (joined cs) r) same (record_there (joined is.contents) r.rid r is.first)))
       in (it.0, (at.known it.0 it.1.0, it.1.1))
 
   copied_are : (rids : List ℕ) (records : List Record) (piece : List Rec) → AreCopied area s versions lists rids records → rids ≡ list_of all piece → AreIn piece all
@@ -122,7 +143,12 @@ module _ (w : World) (area : List ℕ) (s : Numbers) (d : Dataset) (of_world : I
   spared rids Memory are why = tt
   spared rids (Damaged page) are (inl bad) =
       let at : Serves area s d bad.vid = serving_at w area s d bad.vid of_world (listed_there s versions lists bad.vid bad.rid there bad.listed)
-      in segments_stand s.schema area (segments_of s bad.vid) (map (records_in all) at.pieces) page at.read bad.bad
+      in segments_stand s.schema area (segments_of s bad.vid) (map (records_in all) at.pieces) page at.read (record {
+        segment = bad.segment;
+        among = (bad.count, get_low (segments_of s bad.vid) bad.count bad.segment bad.next, get_or_is (segments_of s bad.vid) bad.count bad.segment bad.segment bad.next);
+        off = bad.off;
+        page_is = bad.page_is;
+      })
   spared rids (Damaged page) are (inr lacks) =
       let here : IsThere s lacks.vid = listed_there s versions lists lacks.vid lacks.rid there lacks.listed
       in let same : lacks.listed.list ≡ rids_in d lacks.vid =

@@ -1,7 +1,7 @@
 -- The records of partitions.
 --     IsAdded schema s segments sets old new      those of one partition came behind the others
 --     AreGathered area s versions lists rids records      those of all of them
-use Rattle.std.specs.Prelude.{◌≡◌, ◌<◌, ℕ, true, cond, List, [], ◌∷◌, ◌++◌, length}
+use Rattle.std.specs.Prelude.{◌≡◌, ℕ, true, cond, List, [], ◌∷◌, ◌++◌}
 use Rattle.std.specs.List.{All, sum_by}
 use Rattle.ov_host.specs.declared.area.Extent.{Extent}
 use Rattle.ov_host.specs.Host.{State}
@@ -10,17 +10,15 @@ use Rattle.ov_value.specs.Shapes.{Shape}
 use Rattle.ov_segment.specs.declared.numbered.Record.{Record}
 use Rattle.ov_segment.specs.Segments.{AreRecords}
 use Rattle.ov_model.specs.Placed.{times}
-use Rattle.ov_fetch.specs.declared.errors.FetchErr.{FetchErr}
-use Rattle.ov_fetch.specs.declared.errors.FetchErr.TheVariants.{Host, Memory, Damaged}
 use Rattle.ov_fetch.specs.Extents.{page_bytes, rids_of}
-use Rattle.ov_fetch.specs.Rows.{AreRows, IsDamage}
+use Rattle.ov_fetch.specs.Firsts.{AreFirstRows}
 use Rattle.ov_read.specs.Agreement.{Numbers}
 use Rattle.ov_copies.specs.Copies.{IsFrom}
 
 -- where nothing is asked for, the segments aren't looked at
 abbrev pub AreFor : Shape → List ℕ → List Extent → List (List ℕ) → List Record → Type 0
 AreFor schema area segments [] got = got ≡ []
-AreFor schema area segments (set ∷ sets) got = AreRows schema area segments (set ∷ sets) got
+AreFor schema area segments (set ∷ sets) got = AreFirstRows schema area segments (set ∷ sets) got
 
 -- nor are they fetched
 abbrev pub bytes_if : List (List ℕ) → List Extent → ℕ
@@ -32,11 +30,6 @@ pub record IsAdded (schema : Shape) (s : State) (segments : List Extent) (sets :
   pub new_is : new ≡ old ++ more
   pub are : AreRecords schema 0 more
   pub told : s.tells ≡ true → AreFor schema (page_bytes s) segments sets more
-
-abbrev pub RefusesPart : FetchErr → Shape → List ℕ → List Extent → List Extent → List (List ℕ) → Type 0
-RefusesPart Host schema area segments lists sets = Unit {0}
-RefusesPart Memory schema area segments lists sets = Unit {0}
-RefusesPart (Damaged page) schema area segments lists sets = (0 < length sets) × IsDamage schema area segments lists sets page
 
 -- each rid has one record, and no other has one
 pub record AreGathered (area : List ℕ) (s : Numbers) (versions : List ℕ) (lists : List (List ℕ)) (rids : List ℕ) (records : List Record) : Type 0 where

@@ -20,7 +20,7 @@ ghost use Rattle.ov_fetch.specs.Rows.{is_asked};
 ghost use Rattle.ov_read.specs.Agreement.{IsThere};
 ghost use Rattle.ov_read.specs.OfWorld.{IsSetOf, IsSpared, rids_in};
 ghost use Rattle.ov_read.specs.Sizes.{segment_bytes_for};
-ghost use Rattle.ov_copies.specs.Copies.{AreCopied, IsCopied, IsSegmentOf, RefusesCopy};
+ghost use Rattle.ov_copies.specs.Copies.{AreCopied, IsCopied, IsFetchedFew, IsSegmentOf, RefusesCopy};
 
 use crate::gathering::gather;
 use crate::places::first_page;
@@ -47,12 +47,12 @@ pub struct Wanted<'a> {
 /// What a copy of these records brings: its event, and their segment, in the order of the rids. The event's extent isn't
 /// placed. Each record is the one that the partition of a version that has it keeps.
 ///
-/// `Damaged` only where a segment is short or off its grammar in a partition that serves a version with one of the rids, with
-/// the segment's first page; or where such a partition has no record of one of them, with the first page of the list of a
-/// version that has it.
+/// `Damaged` only where a partition serves a version with one of the rids, and the first of its segments have no record of it and
+/// the next one is short or off its grammar, with that segment's first page; or where all its segments have no record of it, with
+/// the first page of the list of a version that has it.
 ///
-/// The segments of a partition are read once where it serves a version with a rid that no partition before it had, and else not
-/// at all. Time beside that: one step for each version of the dataset and each range of a list, and at each of these versions one
+/// The segments of a partition are read in their order, and only until each rid that is asked of it has its record. A partition
+/// that serves no version with a rid that none before it had isn't read at all. Time beside that: one step for each version of the dataset and each range of a list, and at each of these versions one
 /// for each rid that is left; and the sorting and copying of the records.
 pub fn copy_of<H: Host>(
     alloc: Global,
@@ -70,6 +70,7 @@ pub fn copy_of<H: Host>(
     ensures looked { Looked (H.state host.old) (H.state host.new) }
     ensures cause { IsErrOf result FetchErr.Host → Rose (H.state host.old).faults (H.state host.new).faults }
     ensures fetched { (H.state host.new).fetched ≤ (H.state host.old).fetched + segment_bytes_for (set_in d.now) wanted.entry.versions.now }
+    ensures no_more { IsFetchedFew (H.state host.old) (H.state host.new) (set_in d.now) wanted.entry.versions.now wanted.entry.lists.now wanted.entry.rids.now }
 
     // On every host.
     ensures unplaced { IfOk result IsUnplaced }
@@ -125,6 +126,7 @@ fn records_of<H: Host>(
     ensures looked { Looked (H.state host.old) (H.state host.new) }
     ensures cause { IsErrOf result FetchErr.Host → Rose (H.state host.old).faults (H.state host.new).faults }
     ensures fetched { (H.state host.new).fetched ≤ (H.state host.old).fetched + segment_bytes_for (set_in d.now) versions.now }
+    ensures no_more { IsFetchedFew (H.state host.old) (H.state host.new) (set_in d.now) versions.now lists.now rids.now }
     ensures are { IfOk result (λ found. AreRecords d.now.schema 0 found.records) }
     ensures rids { IfOk result (λ found. rids_of found.records ≡ rids.now) }
     ensures answer { (H.state host.old).tells ≡ true → MatchResult result

@@ -8,17 +8,18 @@ ghost use Rattle.ov_catalog.specs.Sets.{set_in};
 ghost use Rattle.ov_member.specs.Rids.{has};
 ghost use Rattle.ov_model.specs.Placed.{times};
 ghost use Rattle.ov_fetch.specs.Extents.{Looked, page_bytes};
+ghost use Rattle.ov_fetch.specs.Firsts.{IsFetchedFirst, RefusesFirstRows};
 ghost use Rattle.ov_fetch.specs.Gathering.{IsRecord};
 ghost use Rattle.ov_fetch.specs.Rows.{is_asked};
 ghost use Rattle.ov_read.specs.Agreement.{IsThere};
 ghost use Rattle.ov_read.specs.Sizes.{segment_bytes_for};
-ghost use Rattle.ov_copies.specs.Copies.{RefusesCopy};
-ghost use Rattle.ov_copies.specs.Gathering.{AreGathered, IsAdded, RefusesPart, bytes_if};
+ghost use Rattle.ov_copies.specs.Copies.{IsFetchedFew, RefusesCopy};
+ghost use Rattle.ov_copies.specs.Gathering.{AreGathered, IsAdded, bytes_if};
 
 use crate::asking::{Asked, asked_of};
 use crate::places::places_of;
 use ov_catalog::Cvd;
-use ov_fetch::{FetchErr, SegmentsRead, rows_and_rids_of};
+use ov_fetch::{FetchErr, first_rows_of};
 use ov_host::{Extent, Host};
 use ov_member::Members;
 use ov_segment::Table;
@@ -26,7 +27,8 @@ use ov_value::Schema;
 use std::alloc::Global;
 
 /// The records of these rids, each out of the first partition that serves a version with it, one partition after another. A
-/// partition that serves no version with one of the rids isn't read.
+/// partition that serves no version with one of the rids isn't read, and of another one only as many of the first segments
+/// as it takes.
 pub(crate) fn gather<H: Host>(
     alloc: Global,
     host: &mut H,
@@ -43,6 +45,7 @@ pub(crate) fn gather<H: Host>(
     ensures looked { Looked (H.state host.old) (H.state host.new) }
     ensures cause { IsErrOf result FetchErr.Host → Rose (H.state host.old).faults (H.state host.new).faults }
     ensures fetched { (H.state host.new).fetched ≤ (H.state host.old).fetched + segment_bytes_for (set_in d.now) versions.now }
+    ensures no_more { IsFetchedFew (H.state host.old) (H.state host.new) (set_in d.now) versions.now lists.now rids.now }
     ensures are { IfOk result (λ found. AllByRecursion (IsRecord d.now.schema) found.records) }
     ensures answer { (H.state host.old).tells ≡ true → MatchResult result
         (λ found. AreGathered (page_bytes (H.state host.old)) (set_in d.now) versions.now lists.now rids.now found.records)
@@ -61,7 +64,7 @@ pub(crate) fn gather<H: Host>(
     Ok(found)
 }
 
-// Adds the records that are asked for out of the segments of a partition. Where none is asked for, it isn't read.
+// Adds the records that are asked for out of the segments of a partition, of which no more are read than it takes.
 fn add_part<H: Host>(
     alloc: Global,
     host: &mut H,
@@ -75,23 +78,17 @@ fn add_part<H: Host>(
     ensures looked { Looked (H.state host.old) (H.state host.new) }
     ensures cause { IsErrOf result FetchErr.Host → Rose (H.state host.old).faults (H.state host.new).faults }
     ensures fetched { (H.state host.new).fetched ≤ (H.state host.old).fetched + bytes_if asked.now.sets.items segments.now }
+    ensures no_more { IsFetchedFirst schema.now (H.state host.old) (H.state host.new) segments.now (is_asked asked.now.sets.items) }
     ensures still { asked.now.sets.items ≡ [] → H.state host.new ≡ H.state host.old }
     ensures columns { OnOk result (found.new.columns ≡ found.old.columns) }
     ensures added { OnOk result (IsAdded schema.now (H.state host.old) segments.now asked.now.sets.items found.old.records found.new.records) }
     ensures err { (H.state host.old).tells ≡ true
-        → IfErr result (λ e. RefusesPart e schema.now (page_bytes (H.state host.old)) segments.now asked.now.lists.items asked.now.sets.items) }
+        → IfErr result (λ e. RefusesFirstRows e schema.now (page_bytes (H.state host.old)) segments.now asked.now.lists.items asked.now.sets.items) }
 {
     if asked.sets.is_empty() {
         return Ok(());
     }
-    let SegmentsRead { records, .. } = rows_and_rids_of(
-        alloc,
-        host,
-        schema,
-        segments,
-        &asked.lists,
-        &asked.sets,
-    )?;
+    let records = first_rows_of(alloc, host, schema, segments, &asked.lists, &asked.sets)?;
     found.append(&records)?;
     Ok(())
 }

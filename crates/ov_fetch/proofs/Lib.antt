@@ -8,3 +8,4 @@ pub mod Lacking
 pub mod Ordered
 pub mod Asked
 pub mod Counted
+pub mod Needed

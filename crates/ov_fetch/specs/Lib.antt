@@ -2,4 +2,5 @@ pub mod Extents
 pub mod Cursors
 pub mod Rows
 pub mod Gathering
+pub mod Firsts
 pub mod Scans

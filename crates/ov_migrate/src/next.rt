@@ -38,8 +38,8 @@ const MOST_COPIED: u32 = 256;
 /// the target's numbers, with the first page of the list of its least version; or where a record that is to be copied can't
 /// be had, as [`copy_of`] says.
 ///
-/// It reads the lists of the target's versions and the segments that it keeps, and for a copy those of the partitions that have
-/// the records. Time beside that: by the datasets, the ranges of the lists, and the records of the copy.
+/// It reads the lists of the target's versions and the segments that it keeps, and for a copy, of the partitions that have the
+/// records, the first segments until these are found. Time beside that: by the datasets, the ranges of the lists, and the records of the copy.
 pub fn next_step<H: Host>(
     alloc: Global,
     host: &mut H,

@@ -136,8 +136,8 @@ impl Store {
     /// `Nothing` where no plan runs, and nothing is read then. `Damaged` where a list or a segment of the target is damaged or
     /// doesn't bear out its numbers; `Full`, which only a copy can be; `JournalFull`. All memory is taken before the first write.
     ///
-    /// A step costs the pages of the lists of the target's versions, of the segments that it keeps, and, for a copy, of those of
-    /// the partitions that have its records; the writes of a copy's segment and of its record; and its syncs, three or two.
+    /// A step costs the pages of the lists of the target's versions, of the segments that it keeps, and, for a copy, of the
+    /// partitions that have its records, the pages of the first segments until these are found; the writes of a copy's segment and of its record; and its syncs, three or two.
     pub fn step<H: Host>(&mut self, host: &mut H) -> Result<Stepped, StepErr>
         requires call { MayCall self.old (H.state host.old) }
         ensures told { (H.state host.new).tells ≡ (H.state host.old).tells }

@@ -5,13 +5,15 @@ use Rattle.ov_host.specs.declared.area.Extent.{Extent}
 use Rattle.ov_layout.specs.declared.part.Part.{Part}
 use Rattle.ov_catalog.specs.Sets.{set_in}
 use Rattle.ov_fetch.specs.Extents.{page_bytes}
+use Rattle.ov_fetch.specs.Firsts.{IsFetchedFirst, RefusesFirstRows}
+use Rattle.ov_fetch.specs.Rows.{is_asked}
 use Rattle.ov_fetch.proofs.Gathered.{passed_on}
 use Rattle.ov_read.proofs.Gatherings.{zip_length}
 use Rattle.ov_read.proofs.Passed.{kept_fetched, part_pages}
 use Rattle.ov_copies.specs.Asking.{IsAsked, IsPartOf}
 use Rattle.ov_copies.specs.Copies.{RefusesCopy}
-use Rattle.ov_copies.specs.Gathering.{AreGathered, IsAdded, RefusesPart, bytes_if}
-use Rattle.ov_copies.proofs.Passing.{HasPassed, ends, goes_on, some_fetched, stops}
+use Rattle.ov_copies.specs.Gathering.{AreGathered, IsAdded, bytes_if}
+use Rattle.ov_copies.proofs.Passing.{HasPassed, ends, few_for, few_in_all, goes_on, some_fetched, stops}
 use Rattle.ov_copies.proofs.gathering.gather.Goals as goal
 
 pub add_part-requires-clause-paired : goal.add_part-requires-clause-paired
@@ -33,7 +35,7 @@ returns-in_err-add_part-clause-answer g c told =
     let asked = c.in_ok-asked.asked in
     let after : List ℕ = c.asked_of.new.left in
     let asks = subst (λ (vids : List ℕ). IsAsked (set_in d) versions lists vids vids c.loop-part.left after asked) c.as_slice-served.ensures c.in_ok-asked.ensures in
-    let why = subst (λ (es : List Extent). RefusesPart c.in_err-add_part.field-0.0 d.schema (page_bytes s1) es asked.lists.items asked.sets.items) c.as_slice-segments.ensures
+    let why = subst (λ (es : List Extent). RefusesFirstRows c.in_err-add_part.field-0.0 d.schema (page_bytes s1) es asked.lists.items asked.sets.items) c.as_slice-segments.ensures
     (c.in_err-add_part.ensures.err (c.loop-part.invariant.looked.told ∙ told)) in
     passed_on (λ found. AreGathered (page_bytes s0) (set_in d) versions lists rids found.records) (λ e. RefusesCopy e (page_bytes s0) (set_in d) versions lists rids)
     c.from_residual-in_err-add_part.result c.in_err-add_part.field-0.0 c.from_residual-in_err-add_part.ensures
@@ -96,9 +98,10 @@ loop-part-preserved g c =
     let asks = subst (λ (vids : List ℕ). IsAsked (set_in d) versions lists vids vids c.loop-part.left after asked) c.as_slice-served.ensures c.in_ok-asked.ensures in
     let added = subst (λ (es : List Extent). IsAdded d.schema s1 es asked.sets.items c.loop-part.found.records found.records) c.as_slice-segments.ensures c.in_ok-add_part.ensures.added in
     let fetched = subst (λ (es : List Extent). s2.fetched ≤ s1.fetched + bytes_if asked.sets.items es) c.as_slice-segments.ensures c.in_ok-add_part.ensures.fetched in
+    let first = subst (λ (es : List Extent). IsFetchedFirst d.schema s1 s2 es (is_asked asked.sets.items)) c.as_slice-segments.ensures c.in_ok-add_part.ensures.no_more in
     let at : HasPassed s0 s2 d versions lists rids (take k parts ++ part ∷ []) after found =
     goes_on d versions lists rids c.requires.paired k part (subst (λ (ps : List Part). k < length ps) same c.loop-part-test.true) (subst (λ (ps : List Part). part ≡ get_or ps k part) same c.part-item.is)
-    c.parts-parts.ensures.sound.once s0 s1 s2 (take k parts) c.loop-part.left after asked c.loop-part.found found c.loop-part.invariant asks c.in_ok-add_part.ensures.looked fetched c.in_ok-add_part.ensures.columns added in
+    c.parts-parts.ensures.sound.once s0 s1 s2 (take k parts) c.loop-part.left after asked c.loop-part.found found c.loop-part.invariant asks c.in_ok-add_part.ensures.looked fetched first c.in_ok-add_part.ensures.columns added in
     subst (λ (ps : List Part). HasPassed s0 s2 d versions lists rids ps after found)
     (sym (take_more parts k part c.loop-part-test.true ∙ ap (λ (p : Part). take k parts ++ p ∷ []) (sym c.part-item.is))) at
 
@@ -112,3 +115,38 @@ returns-clause-answer g c told =
     take_all c.loop-part.part-index parts (omega (arith, c.loop-part-test.false)) ∙ c.parts-parts.ensures.parts in
     ends s0 s1 d c.args.versions.now c.args.lists.now c.args.rids.now c.loop-part.left c.loop-part.found c.requires.sound c.requires.there c.requires.paired c.requires.listed
     (subst (λ (ps : List Part). HasPassed s0 s1 d c.args.versions.now c.args.lists.now c.args.rids.now ps c.loop-part.left c.loop-part.found) whole c.loop-part.invariant) told
+
+pub returns-clause-no_more : goal.returns-clause-no_more
+returns-clause-no_more g c =
+    let s0 = g.H.Host.state c.args.host.now in
+    let s1 = g.H.Host.state c.loop-part.host in
+    few_for s0 s1 c.args.d.now c.args.versions.now c.args.lists.now c.args.rids.now c.loop-part.left c.loop-part.found c.loop-part.part-index
+    (subst (λ (ps : List Part). HasPassed s0 s1 c.args.d.now c.args.versions.now c.args.lists.now c.args.rids.now (take c.loop-part.part-index ps) c.loop-part.left c.loop-part.found) c.parts-parts.ensures.parts c.loop-part.invariant)
+
+pub returns-in_err-asked-clause-no_more : goal.returns-in_err-asked-clause-no_more
+returns-in_err-asked-clause-no_more g c =
+    let s0 = g.H.Host.state c.args.host.now in
+    let s1 = g.H.Host.state c.loop-part.host in
+    few_for s0 s1 c.args.d.now c.args.versions.now c.args.lists.now c.args.rids.now c.loop-part.left c.loop-part.found c.loop-part.part-index
+    (subst (λ (ps : List Part). HasPassed s0 s1 c.args.d.now c.args.versions.now c.args.lists.now c.args.rids.now (take c.loop-part.part-index ps) c.loop-part.left c.loop-part.found) c.parts-parts.ensures.parts c.loop-part.invariant)
+
+pub returns-in_err-add_part-clause-no_more : goal.returns-in_err-add_part-clause-no_more
+returns-in_err-add_part-clause-no_more g c =
+    let s0 = g.H.Host.state c.args.host.now in
+    let s1 = g.H.Host.state c.loop-part.host in
+    let s2 = g.H.Host.state c.add_part.new.host in
+    let d = c.args.d.now in
+    let versions : List ℕ = c.args.versions.now in
+    let lists : List (List ℕ) = c.args.lists.now in
+    let rids : List ℕ = c.args.rids.now in
+    let part : Part = c.part-item.result in
+    let parts : List Part = c.parts-parts.result.now in
+    let k = c.loop-part.part-index in
+    let same : parts ≡ d.layout.parts = c.parts-parts.ensures.parts in
+    let asked = c.in_ok-asked.asked in
+    let after : List ℕ = c.asked_of.new.left in
+    let asks = subst (λ (vids : List ℕ). IsAsked (set_in d) versions lists vids vids c.loop-part.left after asked) c.as_slice-served.ensures c.in_ok-asked.ensures in
+    let first = subst (λ (es : List Extent). IsFetchedFirst d.schema s1 s2 es (is_asked asked.sets.items)) c.as_slice-segments.ensures c.in_err-add_part.ensures.no_more in
+    few_in_all d versions lists rids c.requires.paired k part (subst (λ (ps : List Part). k < length ps) same c.loop-part-test.true) (subst (λ (ps : List Part). part ≡ get_or ps k part) same c.part-item.is)
+    c.parts-parts.ensures.sound.once s0 s2 c.loop-part.left after asked c.loop-part.found s1
+    (subst (λ (ps : List Part). HasPassed s0 s1 d versions lists rids (take k ps) c.loop-part.left c.loop-part.found) same c.loop-part.invariant) asks first
