@@ -4,7 +4,7 @@
 use Rattle.std.specs.Prelude.{◌≡◌, ◌≢◌, ◌≤◌, ◌+◌, [], length, Option, Some, None, IsTrue}
 use Rattle.ov_value.specs.Naming.{is_name}
 use Rattle.ov_model.specs.declared.command.Command.{Command}
-use Rattle.ov_model.specs.declared.command.Command.TheVariants.{Init, Checkout, Commit, Run, Layout, Log, Ls, DropCvd, Generate}
+use Rattle.ov_model.specs.declared.command.Command.TheVariants.{Init, Checkout, Commit, Run, Layout, Log, Ls, DropCvd, Generate, Optimize, Migrate}
 
 abbrev pub IsAsked : Command → Type 0
 IsAsked (Init cvd schema file) = IsTrue (is_name cvd)
@@ -17,6 +17,8 @@ IsAsked Ls = Unit {0}
 IsAsked (DropCvd cvd) = Unit {0}
 IsAsked (Generate cvd seed rows versions) =
     IsTrue (is_name cvd) × (1 ≤ rows) × (1 ≤ versions) × (versions ≤ 65535) × (rows + versions ≤ 1000000)
+IsAsked (Optimize cvd p q) = Unit {0}
+IsAsked (Migrate count) = Unit {0}
 IsAsked _ = ⊥
 
 abbrev pub AsksBuilt : Option Command → Type 0

@@ -28,7 +28,7 @@ use Rattle.ov_session.specs.Commands.{Goes, IsDamageOf, IsNoDamage, is_comment_i
 use Rattle.ov_session.specs.Damages.{IsLineDamaged, IsMetBy}
 use Rattle.ov_session.specs.Replying.{IsBehind, IsReplied, IsSaidBy}
 use Rattle.ov_session.specs.Standing.{IsAtSilently, IsAtSome, IsIdleOn}
-use Rattle.ov_session.specs.Stepping.{IsStepDamaged, TakesNoStep}
+use Rattle.ov_session.specs.Stepping.{IsStepDamaged, NoneBehind, TakesNoStep, line_begins}
 use Rattle.ov_session.specs.declared.errors.EndErr.{EndErr}
 use Rattle.ov_session.specs.declared.errors.EndErr.TheVariants as ending
 use Rattle.ov_session.specs.declared.serving.Served.{Served}
@@ -38,9 +38,10 @@ use Rattle.ov_store.specs.Kept.{Kept}
 -- ---- no step
 
 -- none comes where a line began no plan
-pub no_step : (steps : ℕ) (before mid : Held) → (running before.numbers ≡ None → running mid.numbers ≡ None) → TakesNoStep steps before.numbers → TakesNoStep steps mid.numbers
-no_step steps before mid begins (inl zero_is) = inl zero_is
-no_step steps before mid begins (inr none) = inr (begins none)
+pub no_step : (steps : ℕ) (l : Line) (before mid : Held) → (line_begins before.numbers l ≡ false → running before.numbers ≡ None → running mid.numbers ≡ None)
+    → NoneBehind steps before.numbers l → TakesNoStep steps mid.numbers
+no_step steps l before mid begins (inl zero_is) = inl zero_is
+no_step steps l before mid begins (inr (none, quiet)) = inr (begins quiet none)
 
 -- then the bounds of the line are those of all
 pub fetched_then : (user : List ℕ) (l : Line) (before : Held) (mid now : Kept) (P Q : Type 0) (old said new : State) → (P → Q) → (now ≡ mid) × (new ≡ said)
@@ -80,7 +81,7 @@ module _ (steps : ℕ) (user : List ℕ) (l : Line) (before now : Kept) (stage s
 -- ---- the reply
 
 module _ (steps : ℕ) (l : Line) (held : Held) (stage staged : Staged) (old said new : State) where
-  pub replied_then : (what : Served) → is_comment_of what ≡ false → IsSaidBy l what held stage staged old said → IsBehind steps held old said new
+  pub replied_then : (what : Served) → is_comment_of what ≡ false → IsSaidBy l what held stage staged old said → IsBehind steps l held old said new
       → IsReplied steps l what held stage staged old new
   replied_then served.Comment some is behind = cc
   replied_then served.Done some is behind = (is.0, is.1, said, is.2, behind)
@@ -92,12 +93,12 @@ module _ (steps : ℕ) (l : Line) (held : Held) (stage staged : Staged) (old sai
   replied_none served.Refused none is = cc
 
 -- what the steps do where they ended well, or where they met damage, which they don't at a World
-module _ (steps : ℕ) (held mid now : Held) (old said new : State) (goes : Goes said new) (none : TakesNoStep steps held.numbers → new ≡ said)
+module _ (steps : ℕ) (l : Line) (held mid now : Held) (old said new : State) (goes : Goes said new) (none : NoneBehind steps held.numbers l → new ≡ said)
     (at : IsAtSome held old → IsAtSome mid said) where
-  pub behind_done : ((w : World) → IsAtWorld w mid said → IsAtSilently now said new) → IsBehind steps held old said new
+  pub behind_done : ((w : World) → IsAtWorld w mid said → IsAtSilently now said new) → IsBehind steps l held old said new
   behind_done silent = record { goes = goes; silent = λ some. let on = at some in (silent on.0 on.1).printed; none = none }
 
-  pub behind_damaged : ((w : World) → IsAtWorld w mid said → ⊥) → IsBehind steps held old said new
+  pub behind_damaged : ((w : World) → IsAtWorld w mid said → ⊥) → IsBehind steps l held old said new
   behind_damaged never = record { goes = goes; silent = λ some. let on = at some in absurd (never on.0 on.1); none = none }
 
 -- ---- what is served

@@ -1,4 +1,4 @@
--- No plan runs where none ran: no command begins one.
+-- No plan runs where none ran, behind a command that begins none.
 use Rattle.std.proofs.Common.{◌≡◌, ◌∙◌, ◌⊎◌, inl, inr, ℕ, Bool, true, false, ◌==◌, List, [], ◌∷◌, ◌++◌, filter, map, refl, sym, ap, subst}
 use Rattle.std.specs.Prelude.{IfErr, IfOk, IsErrOf, OnOk, Option, Some, None, Ok, Err, Result, find, if◌then◌else◌, is_some, not}
 use Rattle.ov_host.specs.declared.area.Extent.{Extent}
@@ -37,7 +37,7 @@ abbrev has_plan : Set → Bool
 has_plan s = is_some s.plan
 
 -- no plan of these runs
-abbrev AreIdle : List Set → Type 0
+abbrev pub AreIdle : List Set → Type 0
 AreIdle [] = Unit {0}
 AreIdle (s ∷ sets) = (s.plan ≡ None) × AreIdle sets
 
@@ -51,7 +51,7 @@ first_none : (s : Set) (sets : List Set) (plan : Option (PlanNumbers Extent)) �
 first_none s sets None e = (refl, e)
 first_none s sets (Some plan) e = cc
 
-are_idle : (sets : List Set) → find has_plan sets ≡ None → AreIdle sets
+pub are_idle : (sets : List Set) → find has_plan sets ≡ None → AreIdle sets
 are_idle [] e = tt
 are_idle (s ∷ sets) e = let both = first_none s sets s.plan e in (both.0, are_idle sets both.1)
 
