@@ -1,6 +1,6 @@
 -- A `migrate`, out of the steps that were taken.
 use Rattle.std.proofs.Common.{◌≡◌, ◌∙◌, ◌+◌, inl, inr, zero, suc, ℕ, List, [], ◌∷◌, length, map, Some, None, refl, sym, ap, subst, arith}
-use Rattle.std.specs.Prelude.{◌≤◌, ◌||◌, ◌==◌, Bool, true, false, not, is_some, Option}
+use Rattle.std.specs.Prelude.{◌≤◌, ◌||◌, ◌==◌, Bool, true, false, not, is_some, Option, Ok, Err, Result}
 use Rattle.std.proofs.lemmas.Bool.{eqb-true, not-true}
 use Rattle.std.proofs.lemmas.List.Sums.{sum_by-cons}
 use Rattle.ov_host.specs.declared.area.Extent.{Extent}
@@ -28,6 +28,7 @@ use Rattle.ov_session.proofs.Idling.{AreIdle, are_idle}
 use Rattle.ov_session.proofs.Taking.{some_left}
 use Rattle.ov_session.specs.Commands.{IfNoFile}
 use Rattle.ov_session.specs.Stepping.{IsCutOff, IsOver, IsSteppedBy, LacksRoom, TakesNoStep, migrated, told_by}
+use Rattle.ov_session.specs.declared.errors.EndErr.{EndErr}
 use Rattle.ov_session.specs.declared.stepping.Lack.{Lack}
 use Rattle.ov_session.specs.declared.stepping.Lack.TheVariants as lack
 use Rattle.ov_session.specs.declared.stepping.Ran.{Ran}
@@ -60,6 +61,25 @@ idle_left (s ∷ sets) idle = sum_by-cons (λ x. plan_steps x.plan) s sets ∙ (
 -- none where no plan runs
 pub none_left : (n : Numbers Extent Extent) → running n ≡ None → steps_left n ≡ 0
 none_left n none = idle_left n.sets (are_idle n.sets none)
+
+abbrev ended : Ran → Result Ran EndErr
+ended ran = Ok ran
+
+the_ran : (a b : Ran) → ended a ≡ ended b → a ≡ b
+the_ran a b e = cc
+
+pub no_ran : (e : EndErr) → (let one : Result Ran EndErr = Err e in one) ≡ ended (record { taken = 0; lacks = None }) → ⊥
+no_ran e is = cc
+
+abbrev replied : Reply → Result Reply EndErr
+replied r = Ok r
+
+-- so no step is told
+pub migrated_none : (ran : Ran) (before now : Numbers Extent Extent) (r : Reply) → ended ran ≡ ended (record { taken = 0; lacks = None }) → now ≡ before → running before ≡ None
+    → r ≡ migrated ran (steps_left now) → replied r ≡ replied (says.Migrate 0 0)
+migrated_none ran before now r is same none tells =
+    let left : steps_left now ≡ 0 = ap (λ (n : Numbers Extent Extent). steps_left n) same ∙ none_left before none
+    in ap replied (tells ∙ (λ i. migrated (the_ran ran (record { taken = 0; lacks = None }) is i) (left i)))
 
 -- ---- what it means
 

@@ -315,14 +315,31 @@ ran_at n w ran before now old new is = record { at = (is.world, is.stepping.at);
 pub counted_down : (n counter : ℕ) → counter < n → n - counter ≡ suc (n - (counter + 1))
 counted_down n counter low = omega (arith, low)
 
--- no other answer comes where no step is asked for or no plan ran
+-- ---- where none is asked for or no plan ran
+
+abbrev pub turned : Turn → Result Turn EndErr
+turned t = Ok t
+
+abbrev pub none_taken : ℕ → Result Ran EndErr
+none_taken n = Ok (record { taken = n; lacks = None })
+
+one_turn : (a b : Turn) → turned a ≡ turned b → a ≡ b
+one_turn a b e = cc
+
+pub ok_turn : (t a b : Turn) → t ≡ a → turned t ≡ turned b → turned a ≡ turned b
+ok_turn t a b is as_ = sym (ap turned is) ∙ as_
+
+pub no_turn : (e : EndErr) → (let one : Result Turn EndErr = Err e in one) ≡ turned turn.Idle → ⊥
+no_turn e is = cc
+
+-- none runs before the next one either, so no other answer comes
+pub never_idle : (n counter : ℕ) (before now : Held) → counter < n → now ≡ before → TakesNoStep n before.numbers → running now.numbers ≡ None
+never_idle n counter before now low same (inl zero_is) = absurd (omega (arith, low, zero_is))
+never_idle n counter before now low same (inr idle) = subst (λ (h : Held). running h.numbers ≡ None) (sym same) idle
+
 pub never_other : (n counter : ℕ) (before now : Held) (t : Turn) → (t ≡ turn.Idle → ⊥) → counter < n → now ≡ before
-    → (running now.numbers ≡ None → (let one : Result Turn EndErr = Ok t in one) ≡ Ok turn.Idle) → TakesNoStep n before.numbers → ⊥
-never_other n counter before now t other low same none (inl zero_is) = absurd (omega (arith, low, zero_is))
-never_other n counter before now t other low same none (inr idle) = other (one_turn t turn.Idle (none (subst (λ (h : Held). running h.numbers ≡ None) (sym same) idle)))
-  where
-    one_turn : (a b : Turn) → (let one : Result Turn EndErr = Ok a in one) ≡ Ok b → a ≡ b
-    one_turn a b e = cc
+    → (running now.numbers ≡ None → turned t ≡ turned turn.Idle) → TakesNoStep n before.numbers → ⊥
+never_other n counter before now t other low same none behind = other (one_turn t turn.Idle (none (never_idle n counter before now low same behind)))
 
 pub taken_other : turn.Taken ≡ turn.Idle → ⊥
 taken_other e = cc

@@ -9,8 +9,8 @@ use Rattle.ov_session.specs.Commands.{Goes}
 use Rattle.ov_session.specs.Stepping.{TakesNoStep}
 use Rattle.ov_session.proofs.stepping.run_steps.Given as goal
 
-abbrev pub invariant-loop : goal.invariant-loop
-invariant-loop g l =
+abbrev pub invariant-loop-taken : goal.invariant-loop-taken
+invariant-loop-taken g l =
     let state = g.H.Host.state
     in record {
       few : l.taken ≤ l.fn.count;
@@ -22,5 +22,5 @@ invariant-loop g l =
           → (v : World) × IsStepping l.fn.count (l.fn.count - l.taken) w v l.fn.store.held l.store.held (state l.fn.host) (state l.host);
     }
 
-abbrev pub decreases-loop : goal.decreases-loop
-decreases-loop g l = l.fn.count - l.taken
+abbrev pub decreases-loop-taken : goal.decreases-loop-taken
+decreases-loop-taken g l = l.fn.count - l.taken

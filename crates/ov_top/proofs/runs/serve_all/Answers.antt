@@ -295,5 +295,5 @@ returns-in_err-served-clause-fetched g c = λ none told are.
     (next_lines c.next_line.new.self.ended given.0 left later given.1)
     (line_kept c.lines.user c.as_slice.result.now c.next_line.new.line.items given.0 c.lines.invariant.user c.as_slice.ensures.value given.2)
     c.serve.new.store.held _ (c.serve.ensures.fetched (none_then c.args.steps c.args.store.held c.lines.store.held (lines_of (g.S.Source.script c.args.source.now).left) (lines_of left) (lines_of later)
-          c.lines.user c.as_slice.result.now given.0 (g.H.Host.state c.args.host.now) (g.H.Host.state c.lines.host) (c.lines.invariant.fetched none told are) (next_lines c.next_line.new.self.ended given.0 left later given.1)
-          (line_kept c.lines.user c.as_slice.result.now c.next_line.new.line.items given.0 c.lines.invariant.user c.as_slice.ensures.value given.2) none))
+    c.lines.user c.as_slice.result.now given.0 (g.H.Host.state c.args.host.now) (g.H.Host.state c.lines.host) (c.lines.invariant.fetched none told are) (next_lines c.next_line.new.self.ended given.0 left later given.1)
+    (line_kept c.lines.user c.as_slice.result.now c.next_line.new.line.items given.0 c.lines.invariant.user c.as_slice.ensures.value given.2) none))
