@@ -15,7 +15,7 @@ use Rattle.ov_fetch.specs.Extents.{Looked, page_bytes}
 use Rattle.law_room.specs.Room.{Entry, IsWithin, LacksRecord, LacksRun, Made}
 use Rattle.law_runs.specs.Moving.{IsMoved}
 use Rattle.law_runs.specs.Stepping.{IsStepped, IsStepping}
-use Rattle.law_runs.proofs.Stepping.{stepped_broken, stepped_full, stepped_idle, stepped_no_run, stepping_looked, stepping_more, stepping_none}
+use Rattle.law_runs.proofs.Stepping.{stepped_broken, stepped_full, stepped_idle, stepped_no_run, stepped_over, stepping_looked, stepping_more, stepping_none}
 use Rattle.law_runs.specs.Stops.{printed_of}
 use Rattle.law_steps.specs.Turns.{running}
 use Rattle.ov_migrate.specs.Steps.{RefusesStep}

@@ -23,7 +23,7 @@ left_is told left n m ran is counted same = is ∙ ap (migrated ran) (counted �
 
 pub returns-clause-none : goal.returns-clause-none
 returns-clause-none g c = λ none.
-    let still = c.run_steps.ensures.none (inr none)
+    let still = c.in_ok-ran.ensures.none (inr none)
     in (migrated_none c.in_ok-ran.ran c.args.store.now.held.numbers c.run_steps.new.store.held.numbers c.told.result still.0 (ap (λ (k : Kept). k.held.numbers) still.1) none (left_is c.told.result c.steps_left.result c.catalog.result.now.numbers c.run_steps.new.store.held.numbers c.in_ok-ran.ran c.told.ensures c.steps_left.ensures c.catalog.ensures), still.1, still.2)
 
 pub returns-in_err-ran-clause-none : goal.returns-in_err-ran-clause-none

@@ -4,7 +4,7 @@ use Rattle.ov_model.specs.Act.{optimize_deed}
 use Rattle.ov_model.specs.World.{set_named}
 use Rattle.ov_model.specs.declared.reply.Reply.TheVariants as says
 use Rattle.law_runs.specs.Serving.{Does}
-use Rattle.ov_session.proofs.Planning.{begun_whole, on_reply, plan_at, plan_cause, plan_damaged, plan_done, plan_fetched, plan_idle, plan_off_by, plan_seen, plan_spared, refused_whole, some_refused, spared_host}
+use Rattle.ov_session.proofs.Plans.{begun_whole, on_reply, plan_at, plan_cause, plan_damaged, plan_done, plan_fetched, plan_idle, plan_off_by, plan_seen, plan_spared, refused_whole, some_refused, spared_host}
 use Rattle.ov_session.proofs.Standing.{at_next}
 use Rattle.ov_session.proofs.Taking.{journal_still, may_call}
 use Rattle.ov_session.specs.Bounds.{plan_fetch}

@@ -13,7 +13,7 @@ use Rattle.std.specs.Prelude.{◌≤◌}
 use Rattle.ov_session.proofs.Bounds.{fetched_allowed, fetched_still, off_there, unread_command}
 use Rattle.ov_session.proofs.Replying.{seen_missed}
 use Rattle.ov_session.proofs.Migrating.{fetched_same, none_to_take}
-use Rattle.ov_session.proofs.Planning.{refused_none}
+use Rattle.ov_session.proofs.Plans.{refused_none}
 use Rattle.ov_session.proofs.Standing.{at_looked, at_still, idle_spared, idle_stored, idle_unstaged, on_any, result_unmoved}
 use Rattle.ov_session.specs.Bounds.{IsFetched, IsReadingCommand, bytes_in, if_allowed, is_command_off}
 use Rattle.ov_session.specs.Standing.{IsIdleBy}
