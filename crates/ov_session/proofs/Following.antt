@@ -1,8 +1,7 @@
 -- A line that was answered, and the steps behind it.
-use Rattle.std.proofs.Common.{◌≡◌, ◌∙◌, ◌⊎◌, ◌++◌, inl, inr, ℕ, Bool, true, false, List, [], refl, sym, ap, subst, arith}
-use Rattle.std.specs.Prelude.{◌≢◌, ◌≤◌, IfErr, IsErrOf, None, OnOk, Ok, Err, Result, is_ok}
+use Rattle.std.proofs.Common.{◌≡◌, ◌∙◌, ◌++◌, inl, inr, ℕ, Bool, true, false, List, refl, sym, ap, subst, arith}
+use Rattle.std.specs.Prelude.{◌≢◌, ◌≤◌, None, Ok, Err, Result}
 use Rattle.ov_host.specs.declared.area.Area.{Area}
-use Rattle.ov_host.specs.declared.area.Area.TheVariants.{Pages}
 use Rattle.ov_host.specs.Host.{Rose, State}
 use Rattle.ov_host.specs.Stage.{Staged}
 use Rattle.ov_core.specs.AtWorld.{IsAtWorld}
@@ -11,11 +10,10 @@ use Rattle.law_runs.proofs.Behind.{serves_ended, serves_stepped, serves_unsteppe
 use Rattle.law_runs.specs.Licence.{LicensedLine}
 use Rattle.law_runs.specs.Serving.{Serves}
 use Rattle.law_runs.specs.Stepping.{IsStepped}
-use Rattle.law_runs.specs.Stops.{printed_of}
 use Rattle.law_steps.specs.Turns.{running}
 use Rattle.ov_model.specs.Act.{Session}
 use Rattle.ov_model.specs.BuiltShapes.{served_forms}
-use Rattle.ov_model.specs.Course.{Space, line_served}
+use Rattle.ov_model.specs.Course.{line_served}
 use Rattle.ov_model.specs.Line.{Asks, Comment, Line, Refused, line_of}
 use Rattle.ov_model.specs.Users.{line_by}
 use Rattle.ov_model.specs.World.{World}
@@ -24,7 +22,7 @@ use Rattle.ov_session.proofs.Saying.{comment_by}
 use Rattle.ov_session.proofs.Taking.{end_is}
 use Rattle.ov_session.specs.Asking.{line_asked}
 use Rattle.ov_session.specs.Bounds.{IsFetchedBy}
-use Rattle.ov_session.specs.Commands.{Goes, IsDamageOf, IsNoDamage, is_comment_in, is_comment_of, is_refusal_of}
+use Rattle.ov_session.specs.Commands.{Goes, IsDamageOf, IsNoDamage, is_comment_in, is_comment_of}
 use Rattle.ov_session.specs.Damages.{IsLineDamaged, IsMetBy}
 use Rattle.ov_session.specs.Replying.{IsBehind, IsReplied, IsSaidBy}
 use Rattle.ov_session.specs.Standing.{IsAtSilently, IsAtSome, IsIdleOn}

@@ -1,5 +1,5 @@
 -- A `migrate`, out of the steps that were taken.
-use Rattle.std.proofs.Common.{◌≡◌, ◌∙◌, ◌+◌, inl, inr, zero, suc, ℕ, List, [], ◌∷◌, length, map, Some, None, refl, sym, ap, subst, arith}
+use Rattle.std.proofs.Common.{◌≡◌, ◌∙◌, ◌+◌, inl, inr, suc, ℕ, List, [], ◌∷◌, map, Some, None, refl, sym, ap, subst, arith}
 use Rattle.std.specs.Prelude.{◌≤◌, ◌||◌, ◌==◌, Bool, true, false, not, is_some, Option, Ok, Err, Result}
 use Rattle.std.proofs.lemmas.Bool.{eqb-true, not-true}
 use Rattle.std.proofs.lemmas.List.Sums.{sum_by-cons}
@@ -21,7 +21,6 @@ use Rattle.ov_model.specs.Deed.{permitted}
 use Rattle.ov_model.specs.Steps as model
 use Rattle.ov_model.specs.World.{World}
 use Rattle.ov_model.specs.declared.command.Command.TheVariants as asks
-use Rattle.ov_model.specs.declared.refusal.Refusal.TheVariants as no
 use Rattle.ov_model.specs.declared.reply.Reply.{Reply}
 use Rattle.ov_model.specs.declared.reply.Reply.TheVariants as says
 use Rattle.ov_session.proofs.Idling.{AreIdle, are_idle}

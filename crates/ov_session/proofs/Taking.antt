@@ -1,19 +1,15 @@
 -- One migration step, by what the store answered; and one after another.
-use Rattle.std.proofs.Common.{◌≡◌, ◌∙◌, ◌⊎◌, inl, inr, ◌++◌, ℕ, zero, suc, Bool, true, false, List, [], ◌∷◌, Some, None, refl, sym, ap, subst, arith}
+use Rattle.std.proofs.Common.{◌≡◌, ◌∙◌, inl, inr, ℕ, zero, suc, Bool, true, false, List, Some, None, refl, sym, ap, subst, arith}
 use Rattle.std.specs.Prelude.{◌≤◌, ◌<◌, ◌+◌, ◌-◌, length, not, IfErr, IfOk, IsErr, IsErrOf, MatchResult, OnOk, Ok, Err, Option, Result}
 use Rattle.std.specs.Result.{IsErrAnd}
-use Rattle.ov_host.specs.declared.area.Area.{Area}
-use Rattle.ov_host.specs.declared.area.Area.TheVariants.{Journal, Pages}
-use Rattle.ov_host.specs.Disk.{Stored}
-use Rattle.ov_host.specs.Host.{Rose, State, bytes_of}
+use Rattle.ov_host.specs.Host.{Rose, State}
 use Rattle.ov_host.specs.Stops.{Only}
 use Rattle.ov_host.specs.Tape.{Tape}
 use Rattle.ov_core.specs.AtWorld.{IsAtNext, IsAtWorld, IsEither}
-use Rattle.ov_core.specs.Held.{GoesOn, Held, IsByJournal}
+use Rattle.ov_core.specs.Held.{Held, IsByJournal}
 use Rattle.ov_fetch.specs.declared.errors.FetchErr.TheVariants as fetch
 use Rattle.ov_fetch.specs.Extents.{Looked, page_bytes}
-use Rattle.law_room.specs.Room.{Entry, IsWithin, LacksRecord, LacksRun, Made}
-use Rattle.law_runs.specs.Moving.{IsMoved}
+use Rattle.law_room.specs.Room.{Entry, IsWithin, Made}
 use Rattle.law_runs.specs.Stepping.{IsStepped, IsStepping}
 use Rattle.law_runs.proofs.Stepping.{stepped_broken, stepped_full, stepped_idle, stepped_no_run, stepped_over, stepping_looked, stepping_more, stepping_none}
 use Rattle.law_runs.specs.Stops.{printed_of}

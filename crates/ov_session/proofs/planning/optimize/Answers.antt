@@ -1,4 +1,4 @@
-use Rattle.std.proofs.Common.{◌≡◌, ◌∙◌, ◌+◌, ℕ, List, Some, None, true, sym, ap, subst}
+use Rattle.std.proofs.Common.{◌≡◌, ◌∙◌, ◌+◌, ℕ, List, Some, None, sym, ap, subst}
 use Rattle.std.specs.Prelude.{◌≤◌, IfErr, OnOk}
 use Rattle.ov_model.specs.Act.{optimize_deed}
 use Rattle.ov_model.specs.World.{set_named}

@@ -1,8 +1,7 @@
-use Rattle.std.proofs.Common.{◌≡◌, ◌∙◌, Bool, true, false, refl, sym, ap, subst, arith}
-use Rattle.std.specs.Prelude.{Err, IfErr, IsErrOf, Ok, Result, is_ok}
+use Rattle.std.proofs.Common.{◌≡◌, ◌∙◌, true, false, refl, sym, ap, subst, arith}
+use Rattle.std.specs.Prelude.{Err, IfErr, Result, is_ok}
 use Rattle.ov_host.specs.Host.{State}
 use Rattle.law_runs.specs.Serving.{Serves, session_of}
-use Rattle.law_runs.specs.Stepping.{IsStepped}
 use Rattle.ov_store.specs.Kept.{Kept}
 use Rattle.ov_session.specs.Asking.{line_asked}
 use Rattle.ov_session.specs.Commands.{IsDamageOf, IsNoDamage, is_comment_of, is_refusal_of, is_refused}

@@ -1,7 +1,6 @@
-use Rattle.std.proofs.Common.{◌≡◌, ◌∙◌, ◌+◌, ◌-◌, ◌<◌, ℕ, suc, refl, sym, ap, subst, arith}
-use Rattle.std.specs.Prelude.{◌≤◌, Err, IfErr, None, Ok, Result, Some}
+use Rattle.std.proofs.Common.{◌∙◌, ◌+◌, ◌-◌, ℕ, suc, refl, sym, ap, subst, arith}
+use Rattle.std.specs.Prelude.{Err, IfErr, Ok, Result}
 use Rattle.law_runs.specs.Stepping.{IsStepping}
-use Rattle.law_steps.specs.Turns.{running}
 use Rattle.ov_session.proofs.Taking.{counted_down, end_is, err_is, lacks_other, never_idle, never_other, no_turn, none_taken, ok_turn, stepping_start, steps_all, steps_break, steps_end, steps_lack, steps_more, taken_other}
 use Rattle.ov_session.specs.Commands.{IsNoDamage}
 use Rattle.ov_session.specs.Stepping.{IsRan, IsStep}

@@ -1,6 +1,5 @@
-use Rattle.std.proofs.Common.{◌≡◌, ◌∙◌, sym, ap, subst}
+use Rattle.std.proofs.Common.{◌∙◌, sym, ap, subst}
 use Rattle.std.specs.Prelude.{IfErr, IsErrOf, OnOk, Result}
-use Rattle.ov_core.specs.Held.{IsByJournal}
 use Rattle.ov_store.specs.Kept.{MayCall}
 use Rattle.ov_session.specs.Commands.{IsDamageOf, IsNoDamage}
 use Rattle.ov_session.specs.Stepping.{IsStep, IsStepDamaged, by_step}

@@ -1,5 +1,5 @@
-use Rattle.std.proofs.Common.{◌≡◌, ◌∙◌, refl, sym, ap, subst}
-use Rattle.std.specs.Prelude.{Err, IfErr, IsErrOf, Ok, Result, is_ok}
+use Rattle.std.proofs.Common.{◌∙◌, refl, sym, ap, subst}
+use Rattle.std.specs.Prelude.{Err, IfErr, Result, is_ok}
 use Rattle.law_runs.specs.Stepping.{IsStepped}
 use Rattle.ov_session.proofs.Taking.{cut_stepped, end_is, err_is, ran_at, ran_stepped}
 use Rattle.ov_session.specs.Commands.{IsNoDamage}
