@@ -4,7 +4,9 @@
 --     NoneBehind steps n line      no step comes behind this line
 --     IsStepDamaged steps held s page      what a step that was asked for reads is damaged
 --     by_step stepped      what a step comes to: whether one was taken, or why the run ends
+--     LacksRoom w held what      a step is next, and there may be no room for it
 --     IsStep w result ..      where the store is at a World: a step was taken, or none was, or the run ends in one
+--     IsOver left v held lacks      why no more come: all were taken, no plan runs, or there may be no room for the next
 --     IsRan n w result ..      of up to n steps so many were taken, and why no more; or the run ends in one
 --     migrated ran left      what a `migrate` tells of them
 use Rattle.std.specs.Prelude.{◌≡◌, ◌⊎◌, ◌≤◌, ◌+◌, ℕ, suc, Bool, true, false, not, List, Option, None, Some, Result, Ok, Err, is_some}
@@ -117,7 +119,7 @@ IsStep w (Err why) before now old new = IsBrokenOff w old new
 
 -- ---- several
 
--- why no more come, where so many were still asked for: all were taken or no plan runs, or there may be no room for the next
+-- so many of them were still asked for
 abbrev pub IsOver : ℕ → World → Held → Option Lack → Type 0
 IsOver left v held None = (left ≡ 0) ⊎ (next_step v ≡ None)
 IsOver left v held (Some what) = (1 ≤ left) × LacksRoom v held what
