@@ -28,6 +28,7 @@ fetched_still old new n same = omega (arith, same)
 pub unread_command : (user : List ℕ) (command : Command) (held : Held) (fault : Type 0) (s : State) → IsFetched user command held held fault s s
 unread_command user (asks.Generate cvd seed rows versions) held fault s =
     record { begun = []; are = tt; few = omega arith; last = λ fine. inr refl; fetched = omega arith }
+unread_command user (asks.Migrate count) held fault s = λ none. omega arith
 unread_command user command held fault s = omega arith
 
 pub unread_line : (user : List ℕ) (l : Line) (held : Held) (fault : Type 0) (s : State) → IsFetchedBy user l held held fault s s
@@ -40,6 +41,7 @@ pub printed_command : (user : List ℕ) (command : Command) (held now : Held) (P
     → IsFetched user command held now P old mid → IsFetched user command held now Q old new
 printed_command user (asks.Generate cvd seed rows versions) held now P Q old mid new to same f =
     record { begun = f.begun; are = f.are; few = f.few; last = λ fine. f.last (λ p. fine (to p)); fetched = omega (arith, f.fetched, same) }
+printed_command user (asks.Migrate count) held now P Q old mid new to same f = λ none. omega (arith, f none, same)
 printed_command user command held now P Q old mid new to same f = omega (arith, f, same)
 
 pub printed_line : (user : List ℕ) (l : Line) (held now : Held) (P Q : Type 0) (old mid new : State) → (P → Q) → new.fetched ≡ mid.fetched → IsFetchedBy user l held now P old mid
@@ -52,6 +54,7 @@ printed_line user (Refused refusal) held now P Q old mid new to same f = omega (
 reading_command : (user : List ℕ) (command : Command) (before now : Held) (fault : Type 0) (old new : State) → IsReadingCommand command → IsFetched user command before now fault old new
     → new.fetched ≤ old.fetched + command_fetch before.numbers user command
 reading_command user (asks.Generate cvd seed rows versions) before now fault old new reads f = absurd reads
+reading_command user (asks.Migrate count) before now fault old new reads f = absurd reads
 reading_command user command before now fault old new reads f = f
 
 pub reading_fetched : (user : List ℕ) (l : Line) (before now : Held) (fault : Type 0) (old new : State) → IsReading l → IsFetchedBy user l before now fault old new
@@ -84,7 +87,7 @@ off_there None is = absurd cc
 off_there (Some off) is = (off, refl)
 
 -- of it nothing is read
-pub fetched_allowed : (off : Option StoreErr) (n a b : ℕ) → b ≤ a + n → ((e : StoreErr) → off ≡ Some e → b ≡ a) → b ≤ a + if_allowed off n
+pub fetched_allowed : {E : Type 0} → (off : Option E) (n a b : ℕ) → b ≤ a + n → ((e : E) → off ≡ Some e → b ≡ a) → b ≤ a + if_allowed off n
 fetched_allowed None n a b within none = within
 fetched_allowed (Some e) n a b within none = at_most (none e refl)
   where

@@ -1,8 +1,7 @@
 -- A line that was answered, and the steps behind it.
-use Rattle.std.proofs.Common.{◌≡◌, ◌∙◌, ◌⊎◌, ◌++◌, inl, inr, ℕ, Bool, true, false, List, [], refl, sym, ap, subst, arith}
-use Rattle.std.specs.Prelude.{◌≢◌, ◌≤◌, IfErr, IsErrOf, None, OnOk, Ok, Err, Result, is_ok}
+use Rattle.std.proofs.Common.{◌≡◌, ◌∙◌, ◌++◌, inl, inr, ℕ, Bool, true, false, List, refl, sym, ap, subst, arith}
+use Rattle.std.specs.Prelude.{◌≢◌, ◌≤◌, None, Ok, Err, Result}
 use Rattle.ov_host.specs.declared.area.Area.{Area}
-use Rattle.ov_host.specs.declared.area.Area.TheVariants.{Pages}
 use Rattle.ov_host.specs.Host.{Rose, State}
 use Rattle.ov_host.specs.Stage.{Staged}
 use Rattle.ov_core.specs.AtWorld.{IsAtWorld}
@@ -11,11 +10,10 @@ use Rattle.law_runs.proofs.Behind.{serves_ended, serves_stepped, serves_unsteppe
 use Rattle.law_runs.specs.Licence.{LicensedLine}
 use Rattle.law_runs.specs.Serving.{Serves}
 use Rattle.law_runs.specs.Stepping.{IsStepped}
-use Rattle.law_runs.specs.Stops.{printed_of}
 use Rattle.law_steps.specs.Turns.{running}
 use Rattle.ov_model.specs.Act.{Session}
 use Rattle.ov_model.specs.BuiltShapes.{served_forms}
-use Rattle.ov_model.specs.Course.{Space, line_served}
+use Rattle.ov_model.specs.Course.{line_served}
 use Rattle.ov_model.specs.Line.{Asks, Comment, Line, Refused, line_of}
 use Rattle.ov_model.specs.Users.{line_by}
 use Rattle.ov_model.specs.World.{World}
@@ -24,11 +22,11 @@ use Rattle.ov_session.proofs.Saying.{comment_by}
 use Rattle.ov_session.proofs.Taking.{end_is}
 use Rattle.ov_session.specs.Asking.{line_asked}
 use Rattle.ov_session.specs.Bounds.{IsFetchedBy}
-use Rattle.ov_session.specs.Commands.{Goes, IsDamageOf, IsNoDamage, is_comment_in, is_comment_of, is_refusal_of}
+use Rattle.ov_session.specs.Commands.{Goes, IsDamageOf, IsNoDamage, is_comment_in, is_comment_of}
 use Rattle.ov_session.specs.Damages.{IsLineDamaged, IsMetBy}
 use Rattle.ov_session.specs.Replying.{IsBehind, IsReplied, IsSaidBy}
 use Rattle.ov_session.specs.Standing.{IsAtSilently, IsAtSome, IsIdleOn}
-use Rattle.ov_session.specs.Stepping.{IsStepDamaged, TakesNoStep}
+use Rattle.ov_session.specs.Stepping.{IsStepDamaged, NoneBehind, TakesNoStep, line_begins}
 use Rattle.ov_session.specs.declared.errors.EndErr.{EndErr}
 use Rattle.ov_session.specs.declared.errors.EndErr.TheVariants as ending
 use Rattle.ov_session.specs.declared.serving.Served.{Served}
@@ -38,9 +36,10 @@ use Rattle.ov_store.specs.Kept.{Kept}
 -- ---- no step
 
 -- none comes where a line began no plan
-pub no_step : (steps : ℕ) (before mid : Held) → (running before.numbers ≡ None → running mid.numbers ≡ None) → TakesNoStep steps before.numbers → TakesNoStep steps mid.numbers
-no_step steps before mid begins (inl zero_is) = inl zero_is
-no_step steps before mid begins (inr none) = inr (begins none)
+pub no_step : (steps : ℕ) (l : Line) (before mid : Held) → (line_begins before.numbers l ≡ false → running before.numbers ≡ None → running mid.numbers ≡ None)
+    → NoneBehind steps before.numbers l → TakesNoStep steps mid.numbers
+no_step steps l before mid begins (inl zero_is) = inl zero_is
+no_step steps l before mid begins (inr (none, quiet)) = inr (begins quiet none)
 
 -- then the bounds of the line are those of all
 pub fetched_then : (user : List ℕ) (l : Line) (before : Held) (mid now : Kept) (P Q : Type 0) (old said new : State) → (P → Q) → (now ≡ mid) × (new ≡ said)
@@ -80,7 +79,7 @@ module _ (steps : ℕ) (user : List ℕ) (l : Line) (before now : Kept) (stage s
 -- ---- the reply
 
 module _ (steps : ℕ) (l : Line) (held : Held) (stage staged : Staged) (old said new : State) where
-  pub replied_then : (what : Served) → is_comment_of what ≡ false → IsSaidBy l what held stage staged old said → IsBehind steps held old said new
+  pub replied_then : (what : Served) → is_comment_of what ≡ false → IsSaidBy l what held stage staged old said → IsBehind steps l held old said new
       → IsReplied steps l what held stage staged old new
   replied_then served.Comment some is behind = cc
   replied_then served.Done some is behind = (is.0, is.1, said, is.2, behind)
@@ -92,12 +91,12 @@ module _ (steps : ℕ) (l : Line) (held : Held) (stage staged : Staged) (old sai
   replied_none served.Refused none is = cc
 
 -- what the steps do where they ended well, or where they met damage, which they don't at a World
-module _ (steps : ℕ) (held mid now : Held) (old said new : State) (goes : Goes said new) (none : TakesNoStep steps held.numbers → new ≡ said)
+module _ (steps : ℕ) (l : Line) (held mid now : Held) (old said new : State) (goes : Goes said new) (none : NoneBehind steps held.numbers l → new ≡ said)
     (at : IsAtSome held old → IsAtSome mid said) where
-  pub behind_done : ((w : World) → IsAtWorld w mid said → IsAtSilently now said new) → IsBehind steps held old said new
+  pub behind_done : ((w : World) → IsAtWorld w mid said → IsAtSilently now said new) → IsBehind steps l held old said new
   behind_done silent = record { goes = goes; silent = λ some. let on = at some in (silent on.0 on.1).printed; none = none }
 
-  pub behind_damaged : ((w : World) → IsAtWorld w mid said → ⊥) → IsBehind steps held old said new
+  pub behind_damaged : ((w : World) → IsAtWorld w mid said → ⊥) → IsBehind steps l held old said new
   behind_damaged never = record { goes = goes; silent = λ some. let on = at some in absurd (never on.0 on.1); none = none }
 
 -- ---- what is served

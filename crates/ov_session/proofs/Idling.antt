@@ -1,11 +1,11 @@
--- No plan runs where none ran: no command begins one.
-use Rattle.std.proofs.Common.{◌≡◌, ◌∙◌, ◌⊎◌, inl, inr, ℕ, Bool, true, false, ◌==◌, List, [], ◌∷◌, ◌++◌, filter, map, refl, sym, ap, subst}
-use Rattle.std.specs.Prelude.{IfErr, IfOk, IsErrOf, OnOk, Option, Some, None, Ok, Err, Result, find, if◌then◌else◌, is_some, not}
+-- No plan runs where none ran, behind a command that begins none.
+use Rattle.std.proofs.Common.{◌≡◌, ◌∙◌, ◌⊎◌, inl, inr, ℕ, Bool, true, false, List, [], ◌∷◌, ◌++◌, filter, map, refl, sym, ap, subst}
+use Rattle.std.specs.Prelude.{IfOk, OnOk, Option, Some, None, Ok, Err, Result, find, if◌then◌else◌, is_some, not}
 use Rattle.ov_host.specs.declared.area.Extent.{Extent}
 use Rattle.ov_host.specs.Host.{State}
 use Rattle.ov_event.specs.declared.event.Event as raw
 use Rattle.ov_event.specs.declared.event.Event.TheVariants as says
-use Rattle.ov_catalog.specs.Events.{applied, change, new_set, numbered}
+use Rattle.ov_catalog.specs.Events.{applied, change, numbered}
 use Rattle.ov_catalog.specs.Numbers.{Numbers, PlanNumbers, SetNumbers, each_plan, each_set}
 use Rattle.ov_catalog.specs.Raw.{event_in}
 use Rattle.ov_catalog.specs.Shown.{Records, Rids, shown_plan, shown_set}
@@ -15,7 +15,7 @@ use Rattle.ov_core.specs.Brought.{with_extents}
 use Rattle.ov_core.specs.Held.{Held}
 use Rattle.law_image.specs.Pages.{readings_of}
 use Rattle.ov_fetch.specs.Extents.{page_bytes}
-use Rattle.ov_generate.specs.Reads.{AreBegun, Begun, HasFetched, IsAfter, IsFound, IsVersionMade}
+use Rattle.ov_generate.specs.Reads.{AreBegun, Begun, HasFetched, IsAfter, IsFound}
 use Rattle.law_steps.specs.Turns.{running}
 use Rattle.ov_model.specs.Moves.{Move}
 use Rattle.ov_model.specs.Steps.{first_step, next_step, step_or}
@@ -31,13 +31,12 @@ use Rattle.ov_store.specs.declared.store.Committed.{Committed}
 use Rattle.ov_session.proofs.Calls.{stays_still}
 use Rattle.ov_session.specs.Errors.{reply_of}
 use Rattle.ov_session.specs.declared.errors.EndErr.{EndErr}
-use Rattle.ov_session.specs.declared.errors.EndErr.TheVariants as ending
 
 abbrev has_plan : Set → Bool
 has_plan s = is_some s.plan
 
 -- no plan of these runs
-abbrev AreIdle : List Set → Type 0
+abbrev pub AreIdle : List Set → Type 0
 AreIdle [] = Unit {0}
 AreIdle (s ∷ sets) = (s.plan ≡ None) × AreIdle sets
 
@@ -51,7 +50,7 @@ first_none : (s : Set) (sets : List Set) (plan : Option (PlanNumbers Extent)) �
 first_none s sets None e = (refl, e)
 first_none s sets (Some plan) e = cc
 
-are_idle : (sets : List Set) → find has_plan sets ≡ None → AreIdle sets
+pub are_idle : (sets : List Set) → find has_plan sets ≡ None → AreIdle sets
 are_idle [] e = tt
 are_idle (s ∷ sets) e = let both = first_none s sets s.plan e in (both.0, are_idle sets both.1)
 

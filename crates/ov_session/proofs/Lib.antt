@@ -16,3 +16,5 @@ pub mod Making
 pub mod Idling
 pub mod Taking
 pub mod Following
+pub mod Plans
+pub mod Migrating

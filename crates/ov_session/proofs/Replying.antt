@@ -30,7 +30,7 @@ use Rattle.ov_store.specs.declared.errors.StoreErr.TheVariants as why
 
 -- ---- refusals that speak of no file
 
-other_refusal : (refusal : Refusal) (r : Reply) → Some (says.Refused refusal) ≡ Some r → ((name : List ℕ) → refusal ≡ no.NoFile name → ⊥) → IfNoFile ⊥ r
+pub other_refusal : (refusal : Refusal) (r : Reply) → Some (says.Refused refusal) ≡ Some r → ((name : List ℕ) → refusal ≡ no.NoFile name → ⊥) → IfNoFile ⊥ r
 other_refusal refusal r said other = λ name is. let same : says.Refused refusal ≡ says.Refused (no.NoFile name) = same_Some (says.Refused refusal) r said ∙ is in other name cc
 
 -- those of the store

@@ -7,6 +7,7 @@ use Rattle.ov_host.specs.Stage.{Staged}
 use Rattle.ov_catalog.specs.Numbers.{Numbers}
 use Rattle.ov_core.specs.AtWorld.{IsAtWorld}
 use Rattle.law_runs.specs.Serving.{Breaks, Does, Serves, session_of}
+use Rattle.law_steps.specs.Turns.{running}
 use Rattle.ov_model.proofs.Shaped.{line_shaped}
 use Rattle.ov_model.specs.Act.{Session}
 use Rattle.ov_model.specs.BuiltShapes.{if_built, is_built_shape, served_line}
@@ -32,6 +33,7 @@ use Rattle.ov_session.specs.Bounds.{IsFetched, IsFetchedBy, IsReading, IsReading
 use Rattle.ov_session.specs.Commands.{IsDamageOf, IsDamaged, IsOther, IsSaid, MeetsDamage, is_comment_in, is_comment_of, is_refused}
 use Rattle.ov_session.specs.Replying.{IsReplyTo}
 use Rattle.ov_session.specs.Standing.{IsIdle, IsIdleBy, IsIdleOn}
+use Rattle.ov_session.specs.Stepping.{begins_plan, line_begins}
 use Rattle.ov_session.specs.declared.errors.EndErr.{EndErr}
 use Rattle.ov_session.specs.declared.serving.Served.{Served}
 use Rattle.ov_store.specs.Kept.{Kept}
@@ -166,6 +168,15 @@ module _ (user : List ℕ) (command : Command) (l : Line) (is : l ≡ served_lin
         by : Shape l command → IsReplyTo l reply
         by (inl asks_) = subst (λ (x : Line). IsReplyTo x reply) (sym asks_.0) tt
         by (inr other) = subst (λ (x : Line). IsReplyTo x reply) (sym other.1) (others other.0 other.2).reply
+
+    -- and where its line begins no plan, none runs that ran before
+    pub none_shaped : (begins_plan before.held.numbers command ≡ false → running before.held.numbers ≡ None → running now.held.numbers ≡ None)
+        → line_begins before.held.numbers l ≡ false → running before.held.numbers ≡ None → running now.held.numbers ≡ None
+    none_shaped begins quiet none = by (line_shape l command is)
+      where
+        by : Shape l command → running now.held.numbers ≡ None
+        by (inl asks_) = begins (sym (ap (line_begins before.held.numbers) asks_.0) ∙ quiet) none
+        by (inr other) = subst (λ (k : Kept). running k.held.numbers ≡ None) (sym (others other.0 other.2).store) none
 
     pub whole_shaped : (met : Command) (page : ℕ) (result : Result Served EndErr) → l ≡ Asks met → (MeetsDamage user command stage before.held old page → ⊥)
         → OnOk result (MeetsDamage user met stage before.held old page → ⊥)

@@ -109,6 +109,10 @@ module _ (before now : Kept) (stage staged : Staged) (old new : State) where
   unsaid_command (asks.Generate cvd seed rows versions) ending.Memory alone = tt
   unsaid_command (asks.Generate cvd seed rows versions) ending.Stage alone = absurd alone
   unsaid_command (asks.Generate cvd seed rows versions) (ending.Damaged area at) alone = absurd alone
+  unsaid_command (asks.Migrate count) ending.Host alone = tt
+  unsaid_command (asks.Migrate count) ending.Memory alone = tt
+  unsaid_command (asks.Migrate count) ending.Stage alone = absurd alone
+  unsaid_command (asks.Migrate count) (ending.Damaged area at) alone = absurd alone
   unsaid_command command ending.Host alone = tt
   unsaid_command command ending.Memory alone = tt
   unsaid_command command ending.Stage alone = absurd alone
@@ -129,7 +133,7 @@ module _ (before now : Kept) (stage staged : Staged) (old new : State) where
   idle_unsaid_on l (Ok what) alone = tt
   idle_unsaid_on l (Err e) alone = unsaid_line l e alone
 
-  -- a dataset that is generated
+  -- a dataset that is generated, and steps
   pub idle_unstaged : (result : Result Reply EndErr) → (IsErrOf result ending.Stage → ⊥) → staged.files ≡ stage.files → IfErr result (λ e. IsUnstaged e stage staged)
   idle_unstaged (Ok reply) alone files = tt
   idle_unstaged (Err ending.Host) alone files = tt

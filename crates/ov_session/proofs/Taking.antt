@@ -1,21 +1,17 @@
--- One migration step, by what the store answered.
-use Rattle.std.proofs.Common.{◌≡◌, ◌∙◌, ◌⊎◌, inl, inr, ◌++◌, ℕ, suc, Bool, true, false, List, [], ◌∷◌, Some, None, refl, sym, ap, subst, arith}
+-- One migration step, by what the store answered; and one after another.
+use Rattle.std.proofs.Common.{◌≡◌, ◌∙◌, inl, inr, ℕ, zero, suc, Bool, true, false, List, Some, None, refl, sym, ap, subst, arith}
 use Rattle.std.specs.Prelude.{◌≤◌, ◌<◌, ◌+◌, ◌-◌, length, not, IfErr, IfOk, IsErr, IsErrOf, MatchResult, OnOk, Ok, Err, Option, Result}
 use Rattle.std.specs.Result.{IsErrAnd}
-use Rattle.ov_host.specs.declared.area.Area.{Area}
-use Rattle.ov_host.specs.declared.area.Area.TheVariants.{Journal, Pages}
-use Rattle.ov_host.specs.Disk.{Stored}
-use Rattle.ov_host.specs.Host.{Rose, State, bytes_of}
+use Rattle.ov_host.specs.Host.{Rose, State}
 use Rattle.ov_host.specs.Stops.{Only}
 use Rattle.ov_host.specs.Tape.{Tape}
 use Rattle.ov_core.specs.AtWorld.{IsAtNext, IsAtWorld, IsEither}
-use Rattle.ov_core.specs.Held.{GoesOn, Held, IsByJournal}
+use Rattle.ov_core.specs.Held.{Held, IsByJournal}
 use Rattle.ov_fetch.specs.declared.errors.FetchErr.TheVariants as fetch
 use Rattle.ov_fetch.specs.Extents.{Looked, page_bytes}
-use Rattle.law_room.specs.Room.{Entry, IsWithin, LacksRecord, LacksRun, Made}
-use Rattle.law_runs.specs.Moving.{IsMoved}
+use Rattle.law_room.specs.Room.{Entry, IsWithin, Made}
 use Rattle.law_runs.specs.Stepping.{IsStepped, IsStepping}
-use Rattle.law_runs.proofs.Stepping.{stepped_broken, stepped_full, stepped_idle, stepped_no_run, stepping_looked, stepping_more, stepping_none}
+use Rattle.law_runs.proofs.Stepping.{stepped_broken, stepped_full, stepped_idle, stepped_no_run, stepped_over, stepping_looked, stepping_more, stepping_none}
 use Rattle.law_runs.specs.Stops.{printed_of}
 use Rattle.law_steps.specs.Turns.{running}
 use Rattle.ov_migrate.specs.Steps.{RefusesStep}
@@ -26,9 +22,14 @@ use Rattle.ov_session.proofs.Idling.{at_idle}
 use Rattle.ov_session.proofs.Numbering.{journal_looked}
 use Rattle.ov_session.specs.Commands.{IsDamageOf, IsNoDamage}
 use Rattle.ov_session.specs.Standing.{IsAtSilently}
-use Rattle.ov_session.specs.Stepping.{IsBrokenOff, IsNotTaken, IsStep, IsStepDamaged, IsTaken, LacksRoom, TakesNoStep, by_step}
+use Rattle.ov_session.specs.Stepping.{IsBrokenOff, IsCutOff, IsNotTaken, IsOver, IsStep, IsStepDamaged, IsSteppedBy, IsTaken, LacksRoom, TakesNoStep, by_step}
 use Rattle.ov_session.specs.declared.errors.EndErr.{EndErr}
 use Rattle.ov_session.specs.declared.errors.EndErr.TheVariants as ending
+use Rattle.ov_session.specs.declared.stepping.Lack.{Lack}
+use Rattle.ov_session.specs.declared.stepping.Lack.TheVariants as lack
+use Rattle.ov_session.specs.declared.stepping.Ran.{Ran}
+use Rattle.ov_session.specs.declared.stepping.Turn.{Turn}
+use Rattle.ov_session.specs.declared.stepping.Turn.TheVariants as turn
 use Rattle.ov_store.specs.Kept.{Kept, MayCall}
 use Rattle.ov_store.specs.Stepping.{IsAnswer, IsStepLack, IsStepSpared, IsUnstepped, flip_answer, runs_in}
 use Rattle.ov_store.specs.Worlds.{and_made}
@@ -82,7 +83,7 @@ module _ (before now : Kept) (old new : State) where
   step_damaged (Err why.Memory) off stays = tt
   step_damaged (Err (why.Damaged area at)) off stays = (off.0, damaged_then at off.1 (stays (λ is. cc)))
 
-  may_call : MayCall before old → (now ≡ before) × Looked old new → MayCall now new
+  pub may_call : MayCall before old → (now ≡ before) × Looked old new → MayCall now new
   may_call call still =
       subst (λ (k : Kept). MayCall k new) (sym still.0)
       (record {
@@ -103,7 +104,7 @@ module _ (before now : Kept) (old new : State) where
   step_usable (Err why.Memory) on stays call = tt
   step_usable (Err (why.Damaged area at)) on stays call = tt
 
-  journal_still : IsByJournal before.held old → (now ≡ before) × Looked old new → IsByJournal now.held new
+  pub journal_still : IsByJournal before.held old → (now ≡ before) × Looked old new → IsByJournal now.held new
   journal_still by still = subst (λ (k : Kept). IsByJournal k.held new) (sym still.0) (journal_looked before.held old new still.1 by)
 
   pub step_journal : (r : Answer) → OnOk r (IsByJournal now.held new) → IfErr r (λ off. Stays off before now old new) → IsByJournal before.held old
@@ -194,9 +195,10 @@ module _ (w : World) (before now : Kept) (old new : State) (at : IsAtWorld w bef
   broken : (m : Move) × (next_step w ≡ Some m) → IsBrokenOff w old new
   broken next = record { step = next.0; next = next.1; stops = stops next.0 next.1 }
 
-  not_taken : (now ≡ before) × Looked old new → (next_step w ≡ None) ⊎ LacksRoom w before.held → IsNotTaken w before.held now.held old new
-  not_taken same reason =
-      record { held = ap (λ (k : Kept). k.held) same.0; told = same.1.told; tape = same.1.tape at.at.told; reason = reason }
+  not_taken : (now ≡ before) × Looked old new → (what : Lack) → LacksRoom w before.held what
+      → IsNotTaken (LacksRoom w before.held what) before.held now.held old new
+  not_taken same what lacks =
+      record { held = ap (λ (k : Kept). k.held) same.0; told = same.1.told; tape = same.1.tape at.at.told; because = lacks }
 
   pub step_at : (r : Answer) → IsIdle r → IfOk r (λ s. s ≡ stepped.Nothing → running before.held.numbers ≡ None) → IfOk r (IsAnswer w (next_step w))
       → IfErr r (λ off. Stays off before now old new)
@@ -210,7 +212,7 @@ module _ (w : World) (before now : Kept) (old new : State) (at : IsAtWorld w bef
         held = ap (λ (k : Kept). k.held) same.1;
         told = ap (λ (s : State). s.tells) same.2;
         tape = ap (λ (s : State). s.tape) same.2;
-        reason = inl (answered_none w (next_step w) answer);
+        because = answered_none w (next_step w) answer;
       }
   step_at (Ok stepped.Copied) idle none answer stays moves room =
       let next = has_next (Ok stepped.Copied) idle (other stepped.Copied not_copied)
@@ -223,12 +225,12 @@ module _ (w : World) (before now : Kept) (old new : State) (at : IsAtWorld w bef
       in taken next (moves next.0 next.1) (λ entry past within. room next.0 entry past next.1 within)
   step_at (Err (why.Full pages)) idle none answer stays moves room =
       let next = has_next (Err (why.Full pages)) idle (refused (why.Full pages))
-      in not_taken (stays (λ is. cc))
-      (inr (record { step = next.0; next = next.1; wanting = inl (pages, λ entry past within. room next.0 entry past next.1 within) }))
+      in not_taken (stays (λ is. cc)) (lack.Run pages)
+      (record { step = next.0; next = next.1; wanting = λ entry past within. room next.0 entry past next.1 within })
   step_at (Err why.JournalFull) idle none answer stays moves room =
       let next = has_next (Err why.JournalFull) idle (refused why.JournalFull)
-      in not_taken (stays (λ is. cc))
-      (inr (record { step = next.0; next = next.1; wanting = inr (λ entry past within. room next.0 entry past next.1 within) }))
+      in not_taken (stays (λ is. cc)) lack.Record
+      (record { step = next.0; next = next.1; wanting = λ entry past within. room next.0 entry past next.1 within })
   step_at (Err why.Host) idle none answer stays moves room = broken (has_next (Err why.Host) idle (refused why.Host))
   step_at (Err why.Memory) idle none answer stays moves room = broken (has_next (Err why.Memory) idle (refused why.Memory))
   step_at (Err (why.Damaged area at_)) idle none answer stays moves room =
@@ -236,45 +238,110 @@ module _ (w : World) (before now : Kept) (old new : State) (at : IsAtWorld w bef
 
 -- ---- behind those that were taken
 
-module _ (n left : ℕ) (w v : World) (before now later : Held) (old mid new : State) (is : IsStepping n (suc left) w v before now old mid) where
+module _ (n left taken : ℕ) (w v : World) (before now later : Held) (old mid new : State) (is : IsStepping n (suc left) w v before now old mid) (count : taken + suc left ≡ n) where
   -- one more
   pub steps_more : IsTaken v now later mid new → (u : World) × IsStepping n left w u before later old new
   steps_more step = (moved step.step v, stepping_more n left w v step.step before now old mid is step.next later new step.made)
 
   -- none is taken any more
-  pub steps_end : IsNotTaken v now later mid new → IsStepped n w true before later old new
-  steps_end step =
-      let looked : IsStepping n (suc left) w v before now old new = stepping_looked n (suc left) w v before now old mid is new step.told step.tape
-      in subst (λ (h : Held). IsStepped n w true before h old new) (sym step.held) (by looked step.reason)
-    where
-      for_want : IsStepping n (suc left) w v before now old new → (lack : LacksRoom v now)
-          → ((pages : ℕ) × ((entry : Entry) (past : List Made) → IsWithin entry past now → LacksRun entry past lack.step v pages))
-          ⊎ ((entry : Entry) (past : List Made) → IsWithin entry past now → LacksRecord entry past lack.step v) → IsStepped n w true before now old new
-      for_want looked lack (inl run) = stepped_no_run n left w v lack.step before now old new looked lack.next run.0 run.1
-      for_want looked lack (inr record_) = stepped_full n left w v lack.step before now old new looked lack.next record_
+  stepping_still : now ≡ later → new.tells ≡ mid.tells → new.tape ≡ mid.tape → IsStepping n (suc left) w v before later old new
+  stepping_still held told tape =
+      subst (λ (h : Held). IsStepping n (suc left) w v before h old new) held (stepping_looked n (suc left) w v before now old mid is new told tape)
 
-      by : IsStepping n (suc left) w v before now old new → (next_step v ≡ None) ⊎ LacksRoom v now → IsStepped n w true before now old new
-      by looked (inl none) = stepped_idle n (suc left) w v before now old new looked none
-      by looked (inr lack) = for_want looked lack lack.wanting
+  pub steps_end : IsNotTaken (next_step v ≡ None) now later mid new → IsSteppedBy n w (record { taken = taken; lacks = None }) before later old new
+  steps_end step = record {
+    left = suc left;
+    count = count;
+    world = v;
+    stepping = stepping_still (sym step.held) step.told step.tape;
+    over = inr step.because;
+  }
+
+  pub steps_lack : (what : Lack) → IsNotTaken (LacksRoom v now what) now later mid new
+      → IsSteppedBy n w (record { taken = taken; lacks = Some what }) before later old new
+  steps_lack what step = record {
+    left = suc left;
+    count = count;
+    world = v;
+    stepping = stepping_still (sym step.held) step.told step.tape;
+    over = (omega arith, subst (λ (h : Held). LacksRoom v h what) (sym step.held) step.because);
+  }
 
   -- the run ends in one
-  pub steps_break : IsBrokenOff v mid new → IsStepped n w false before later old new
-  steps_break step = stepped_broken n left w v step.step before now old mid is step.next later new step.stops
+  pub steps_break : IsBrokenOff v mid new → IsCutOff n w before old new
+  steps_break step = record { left = left; world = v; held = now; mid = mid; stepping = is; broken = step }
+
+-- all were taken
+pub steps_all : (n left taken : ℕ) (w v : World) (before now : Held) (old new : State) → taken + left ≡ n → left ≡ 0 → IsStepping n left w v before now old new
+    → IsSteppedBy n w (record { taken = taken; lacks = None }) before now old new
+steps_all n left taken w v before now old new count none is = record { left = left; count = count; world = v; stepping = is; over = inl none }
+
+-- some are left
+pub some_left : (left : ℕ) → 1 ≤ left → (k : ℕ) × (left ≡ suc k)
+some_left zero low = absurd (omega (arith, low))
+some_left (suc k) low = (k, refl)
+
+-- ---- those behind a reply
+
+module _ (n : ℕ) (w : World) (before : Held) (old : State) where
+  module _ (left : ℕ) (v : World) (now : Held) (new : State) (is : IsStepping n left w v before now old new) where
+    lacking : (k : ℕ) → left ≡ suc k → (what : Lack) → LacksRoom v now what → IsStepped n w true before now old new
+    lacking k same (lack.Run pages) room =
+        stepped_no_run n k w v room.step before now old new (subst (λ (m : ℕ). IsStepping n m w v before now old new) same is) room.next pages room.wanting
+    lacking k same lack.Record room =
+        stepped_full n k w v room.step before now old new (subst (λ (m : ℕ). IsStepping n m w v before now old new) same is) room.next room.wanting
+
+    over_stepped : (o : Option Lack) → IsOver left v now o → IsStepped n w true before now old new
+    over_stepped None (inl none) = stepped_over n w v before now old new (subst (λ (m : ℕ). IsStepping n m w v before now old new) none is)
+    over_stepped None (inr idle) = stepped_idle n left w v before now old new is idle
+    over_stepped (Some what) over = let some = some_left left over.0 in lacking some.0 some.1 what over.1
+
+  pub ran_stepped : (ran : Ran) (now : Held) (new : State) → IsSteppedBy n w ran before now old new → IsStepped n w true before now old new
+  ran_stepped ran now new is = over_stepped is.left is.world now new is.stepping ran.lacks is.over
+
+  pub cut_stepped : (later : Held) (new : State) → IsCutOff n w before old new → IsStepped n w false before later old new
+  cut_stepped later new is =
+      stepped_broken n is.left w is.world is.broken.step before is.held old is.mid is.stepping is.broken.next later new is.broken.stops
 
 -- where they ended, the store is at some World, and nothing was printed
-pub stepped_at : (n : ℕ) (w : World) (before now : Held) (old new : State) → IsStepped n w true before now old new → IsAtSilently now old new
-stepped_at n w before now old new is = record { at = (is.world, is.at refl); printed = is.printed refl }
+pub ran_at : (n : ℕ) (w : World) (ran : Ran) (before now : Held) (old new : State) → IsSteppedBy n w ran before now old new → IsAtSilently now old new
+ran_at n w ran before now old new is = record { at = (is.world, is.stepping.at); printed = is.stepping.printed }
 
 -- what is left of so many steps, before the next one
 pub counted_down : (n counter : ℕ) → counter < n → n - counter ≡ suc (n - (counter + 1))
 counted_down n counter low = omega (arith, low)
 
--- no step is taken where none is asked for or no plan ran
-pub never_none : (n counter : ℕ) (before now : Held) (b : Bool) → counter < n → b ≡ true → now ≡ before
-    → (running now.numbers ≡ None → (let one : Result Bool EndErr = Ok b in one) ≡ Ok false) → TakesNoStep n before.numbers → ⊥
-never_none n counter before now b low is same none (inl zero_is) = absurd (omega (arith, low, zero_is))
-never_none n counter before now b low is same none (inr idle) =
-    let stays = none (subst (λ (h : Held). running h.numbers ≡ None) (sym same) idle) in cc
+-- ---- where none is asked for or no plan ran
+
+abbrev pub turned : Turn → Result Turn EndErr
+turned t = Ok t
+
+abbrev pub none_taken : ℕ → Result Ran EndErr
+none_taken n = Ok (record { taken = n; lacks = None })
+
+one_turn : (a b : Turn) → turned a ≡ turned b → a ≡ b
+one_turn a b e = cc
+
+pub ok_turn : (t a b : Turn) → t ≡ a → turned t ≡ turned b → turned a ≡ turned b
+ok_turn t a b is as_ = sym (ap turned is) ∙ as_
+
+pub no_turn : (e : EndErr) → (let one : Result Turn EndErr = Err e in one) ≡ turned turn.Idle → ⊥
+no_turn e is = cc
+
+-- none runs before the next one either, so no other answer comes
+pub never_idle : (n counter : ℕ) (before now : Held) → counter < n → now ≡ before → TakesNoStep n before.numbers → running now.numbers ≡ None
+never_idle n counter before now low same (inl zero_is) = absurd (omega (arith, low, zero_is))
+never_idle n counter before now low same (inr idle) = subst (λ (h : Held). running h.numbers ≡ None) (sym same) idle
+
+pub never_other : (n counter : ℕ) (before now : Held) (t : Turn) → (t ≡ turn.Idle → ⊥) → counter < n → now ≡ before
+    → (running now.numbers ≡ None → turned t ≡ turned turn.Idle) → TakesNoStep n before.numbers → ⊥
+never_other n counter before now t other low same none behind = other (one_turn t turn.Idle (none (never_idle n counter before now low same behind)))
+
+pub taken_other : turn.Taken ≡ turn.Idle → ⊥
+taken_other e = cc
+
+pub lacks_other : (what : Lack) → turn.Lacks what ≡ turn.Idle → ⊥
+lacks_other what e = cc
 
 -- none yet, of all that may come
 pub stepping_start : (n : ℕ) (w : World) (held : Held) (st : State) → IsAtWorld w held st → IsStepping n (n - 0) w w held held st st
@@ -288,7 +355,3 @@ end_is e f is = cc
 pub err_is : {A : Type 0} → (r : Result A EndErr) (x : EndErr) → IsErr r → IsErrAnd r (λ y. y ≡ x) → r ≡ Err x
 err_is (Ok a) x fails is = absurd is
 err_is (Err y) x fails is = ap Err is
-
--- all were taken
-pub stepping_at : (n left : ℕ) (w v : World) (before now : Held) (old new : State) → IsStepping n left w v before now old new → IsAtSilently now old new
-stepping_at n left w v before now old new is = record { at = (v, is.at); printed = is.printed }

@@ -2,8 +2,9 @@
 --     Goes old new      a host: no call changes whether it tells its bytes, and its counts of faults and of fetched bytes don't fall
 --     Attended old new      a stage
 --     IsDamaged user command stage before now s page      what the user's command reads is damaged, and nothing refuses it before
---                                                         that; a `generate` by what the store keeps now, after the versions that it made
---     MeetsDamage user command stage held s page      of a checkout and a query: damage that it meets before it is answered
+--                                                         that; a `generate` by what the store keeps now, after the versions that it made,
+--                                                         and a `migrate` so after its steps
+--     MeetsDamage user command stage held s page      of a checkout, a query and an optimize: damage that it meets before it is answered
 --     IsOther refusal result ..      a query of a shape that isn't built was refused, and nothing else was done
 --     IfNoFile P reply      this holds where the reply is that there is no such file
 --     Acts d s t w result ..      where the store is at a World, a command does what it means, or is stopped in it
@@ -30,6 +31,7 @@ use Rattle.ov_model.specs.declared.reply.Reply.TheVariants as says
 use Rattle.ov_value.specs.Shapes.{Shape}
 use Rattle.ov_value.specs.Spelling.{IsRow}
 use Rattle.ov_store.specs.Beginning.{IsShort}
+use Rattle.ov_session.specs.Stepping.{IsStepDamaged}
 use Rattle.ov_session.specs.declared.changing.Asked.{Asked}
 use Rattle.ov_session.specs.declared.changing.Asked.TheVariants as asked
 use Rattle.ov_session.specs.declared.serving.Served.{Served}
@@ -39,6 +41,7 @@ use Rattle.ov_session.specs.declared.errors.EndErr.{EndErr}
 use Rattle.ov_session.specs.declared.errors.EndErr.TheVariants as ending
 use Rattle.ov_store.specs.Committing.{IfSet, IsDamagedAt, Set, commit_off}
 use Rattle.ov_store.specs.Kept.{Kept}
+use Rattle.ov_store.specs.Planning.{IsDamagedFor, optimize_off}
 use Rattle.ov_store.specs.Scanning.{IsDamagedIn, scan_off, set_in}
 use Rattle.ov_query.specs.Queries.{IsQueryDamaged}
 use Rattle.ov_generate.specs.Making.{HasDamagedVersion}
@@ -72,18 +75,26 @@ IsCommitDamaged cvd vids file message stage held s page =
     × IfSet (λ set. AreRowsOf set.schema file stage rows × IsDamagedAt set (record { vids = vids; message = message; rows = rows }) s page)
     (set_in held.numbers cvd)
 
+-- a list or a segment of the dataset, where nothing refuses the plan
+abbrev pub IsPlanDamaged : List ℕ → ℕ → ℕ → Held → State → ℕ → Type 0
+IsPlanDamaged cvd p q held s page = (optimize_off held.numbers cvd p q ≡ None) × IfSet (λ set. IsDamagedFor set s page) (set_in held.numbers cvd)
+
 abbrev pub IsDamaged : List ℕ → Command → Staged → Held → Held → State → ℕ → Type 0
 IsDamaged user (asks.Checkout cvd vids file table) stage before now s page = IsScanDamaged cvd vids before s page
 IsDamaged user (asks.Commit cvd vids file message added) stage before now s page = IsCommitDamaged cvd vids file message stage before s page
 IsDamaged user (asks.Run text) stage before now s page = IsQueryDamaged before.numbers user text s page
 IsDamaged user (asks.Generate cvd seed rows versions) stage before now s page = HasDamagedVersion now cvd rows versions s page
+IsDamaged user (asks.Optimize cvd p q) stage before now s page = IsPlanDamaged cvd p q before s page
+IsDamaged user (asks.Migrate count) stage before now s page = IsStepDamaged count now s page
 IsDamaged user _ stage before now s page = ⊥
 
--- a checkout or a query that isn't refused reads all that is its own before it is answered; a commit may be refused for its rows
--- before that, and a `generate` for room
+-- A checkout, a query or an optimize that isn't refused by numbers reads all that is its own before it is answered: an optimize
+-- where there is no room for its record, too. A commit may be refused for its rows before that, and a `generate` and a `migrate`
+-- for room.
 abbrev pub MeetsDamage : List ℕ → Command → Staged → Held → State → ℕ → Type 0
 MeetsDamage user (asks.Checkout cvd vids file table) stage held s page = IsDamaged user (asks.Checkout cvd vids file table) stage held held s page
 MeetsDamage user (asks.Run text) stage held s page = IsDamaged user (asks.Run text) stage held held s page
+MeetsDamage user (asks.Optimize cvd p q) stage held s page = IsDamaged user (asks.Optimize cvd p q) stage held held s page
 MeetsDamage user _ stage held s page = ⊥
 
 -- what holds where the reply is that there is no file of some name

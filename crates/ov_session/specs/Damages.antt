@@ -20,7 +20,8 @@ abbrev pub IsLineDamaged : List ℕ → Line → Staged → Held → Held → St
 IsLineDamaged user line stage before now s page =
     (command : Command) × (line ≡ Asks command) × IsDamaged user command stage before now s page
 
--- the command's: then nothing was changed, or of a `generate` versions were made before it, and the stage's files are as they were
+-- the command's: then nothing was changed, or of a `generate` versions were made before it and of a `migrate` steps were taken, and
+-- the stage's files are as they were
 pub record IsCommandMet (user : List ℕ) (line : Line) (before now : Kept) (stage staged : Staged) (old new : State) (page : ℕ) : Type 0 where
   pub damaged : IsLineDamaged user line stage before.held now.held new page
   pub idle : IsIdleOn line (ending.Damaged Pages page) before now stage staged old new

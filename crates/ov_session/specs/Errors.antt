@@ -1,14 +1,19 @@
 -- What an error of a part comes to.
 --     reply_of name off      the reply to a command that the store refused
 --     end_of off      why the run ends, where it is no refusal
+--     plan_refusal name off, plan_reply name off, plan_end off      these of a plan that didn't begin
 use Rattle.std.specs.Prelude.{ℕ, List, Option, Some, None, option_map}
 use Rattle.ov_files.specs.declared.errors.FileErr.{FileErr}
 use Rattle.ov_files.specs.declared.errors.FileErr.TheVariants as file
+use Rattle.ov_model.specs.declared.refusal.Refusal.{Refusal}
+use Rattle.ov_model.specs.declared.refusal.Refusal.TheVariants as no
 use Rattle.ov_model.specs.declared.reply.Reply.{Reply}
 use Rattle.ov_model.specs.declared.reply.Reply.TheVariants as says
 use Rattle.ov_store.specs.Refusals.{refusal_of}
 use Rattle.ov_store.specs.declared.errors.StoreErr.{StoreErr}
 use Rattle.ov_store.specs.declared.errors.StoreErr.TheVariants as why
+use Rattle.ov_store.specs.declared.plan_errors.PlanErr.{PlanErr}
+use Rattle.ov_store.specs.declared.plan_errors.PlanErr.TheVariants as off
 use Rattle.ov_session.specs.declared.errors.EndErr.{EndErr}
 use Rattle.ov_session.specs.declared.errors.EndErr.TheVariants as ending
 
@@ -24,3 +29,25 @@ end_of why.Host = Some ending.Host
 end_of why.Memory = Some ending.Memory
 end_of (why.Damaged area at) = Some (ending.Damaged area at)
 end_of _ = None
+
+-- ---- of a plan
+
+-- the refusals in their order: 10, 17, 18, 22, and then 5
+abbrev pub plan_refusal : List ℕ → PlanErr → Option Refusal
+plan_refusal name off.NoCvd = Some (no.NoCvd name)
+plan_refusal name off.BadThreshold = Some no.BadThreshold
+plan_refusal name off.Migrating = Some (no.Migrating name)
+plan_refusal name off.NoNumbers = Some (no.NoNumbers name)
+plan_refusal name off.JournalFull = Some (no.JournalFull None)
+plan_refusal name off.Host = None
+plan_refusal name off.Memory = None
+plan_refusal name (off.Damaged area at) = None
+
+abbrev pub plan_reply : List ℕ → PlanErr → Option Reply
+plan_reply name why = option_map says.Refused (plan_refusal name why)
+
+abbrev pub plan_end : PlanErr → Option EndErr
+plan_end off.Host = Some ending.Host
+plan_end off.Memory = Some ending.Memory
+plan_end (off.Damaged area at) = Some (ending.Damaged area at)
+plan_end _ = None

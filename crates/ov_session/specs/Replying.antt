@@ -14,7 +14,7 @@ use Rattle.ov_model.specs.declared.reply.Reply.{Reply}
 use Rattle.ov_model.specs.declared.reply.Reply.TheVariants as says
 use Rattle.ov_session.specs.Commands.{Goes, IfNoFile, IsSaid}
 use Rattle.ov_session.specs.Standing.{IsAtSome}
-use Rattle.ov_session.specs.Stepping.{TakesNoStep}
+use Rattle.ov_session.specs.Stepping.{NoneBehind}
 use Rattle.ov_session.specs.declared.serving.Served.{Served}
 use Rattle.ov_session.specs.declared.serving.Served.TheVariants as served
 
@@ -40,15 +40,15 @@ IsSaidBy line served.Comment held stage staged old new = new ≡ old
 IsSaidBy line what held stage staged old new =
     (reply : Reply) × (mid : State) × IsReply line reply what held stage staged old mid new
 
--- What comes behind the reply prints nothing where the store was at a World; and where no step is asked for or no plan ran, nothing
--- comes.
-pub record IsBehind (steps : ℕ) (held : Held) (old said new : State) : Type 0 where
+-- What comes behind the reply prints nothing where the store was at a World; and where no step comes behind the line, the host is as
+-- the reply left it.
+pub record IsBehind (steps : ℕ) (line : Line) (held : Held) (old said new : State) : Type 0 where
   pub goes : Goes said new
   pub silent : IsAtSome held old → printed_of new ≡ printed_of said
-  pub none : TakesNoStep steps held.numbers → new ≡ said
+  pub none : NoneBehind steps held.numbers line → new ≡ said
 
 -- and no step comes behind a comment
 abbrev pub IsReplied : ℕ → Line → Served → Held → Staged → Staged → State → State → Type 0
 IsReplied steps line served.Comment held stage staged old new = new ≡ old
 IsReplied steps line what held stage staged old new =
-    (reply : Reply) × (mid : State) × (said : State) × IsReply line reply what held stage staged old mid said × IsBehind steps held old said new
+    (reply : Reply) × (mid : State) × (said : State) × IsReply line reply what held stage staged old mid said × IsBehind steps line held old said new

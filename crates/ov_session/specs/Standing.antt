@@ -2,7 +2,8 @@
 --     IsAtSome held s      the store is at some World
 --     IsAtSilently held old new      it is, and nothing was printed since
 --     IsIdle why ..      damage and a fault of the stage are met before anything is changed
---     IsIdleOn line why ..      so it is for each line but a `generate`, which may have made versions before and leaves the stage alone
+--     IsIdleOn line why ..      so it is for each line but a `generate`, which may have made versions before, and a `migrate`, which
+--                               may have taken steps; these leave the stage alone
 use Rattle.std.specs.Prelude.{◌≡◌}
 use Rattle.ov_host.specs.Host.{State}
 use Rattle.ov_host.specs.Stage.{Staged}
@@ -36,7 +37,7 @@ IsIdle (ending.Damaged area at) before now stage staged old new = Idle before no
 IsIdle ending.Stage before now stage staged old new = Idle before now old new
 IsIdle _ before now stage staged old new = Unit {0}
 
--- a `generate` doesn't call the stage
+-- a `generate` and a `migrate` don't call the stage
 abbrev pub IsUnstaged : EndErr → Staged → Staged → Type 0
 IsUnstaged (ending.Damaged area at) stage staged = staged.files ≡ stage.files
 IsUnstaged ending.Stage stage staged = ⊥
@@ -44,6 +45,7 @@ IsUnstaged _ stage staged = Unit {0}
 
 abbrev pub IsIdleBy : Command → EndErr → Kept → Kept → Staged → Staged → State → State → Type 0
 IsIdleBy (asks.Generate cvd seed rows versions) why before now stage staged old new = IsUnstaged why stage staged
+IsIdleBy (asks.Migrate count) why before now stage staged old new = IsUnstaged why stage staged
 IsIdleBy command why before now stage staged old new = IsIdle why before now stage staged old new
 
 abbrev pub IsIdleOn : Line → EndErr → Kept → Kept → Staged → Staged → State → State → Type 0

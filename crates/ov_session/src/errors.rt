@@ -1,12 +1,12 @@
 // Why a line ends the run, and what an error of the store comes to.
 ghost use Rattle.std.specs.Prelude.{◌≡◌, true, Some, IfOk, IfErr, is_some};
 ghost use Rattle.ov_session.specs.declared.errors.EndErr.TheVariants as ending;
-ghost use Rattle.ov_session.specs.Errors.{by_file, end_of, reply_of};
+ghost use Rattle.ov_session.specs.Errors.{by_file, end_of, plan_end, plan_reply, reply_of};
 
 use ov_files::FileErr;
 use ov_host::Area;
 use ov_model::{Refusal, Reply};
-use ov_store::StoreErr;
+use ov_store::{PlanErr, StoreErr};
 use ov_value::Txt;
 use std::alloc::AllocError;
 
@@ -85,6 +85,24 @@ pub fn refused(off: StoreErr, name: Txt) -> Result<Reply, EndErr>
         StoreErr::FormatOne { row } => Refusal::FormatOne {
             row: u64::from(row),
         },
+    };
+    Ok(Reply::Refused(refusal))
+}
+
+/// The reply to an optimize that began no plan, or why the run ends there. The dataset is named by `name`.
+pub fn plan_refused(off: PlanErr, name: Txt) -> Result<Reply, EndErr>
+    ensures reply { IfOk result (λ reply. plan_reply name off ≡ Some reply) }
+    ensures end { IfErr result (λ why. plan_end off ≡ Some why) }
+{
+    let refusal = match off {
+        PlanErr::Host => return Err(EndErr::Host),
+        PlanErr::Memory => return Err(EndErr::Memory),
+        PlanErr::Damaged { area, at } => return Err(EndErr::Damaged { area, at }),
+        PlanErr::JournalFull => Refusal::JournalFull { steps: None },
+        PlanErr::NoCvd => Refusal::NoCvd { cvd: name },
+        PlanErr::BadThreshold => Refusal::BadThreshold,
+        PlanErr::Migrating => Refusal::Migrating { cvd: name },
+        PlanErr::NoNumbers => Refusal::NoNumbers { cvd: name },
     };
     Ok(Reply::Refused(refusal))
 }

@@ -8,6 +8,7 @@ mod changing;
 mod errors;
 mod generating;
 mod lines;
+mod planning;
 mod reading;
 mod serving;
 mod stepping;

@@ -21,13 +21,14 @@ ghost use Rattle.law_steps.specs.Turns.{running};
 ghost use Rattle.ov_session.specs.Replying.{IsReplied, IsSaidBy};
 ghost use Rattle.ov_session.specs.Damages.{IsLineDamaged, IsMetBy};
 ghost use Rattle.ov_session.specs.Standing.{IsAtSilently, IsAtSome, IsIdleBy, IsIdleOn};
-ghost use Rattle.ov_session.specs.Stepping.{TakesNoStep};
+ghost use Rattle.ov_session.specs.Stepping.{NoneBehind, begins_plan, line_begins};
 ghost use Rattle.ov_session.specs.Commands.{Acts, Attended, Goes, IfNoFile, IsDamageOf, IsDamaged, IsNoDamage, IsOther, IsSaid, IsUnsaid, MeetsDamage, is_comment_in, is_comment_of, is_refused};
 
 use crate::changing::{commit, drop_cvd, init};
 use crate::errors::EndErr;
 use crate::generating::make_versions;
 use crate::lines::{asked, refusal};
+use crate::planning::{migrate, optimize};
 use crate::reading::{checkout, layout, log, ls, run_query};
 use crate::stepping::take_steps;
 use ov_generate::Wanted;
@@ -68,7 +69,7 @@ fn answer<H: Host, T: Stage>(
     ensures cause { IsErrOf result EndErr.Host → Rose (H.state host.old).faults (H.state host.new).faults }
     ensures stage { IsErrOf result EndErr.Stage → Rose (T.staged stage.old).faults (T.staged stage.new).faults }
     ensures damaged { IfErr result (IsDamageOf (IsDamaged user.now command (T.staged stage.old) store.old.held store.new.held (H.state host.new))) }
-    ensures begins_none { running store.old.held.numbers ≡ None → OnOk result (running store.new.held.numbers ≡ None) }
+    ensures begins_none { begins_plan store.old.held.numbers command ≡ false → running store.old.held.numbers ≡ None → OnOk result (running store.new.held.numbers ≡ None) }
     ensures whole { (page : ℕ) → (H.state host.old).tells ≡ true
         → OnOk result (MeetsDamage user.now command (T.staged stage.old) store.old.held (H.state host.old) page → ⊥) }
     ensures usable { OnOk result (MayCall store.new (H.state host.new)) }
@@ -108,6 +109,8 @@ fn answer<H: Host, T: Stage>(
             table: _,
         } => checkout(alloc, store, host, stage, cvd, vids.as_slice(), file),
         Command::Run { text } => run_query(alloc, store, host, user, &text),
+        Command::Optimize { cvd, p, q } => optimize(store, host, cvd, p, q),
+        Command::Migrate { count } => migrate(store, host, count),
         Command::Layout { cvd } => Ok(layout(alloc, store, cvd)?),
         Command::Log { cvd } => Ok(log(alloc, store, cvd)?),
         Command::Ls => Ok(ls(alloc, store)?),
@@ -187,7 +190,7 @@ fn serve_line<H: Host, T: Stage>(
     ensures stage { IsErrOf result EndErr.Stage → Rose (T.staged stage.old).faults (T.staged stage.new).faults }
     ensures damaged { IfErr result (IsDamageOf (IsLineDamaged user.now (line_asked user.now line.now) (T.staged stage.old)
         store.old.held store.new.held (H.state host.new))) }
-    ensures begins_none { running store.old.held.numbers ≡ None → OnOk result (running store.new.held.numbers ≡ None) }
+    ensures begins_none { line_begins store.old.held.numbers (line_asked user.now line.now) ≡ false → running store.old.held.numbers ≡ None → OnOk result (running store.new.held.numbers ≡ None) }
     ensures whole { (command : CommandValue) (page : ℕ) → line_asked user.now line.now ≡ Asks command → (H.state host.old).tells ≡ true
         → OnOk result (MeetsDamage user.now command (T.staged stage.old) store.old.held (H.state host.old) page → ⊥) }
     ensures idle { IfErr result (λ why. IsIdleOn (line_asked user.now line.now) why store.old store.new
@@ -229,7 +232,8 @@ fn is_comment(served: Served) -> bool
 /// A step for which there is no room says nothing. Where a step meets damage, or the host or memory fails it, the line ends so,
 /// though its reply was printed; the steps before stay. The user is the one that the line acts as, and stays.
 ///
-/// Reads are bounded where no step comes: where none is asked for, or no plan runs, since no command that is served begins one.
+/// Reads are bounded where no step comes: where none is asked for, or no plan runs and the line begins none. An optimize that isn't
+/// refused begins one, and no other line does.
 pub fn serve<H: Host, T: Stage>(
     alloc: Global,
     store: &mut Store,
@@ -244,10 +248,10 @@ pub fn serve<H: Host, T: Stage>(
     requires user { IsTrue (is_name user.old) }
     ensures goes { Goes (H.state host.old) (H.state host.new) }
     ensures attended { Attended (T.staged stage.old) (T.staged stage.new) }
-    ensures still { TakesNoStep steps store.old.held.numbers → IsReading (line_asked user.old line.now) → store.new.held ≡ store.old.held }
-    ensures fetched { TakesNoStep steps store.old.held.numbers → IsFetchedBy user.old (line_asked user.old line.now)
+    ensures still { NoneBehind steps store.old.held.numbers (line_asked user.old line.now) → IsReading (line_asked user.old line.now) → store.new.held ≡ store.old.held }
+    ensures fetched { NoneBehind steps store.old.held.numbers (line_asked user.old line.now) → IsFetchedBy user.old (line_asked user.old line.now)
         store.old.held store.new.held (IsErrOf result EndErr.Host) (H.state host.old) (H.state host.new) }
-    ensures unread { TakesNoStep steps store.old.held.numbers → is_off store.old.held.numbers user.old (line_asked user.old line.now) ≡ true
+    ensures unread { NoneBehind steps store.old.held.numbers (line_asked user.old line.now) → is_off store.old.held.numbers user.old (line_asked user.old line.now) ≡ true
         → (H.state host.new).fetched ≡ (H.state host.old).fetched }
     ensures cause { IsErrOf result EndErr.Host → Rose (H.state host.old).faults (H.state host.new).faults }
     ensures stage { IsErrOf result EndErr.Stage → Rose (T.staged stage.old).faults (T.staged stage.new).faults }

@@ -6,11 +6,13 @@ use Rattle.std.proofs.lemmas.List.{length-take, take_all}
 use Rattle.std.proofs.lemmas.Bool.{cases_lt}
 use Rattle.ov_host.specs.declared.area.Area.{Area}
 use Rattle.ov_host.specs.declared.area.Area.TheVariants.{Pages}
+use Rattle.ov_host.specs.declared.area.Extent.{Extent}
 use Rattle.ov_host.specs.Host.{State}
 use Rattle.ov_host.specs.Source.{Script}
 use Rattle.ov_host.specs.Stage.{Files as Map, Staged}
 use Rattle.ov_files.specs.Files.{file_rows}
 use Rattle.ov_value.specs.Shapes.{Shape}
+use Rattle.ov_catalog.specs.Numbers.{Numbers}
 use Rattle.ov_core.specs.Held.{Held, IsByJournal}
 use Rattle.ov_model.specs.Book.{Row}
 use Rattle.ov_model.specs.BuiltShapes.{served_forms}
@@ -24,13 +26,13 @@ use Rattle.ov_model.specs.declared.reply.Reply.{Reply}
 use Rattle.ov_store.specs.Committing.{IfSet, Set}
 use Rattle.ov_store.specs.Kept.{Kept}
 use Rattle.ov_session.specs.Asking.{line_asked}
-use Rattle.ov_session.specs.Bounds.{IsFetchedBy, IsReading, may_fetch}
+use Rattle.ov_session.specs.Bounds.{IsFetchedBy, IsReading, IsReadingCommand, may_fetch}
 use Rattle.ov_session.proofs.Bounds.{reading_fetched}
 use Rattle.ov_session.specs.Commands.{AreRowsOf, IsDamageOf, IsDamaged, IsNoDamage, is_comment_in, is_comment_of}
 use Rattle.ov_session.specs.Damages.{IsCommandMet, IsMetBy, IsStepMet}
 use Rattle.ov_session.specs.Replying.{IsReplied, IsReplyTo}
 use Rattle.ov_session.specs.Standing.{IsIdle, IsIdleBy, IsIdleOn}
-use Rattle.ov_session.specs.Stepping.{TakesNoStep}
+use Rattle.ov_session.specs.Stepping.{NoneBehind, TakesNoStep, begins_plan, line_begins}
 use Rattle.ov_session.specs.declared.errors.EndErr.{EndErr}
 use Rattle.ov_session.specs.declared.errors.EndErr.TheVariants as ending
 use Rattle.ov_session.specs.declared.serving.Served.{Served}
@@ -84,9 +86,26 @@ pub record Fetches (before now : Held) (all left : List (List ℕ)) (old new : S
 pub fetches_start : (held : Held) (lines : List (List ℕ)) (s : State) → AreReading lines → Fetches held held lines lines s s
 fetches_start held lines s are = record { same = refl; reading = are; bound = omega arith }
 
--- no step comes then either
-pub none_still : (steps : ℕ) (before now : Held) → now ≡ before → TakesNoStep steps before.numbers → TakesNoStep steps now.numbers
-none_still steps before now same none = subst (λ (h : Held). TakesNoStep steps h.numbers) (sym same) none
+-- a line that changes no store begins no plan
+quiet_command : (n : Numbers Extent Extent) (command : Command) → IsReadingCommand command → begins_plan n command ≡ false
+quiet_command n (asks.Optimize cvd p q) reads = absurd reads
+quiet_command n command reads = refl
+
+quiet_line : (n : Numbers Extent Extent) (l : Line) → IsReading l → line_begins n l ≡ false
+quiet_line n Comment reads = refl
+quiet_line n (Asks command) reads = quiet_command n command reads
+quiet_line n (Refused refusal) reads = refl
+
+none_behind : (steps : ℕ) (n : Numbers Extent Extent) (l : Line) → IsReading l → TakesNoStep steps n → NoneBehind steps n l
+none_behind steps n l reads (inl zero_is) = inl zero_is
+none_behind steps n l reads (inr none) = inr (none, quiet_line n l reads)
+
+-- so no step comes behind the next one
+pub none_then : (steps : ℕ) (before now : Held) (all left later : List (List ℕ)) (user x line : List ℕ) (old mid : State) → Fetches before now all left old mid → left ≡ line ∷ later
+    → line_asked user x ≡ line_of_run line → TakesNoStep steps before.numbers → NoneBehind steps now.numbers (line_asked user x)
+none_then steps before now all left later user x line old mid so next kept none =
+    let reads : AreReading (line ∷ later) = subst AreReading next so.reading
+    in none_behind steps now.numbers (line_asked user x) (subst IsReading (sym kept) reads.0) (subst (λ (h : Held). TakesNoStep steps h.numbers) (sym so.same) none)
 
 pub fetches_all : (before now : Held) (all left : List (List ℕ)) (old new : State) → Fetches before now all left old new
     → new.fetched ≤ old.fetched + reads before.numbers all
@@ -139,10 +158,10 @@ module _ (stage staged : Staged) (files : staged.files ≡ stage.files) (told : 
   damaged_as user (asks.Init cvd schema file) is = absurd is
   damaged_as user (asks.CommitStaged owner table message) is = absurd is
   damaged_as user (asks.Run text) is = is
-  damaged_as user (asks.Optimize cvd p q) is = absurd is
+  damaged_as user (asks.Optimize cvd p q) is = is
   damaged_as user (asks.OptimizeWithin cvd budget) is = absurd is
   damaged_as user (asks.Advise cvd budget a b) is = absurd is
-  damaged_as user (asks.Migrate count) is = absurd is
+  damaged_as user (asks.Migrate count) is = is
   damaged_as user (asks.Layout cvd) is = absurd is
   damaged_as user (asks.Log cvd) is = absurd is
   damaged_as user asks.Ls is = absurd is
@@ -155,7 +174,7 @@ module _ (stage staged : Staged) (files : staged.files ≡ stage.files) (told : 
   damaged_as user (asks.Unstage owner table) is = absurd is
   damaged_as user asks.Tables is = absurd is
 
--- what a command but a `generate` met, it met before it changed anything
+-- what a command but a `generate` and a `migrate` met, it met before it changed anything
 module _ (before now : Kept) (stage staged : Staged) (old new : State) (told : staged.tells ≡ stage.tells) (area : Area) (page : ℕ) where
   still_damaged : (user : List ℕ) (command : Command) → IsIdle (ending.Damaged area page) before now stage staged old new
       → IsDamaged user command stage before.held now.held new page → IsDamaged user command staged now.held now.held new page
@@ -166,6 +185,7 @@ module _ (before now : Kept) (stage staged : Staged) (old new : State) (told : s
   now_damaged : (user : List ℕ) (command : Command) → IsIdleBy command (ending.Damaged area page) before now stage staged old new
       → IsDamaged user command stage before.held now.held new page → IsDamaged user command staged now.held now.held new page
   now_damaged user (asks.Generate cvd seed rows versions) idle is = is
+  now_damaged user (asks.Migrate count) idle is = is
   now_damaged user command idle is = still_damaged user command idle is
 
 -- what has a reply is no comment

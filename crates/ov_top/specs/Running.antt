@@ -70,7 +70,7 @@ abbrev pub IsLineOf : List ℕ → List ℕ → Type 0
 IsLineOf text line = (before : List (List ℕ)) × (after : List (List ℕ)) × (lines_of text ≡ before ++ line ∷ after)
 
 -- A line of the script asked for what is damaged at this page, by the numbers that the journal on the host says (of a `generate`
--- with the versions that it made before), and by the files of the stage, where it tells them.
+-- with the versions that it made before, of a `migrate` with its steps), and by the files of the stage, where it tells them.
 pub record ReadsDamage (script : Script) (stage : Staged) (s : State) (page : ℕ) : Type 0 where
   pub line : List ℕ
   pub among : script.tells ≡ true → IsLineOf script.left line

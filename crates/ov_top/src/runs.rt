@@ -168,8 +168,9 @@ fn run_script<H: Host, S: Source, T: Stage>(
 /// `Usage` exactly where the words are off the form; then, and at want of memory for reading them, no end is called.
 ///
 /// The steps come behind the reply, until no plan runs or there is no room for the next one, and print nothing; a comment has none
-/// behind it. No command begins a plan yet, so there are steps only where one runs when the run begins. Damage that a step meets
-/// ends the run as that of a command does. The bytes that a run of reading lines fetches are bounded where no step comes.
+/// behind it. So there are steps only where a plan runs when the run begins, or an `optimize` of the script begins one. Damage that
+/// a step meets ends the run as that of a command does. The bytes that a run of reading lines fetches are bounded where no step
+/// comes: where none is asked for, or no plan runs at the entry, since these lines begin none.
 pub fn run<H: Host, S: Source, T: Stage>(
     alloc: Global,
     words: &[Txt],

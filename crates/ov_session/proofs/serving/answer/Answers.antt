@@ -8,13 +8,20 @@ use Rattle.ov_model.specs.Deed.{permitted}
 use Rattle.ov_model.specs.declared.command.Command.{Command}
 use Rattle.ov_session.proofs.Dealing.{checkout_asked, commit_asked}
 use Rattle.ov_session.specs.Commands.{Acts}
-use Rattle.std.proofs.Common.{◌+◌, ℕ, List, Some, true}
+use Rattle.std.proofs.Common.{◌+◌, ℕ, List, Some, None, true, false}
 use Rattle.std.specs.Prelude.{◌≤◌}
 use Rattle.ov_session.proofs.Bounds.{fetched_allowed, fetched_still, off_there, unread_command}
 use Rattle.ov_session.proofs.Replying.{seen_missed}
-use Rattle.ov_session.proofs.Standing.{at_looked, at_still, idle_spared, idle_unstaged, on_any, result_unmoved}
+use Rattle.ov_session.proofs.Migrating.{fetched_same, none_to_take}
+use Rattle.ov_session.proofs.Plans.{refused_none}
+use Rattle.ov_session.proofs.Standing.{at_looked, at_still, idle_spared, idle_stored, idle_unstaged, on_any, result_unmoved}
 use Rattle.ov_session.specs.Bounds.{IsFetched, IsReadingCommand, bytes_in, if_allowed, is_command_off}
 use Rattle.ov_session.specs.Standing.{IsIdleBy}
+use Rattle.ov_session.specs.Stepping.{begins_plan}
+use Rattle.ov_store.specs.Kept.{Kept}
+use Rattle.ov_store.specs.Planning.{optimize_off}
+use Rattle.law_steps.specs.Turns.{running}
+use Rattle.std.proofs.lemmas.Bool.{not-false}
 use Rattle.ov_store.specs.Refusals.{new_off}
 use Rattle.ov_store.specs.Committing.{parents_off_in}
 use Rattle.ov_store.specs.Scanning.{scan_off, set_in}
@@ -429,3 +436,100 @@ returns-in-Generate-clause-acts g c = λ w built told at.
     let s = session_of (g.T.Stage.staged c.args.stage.now).files c.args.user.now
     in subst (λ (command : Command). Acts (permitted w s command) s s w c.make_versions.result c.args.store.now.held c.make_versions.new.store.held (g.H.Host.state c.args.host.now) (g.H.Host.state c.make_versions.new.host)) (sym c.in-Generate.is)
     (c.make_versions.ensures.acts w s at)
+
+-- ---- a plan
+
+pub returns-in-Optimize-clause-still : goal.returns-in-Optimize-clause-still
+returns-in-Optimize-clause-still g c = λ is. absurd (subst IsReadingCommand c.in-Optimize.is is)
+
+pub returns-in-Optimize-clause-fetched : goal.returns-in-Optimize-clause-fetched
+returns-in-Optimize-clause-fetched g c =
+    subst (λ (command : Command). IsFetched c.args.user.now command c.args.store.now.held c.optimize.new.store.held (IsErrOf c.optimize.result ending.Host) (g.H.Host.state c.args.host.now) (g.H.Host.state c.optimize.new.host)) (sym c.in-Optimize.is)
+    c.optimize.ensures.fetched
+
+pub returns-in-Optimize-clause-unread : goal.returns-in-Optimize-clause-unread
+returns-in-Optimize-clause-unread g c = λ is.
+    let there = off_there (optimize_off c.args.store.now.held.numbers c.in-Optimize.cvd c.in-Optimize.p c.in-Optimize.q)
+    (subst (λ (command : Command). is_command_off c.args.store.now.held.numbers c.args.user.now command ≡ true) c.in-Optimize.is is)
+    in ap (λ (s : State). s.fetched) (c.optimize.ensures.unread there.0 there.1)
+
+pub returns-in-Optimize-clause-damaged : goal.returns-in-Optimize-clause-damaged
+returns-in-Optimize-clause-damaged g c =
+    subst (λ (command : Command). IfErr c.optimize.result (IsDamageOf (IsDamaged c.args.user.now command (g.T.Stage.staged c.args.stage.now) c.args.store.now.held c.optimize.new.store.held (g.H.Host.state c.optimize.new.host)))) (sym c.in-Optimize.is)
+    c.optimize.ensures.damaged
+
+pub returns-in-Optimize-clause-begins_none : goal.returns-in-Optimize-clause-begins_none
+returns-in-Optimize-clause-begins_none g c = λ quiet none.
+    refused_none c.optimize.result c.args.store.now c.optimize.new.store
+    (c.optimize.ensures.begins_none (not-false _ (subst (λ (command : Command). begins_plan c.args.store.now.held.numbers command ≡ false) c.in-Optimize.is quiet))) none
+
+pub returns-in-Optimize-clause-whole : goal.returns-in-Optimize-clause-whole
+returns-in-Optimize-clause-whole g c = λ page told.
+    subst (λ (command : Command). OnOk c.optimize.result (MeetsDamage c.args.user.now command (g.T.Stage.staged c.args.stage.now) c.args.store.now.held (g.H.Host.state c.args.host.now) page → ⊥)) (sym c.in-Optimize.is)
+    (c.optimize.ensures.whole page told)
+
+pub returns-in-Optimize-clause-missed : goal.returns-in-Optimize-clause-missed
+returns-in-Optimize-clause-missed g c = seen_missed _ c.optimize.result c.optimize.ensures.seen
+
+pub returns-in-Optimize-clause-idle : goal.returns-in-Optimize-clause-idle
+returns-in-Optimize-clause-idle g c =
+    subst (λ (command : Command). IfErr c.optimize.result (λ e. IsIdleBy command e c.args.store.now c.optimize.new.store (g.T.Stage.staged c.args.stage.now) (g.T.Stage.staged c.args.stage.now)
+    (g.H.Host.state c.args.host.now) (g.H.Host.state c.optimize.new.host))) (sym c.in-Optimize.is)
+    (idle_stored c.args.store.now c.optimize.new.store (g.T.Stage.staged c.args.stage.now) (g.T.Stage.staged c.args.stage.now) (g.H.Host.state c.args.host.now) (g.H.Host.state c.optimize.new.host)
+    c.optimize.result c.optimize.ensures.host_alone c.optimize.ensures.idle refl)
+
+pub returns-in-Optimize-clause-other : goal.returns-in-Optimize-clause-other
+returns-in-Optimize-clause-other g c = λ refusal is. absurd (ok_err _ refusal (subst (λ (command : Command). if_built command ≡ off refusal) c.in-Optimize.is is))
+
+pub returns-in-Optimize-clause-acts : goal.returns-in-Optimize-clause-acts
+returns-in-Optimize-clause-acts g c = λ w built told at.
+    let s = session_of (g.T.Stage.staged c.args.stage.now).files c.args.user.now
+    in subst (λ (command : Command). Acts (permitted w s command) s s w c.optimize.result c.args.store.now.held c.optimize.new.store.held (g.H.Host.state c.args.host.now) (g.H.Host.state c.optimize.new.host)) (sym c.in-Optimize.is)
+    (c.optimize.ensures.acts w s at)
+
+-- ---- its steps
+
+pub returns-in-Migrate-clause-still : goal.returns-in-Migrate-clause-still
+returns-in-Migrate-clause-still g c = λ is. absurd (subst IsReadingCommand c.in-Migrate.is is)
+
+pub returns-in-Migrate-clause-fetched : goal.returns-in-Migrate-clause-fetched
+returns-in-Migrate-clause-fetched g c =
+    subst (λ (command : Command). IsFetched c.args.user.now command c.args.store.now.held c.migrate.new.store.held (IsErrOf c.migrate.result ending.Host) (g.H.Host.state c.args.host.now) (g.H.Host.state c.migrate.new.host)) (sym c.in-Migrate.is)
+    (λ none. fetched_same (g.H.Host.state c.args.host.now) (g.H.Host.state c.migrate.new.host) (c.migrate.ensures.none none).2)
+
+pub returns-in-Migrate-clause-unread : goal.returns-in-Migrate-clause-unread
+returns-in-Migrate-clause-unread g c = λ is.
+    ap (λ (s : State). s.fetched) (c.migrate.ensures.unread (none_to_take c.in-Migrate.count c.args.store.now.held.numbers
+    (subst (λ (command : Command). is_command_off c.args.store.now.held.numbers c.args.user.now command ≡ true) c.in-Migrate.is is)))
+
+pub returns-in-Migrate-clause-damaged : goal.returns-in-Migrate-clause-damaged
+returns-in-Migrate-clause-damaged g c =
+    subst (λ (command : Command). IfErr c.migrate.result (IsDamageOf (IsDamaged c.args.user.now command (g.T.Stage.staged c.args.stage.now) c.args.store.now.held c.migrate.new.store.held (g.H.Host.state c.migrate.new.host)))) (sym c.in-Migrate.is)
+    c.migrate.ensures.damaged
+
+pub returns-in-Migrate-clause-begins_none : goal.returns-in-Migrate-clause-begins_none
+returns-in-Migrate-clause-begins_none g c = λ quiet none.
+    on_any _ c.migrate.result (subst (λ (k : Kept). running k.held.numbers ≡ None) (sym (c.migrate.ensures.none none).1) none)
+
+pub returns-in-Migrate-clause-whole : goal.returns-in-Migrate-clause-whole
+returns-in-Migrate-clause-whole g c = λ page told.
+    on_any _ c.migrate.result (subst (λ (command : Command). MeetsDamage c.args.user.now command (g.T.Stage.staged c.args.stage.now) c.args.store.now.held (g.H.Host.state c.args.host.now) page → ⊥) (sym c.in-Migrate.is) (λ met. met))
+
+pub returns-in-Migrate-clause-missed : goal.returns-in-Migrate-clause-missed
+returns-in-Migrate-clause-missed g c = seen_missed _ c.migrate.result c.migrate.ensures.seen
+
+pub returns-in-Migrate-clause-idle : goal.returns-in-Migrate-clause-idle
+returns-in-Migrate-clause-idle g c =
+    subst (λ (command : Command). IfErr c.migrate.result (λ e. IsIdleBy command e c.args.store.now c.migrate.new.store (g.T.Stage.staged c.args.stage.now) (g.T.Stage.staged c.args.stage.now)
+    (g.H.Host.state c.args.host.now) (g.H.Host.state c.migrate.new.host))) (sym c.in-Migrate.is)
+    (idle_unstaged c.args.store.now c.migrate.new.store (g.T.Stage.staged c.args.stage.now) (g.T.Stage.staged c.args.stage.now) (g.H.Host.state c.args.host.now) (g.H.Host.state c.migrate.new.host)
+    c.migrate.result c.migrate.ensures.host_alone refl)
+
+pub returns-in-Migrate-clause-other : goal.returns-in-Migrate-clause-other
+returns-in-Migrate-clause-other g c = λ refusal is. absurd (ok_err _ refusal (subst (λ (command : Command). if_built command ≡ off refusal) c.in-Migrate.is is))
+
+pub returns-in-Migrate-clause-acts : goal.returns-in-Migrate-clause-acts
+returns-in-Migrate-clause-acts g c = λ w built told at.
+    let s = session_of (g.T.Stage.staged c.args.stage.now).files c.args.user.now
+    in subst (λ (command : Command). Acts (permitted w s command) s s w c.migrate.result c.args.store.now.held c.migrate.new.store.held (g.H.Host.state c.args.host.now) (g.H.Host.state c.migrate.new.host)) (sym c.in-Migrate.is)
+    (c.migrate.ensures.acts w s at)

@@ -1,8 +1,7 @@
-use Rattle.std.proofs.Common.{◌≡◌, ◌∙◌, Bool, true, false, refl, sym, ap, subst, arith}
-use Rattle.std.specs.Prelude.{Err, IfErr, IsErrOf, Ok, Result, is_ok}
+use Rattle.std.proofs.Common.{◌≡◌, ◌∙◌, true, false, refl, sym, ap, subst, arith}
+use Rattle.std.specs.Prelude.{Err, IfErr, Result, is_ok}
 use Rattle.ov_host.specs.Host.{State}
 use Rattle.law_runs.specs.Serving.{Serves, session_of}
-use Rattle.law_runs.specs.Stepping.{IsStepped}
 use Rattle.ov_store.specs.Kept.{Kept}
 use Rattle.ov_session.specs.Asking.{line_asked}
 use Rattle.ov_session.specs.Commands.{IsDamageOf, IsNoDamage, is_comment_of, is_refusal_of, is_refused}
@@ -102,16 +101,16 @@ returns-in_err-take_steps-clause-goes g c = record {
 
 pub returns-in_err-take_steps-clause-still : goal.returns-in_err-take_steps-clause-still
 returns-in_err-take_steps-clause-still g c = λ none reads.
-    ap (λ (k : Kept). k.held) (c.take_steps.ensures.none (no_step c.args.steps c.args.store.now.held c.serve_line.new.store.held c.in_ok-served.ensures.begins_none none)).1 ∙ c.serve_line.ensures.still reads
+    ap (λ (k : Kept). k.held) (c.take_steps.ensures.none (no_step c.args.steps (line_asked c.args.user.now c.args.line.now) c.args.store.now.held c.serve_line.new.store.held c.in_ok-served.ensures.begins_none none)).1 ∙ c.serve_line.ensures.still reads
 
 pub returns-in_err-take_steps-clause-fetched : goal.returns-in_err-take_steps-clause-fetched
 returns-in_err-take_steps-clause-fetched g c = λ none.
     fetched_then c.args.user.now (line_asked c.args.user.now c.args.line.now) c.args.store.now.held c.serve_line.new.store c.take_steps.new.store _ _ (g.H.Host.state c.args.host.now) (g.H.Host.state c.serve_line.new.host) (g.H.Host.state c.take_steps.new.host)
-    (λ e. absurd (no_end c.in_ok-served.served ending.Host e)) ((c.take_steps.ensures.none (no_step c.args.steps c.args.store.now.held c.serve_line.new.store.held c.in_ok-served.ensures.begins_none none)).1, (c.take_steps.ensures.none (no_step c.args.steps c.args.store.now.held c.serve_line.new.store.held c.in_ok-served.ensures.begins_none none)).2) c.in_ok-served.ensures.fetched
+    (λ e. absurd (no_end c.in_ok-served.served ending.Host e)) ((c.take_steps.ensures.none (no_step c.args.steps (line_asked c.args.user.now c.args.line.now) c.args.store.now.held c.serve_line.new.store.held c.in_ok-served.ensures.begins_none none)).1, (c.take_steps.ensures.none (no_step c.args.steps (line_asked c.args.user.now c.args.line.now) c.args.store.now.held c.serve_line.new.store.held c.in_ok-served.ensures.begins_none none)).2) c.in_ok-served.ensures.fetched
 
 pub returns-in_err-take_steps-clause-unread : goal.returns-in_err-take_steps-clause-unread
 returns-in_err-take_steps-clause-unread g c = λ none off.
-    ap (λ (s : State). s.fetched) (c.take_steps.ensures.none (no_step c.args.steps c.args.store.now.held c.serve_line.new.store.held c.in_ok-served.ensures.begins_none none)).2 ∙ c.serve_line.ensures.unread off
+    ap (λ (s : State). s.fetched) (c.take_steps.ensures.none (no_step c.args.steps (line_asked c.args.user.now c.args.line.now) c.args.store.now.held c.serve_line.new.store.held c.in_ok-served.ensures.begins_none none)).2 ∙ c.serve_line.ensures.unread off
 
 pub returns-in_err-take_steps-clause-cause : goal.returns-in_err-take_steps-clause-cause
 returns-in_err-take_steps-clause-cause g c = λ e.
@@ -147,8 +146,8 @@ returns-in_err-take_steps-clause-damaged g c =
     in subst (λ (r : Result Served EndErr). IfErr r (IsDamageOf (IsMetBy c.args.steps c.args.user.now (line_asked c.args.user.now c.args.line.now) c.args.store.now c.take_steps.new.store (g.T.Stage.staged c.args.stage.now) (g.T.Stage.staged c.serve_line.new.stage) (g.H.Host.state c.args.host.now) (g.H.Host.state c.take_steps.new.host)))) (sym is)
     (step_met c.args.steps c.args.user.now (line_asked c.args.user.now c.args.line.now) c.args.store.now c.take_steps.new.store (g.T.Stage.staged c.args.stage.now) (g.T.Stage.staged c.serve_line.new.stage) (g.H.Host.state c.args.host.now) (g.H.Host.state c.take_steps.new.host) c.in_ok-served.served some c.in_err-take_steps.field-0.0 c.in_err-take_steps.ensures.damaged
     (λ harm. replied_then c.args.steps (line_asked c.args.user.now c.args.line.now) c.args.store.now.held (g.T.Stage.staged c.args.stage.now) (g.T.Stage.staged c.serve_line.new.stage) (g.H.Host.state c.args.host.now) (g.H.Host.state c.serve_line.new.host) (g.H.Host.state c.take_steps.new.host) c.in_ok-served.served some c.in_ok-served.ensures.replied
-    (behind_damaged c.args.steps c.args.store.now.held c.serve_line.new.store.held c.take_steps.new.store.held (g.H.Host.state c.args.host.now) (g.H.Host.state c.serve_line.new.host) (g.H.Host.state c.take_steps.new.host) c.take_steps.ensures.goes
-    (λ none. (c.take_steps.ensures.none (no_step c.args.steps c.args.store.now.held c.serve_line.new.store.held c.in_ok-served.ensures.begins_none none)).2) (λ on. c.in_ok-served.ensures.at on.0 on.1) (λ w at. harm (c.in_err-take_steps.ensures.undamaged w at)))))
+    (behind_damaged c.args.steps (line_asked c.args.user.now c.args.line.now) c.args.store.now.held c.serve_line.new.store.held c.take_steps.new.store.held (g.H.Host.state c.args.host.now) (g.H.Host.state c.serve_line.new.host) (g.H.Host.state c.take_steps.new.host) c.take_steps.ensures.goes
+    (λ none. (c.take_steps.ensures.none (no_step c.args.steps (line_asked c.args.user.now c.args.line.now) c.args.store.now.held c.serve_line.new.store.held c.in_ok-served.ensures.begins_none none)).2) (λ on. c.in_ok-served.ensures.at on.0 on.1) (λ w at. harm (c.in_err-take_steps.ensures.undamaged w at)))))
 
 pub returns-in_err-take_steps-clause-serves : goal.returns-in_err-take_steps-clause-serves
 returns-in_err-take_steps-clause-serves g c = λ w told at.
@@ -171,16 +170,16 @@ returns-clause-goes g c = record {
 
 pub returns-clause-still : goal.returns-clause-still
 returns-clause-still g c = λ none reads.
-    ap (λ (k : Kept). k.held) (c.take_steps.ensures.none (no_step c.args.steps c.args.store.now.held c.serve_line.new.store.held c.in_ok-served.ensures.begins_none none)).1 ∙ c.serve_line.ensures.still reads
+    ap (λ (k : Kept). k.held) (c.take_steps.ensures.none (no_step c.args.steps (line_asked c.args.user.now c.args.line.now) c.args.store.now.held c.serve_line.new.store.held c.in_ok-served.ensures.begins_none none)).1 ∙ c.serve_line.ensures.still reads
 
 pub returns-clause-fetched : goal.returns-clause-fetched
 returns-clause-fetched g c = λ none.
     fetched_then c.args.user.now (line_asked c.args.user.now c.args.line.now) c.args.store.now.held c.serve_line.new.store c.take_steps.new.store _ _ (g.H.Host.state c.args.host.now) (g.H.Host.state c.serve_line.new.host) (g.H.Host.state c.take_steps.new.host)
-    (λ e. absurd (no_end c.in_ok-served.served ending.Host e)) ((c.take_steps.ensures.none (no_step c.args.steps c.args.store.now.held c.serve_line.new.store.held c.in_ok-served.ensures.begins_none none)).1, (c.take_steps.ensures.none (no_step c.args.steps c.args.store.now.held c.serve_line.new.store.held c.in_ok-served.ensures.begins_none none)).2) c.in_ok-served.ensures.fetched
+    (λ e. absurd (no_end c.in_ok-served.served ending.Host e)) ((c.take_steps.ensures.none (no_step c.args.steps (line_asked c.args.user.now c.args.line.now) c.args.store.now.held c.serve_line.new.store.held c.in_ok-served.ensures.begins_none none)).1, (c.take_steps.ensures.none (no_step c.args.steps (line_asked c.args.user.now c.args.line.now) c.args.store.now.held c.serve_line.new.store.held c.in_ok-served.ensures.begins_none none)).2) c.in_ok-served.ensures.fetched
 
 pub returns-clause-unread : goal.returns-clause-unread
 returns-clause-unread g c = λ none off.
-    ap (λ (s : State). s.fetched) (c.take_steps.ensures.none (no_step c.args.steps c.args.store.now.held c.serve_line.new.store.held c.in_ok-served.ensures.begins_none none)).2 ∙ c.serve_line.ensures.unread off
+    ap (λ (s : State). s.fetched) (c.take_steps.ensures.none (no_step c.args.steps (line_asked c.args.user.now c.args.line.now) c.args.store.now.held c.serve_line.new.store.held c.in_ok-served.ensures.begins_none none)).2 ∙ c.serve_line.ensures.unread off
 
 pub returns-clause-by_journal : goal.returns-clause-by_journal
 returns-clause-by_journal g c = λ by fine. c.in_ok-take_steps.ensures.by_journal (c.in_ok-served.ensures.by_journal by (λ e. cc)) (λ e. cc)
@@ -196,8 +195,8 @@ pub returns-clause-replied : goal.returns-clause-replied
 returns-clause-replied g c =
     let some : is_comment_of c.in_ok-served.served ≡ false = sym c.is_comment.ensures ∙ c.if-is_comment.false
     in replied_then c.args.steps (line_asked c.args.user.now c.args.line.now) c.args.store.now.held (g.T.Stage.staged c.args.stage.now) (g.T.Stage.staged c.serve_line.new.stage) (g.H.Host.state c.args.host.now) (g.H.Host.state c.serve_line.new.host) (g.H.Host.state c.take_steps.new.host) c.in_ok-served.served some c.in_ok-served.ensures.replied
-    (behind_done c.args.steps c.args.store.now.held c.serve_line.new.store.held c.take_steps.new.store.held (g.H.Host.state c.args.host.now) (g.H.Host.state c.serve_line.new.host) (g.H.Host.state c.take_steps.new.host) c.take_steps.ensures.goes
-    (λ none. (c.take_steps.ensures.none (no_step c.args.steps c.args.store.now.held c.serve_line.new.store.held c.in_ok-served.ensures.begins_none none)).2) (λ on. c.in_ok-served.ensures.at on.0 on.1) (λ w at. c.in_ok-take_steps.ensures.at w at))
+    (behind_done c.args.steps (line_asked c.args.user.now c.args.line.now) c.args.store.now.held c.serve_line.new.store.held c.take_steps.new.store.held (g.H.Host.state c.args.host.now) (g.H.Host.state c.serve_line.new.host) (g.H.Host.state c.take_steps.new.host) c.take_steps.ensures.goes
+    (λ none. (c.take_steps.ensures.none (no_step c.args.steps (line_asked c.args.user.now c.args.line.now) c.args.store.now.held c.serve_line.new.store.held c.in_ok-served.ensures.begins_none none)).2) (λ on. c.in_ok-served.ensures.at on.0 on.1) (λ w at. c.in_ok-take_steps.ensures.at w at))
 
 pub returns-clause-serves : goal.returns-clause-serves
 returns-clause-serves g c = λ w told at.

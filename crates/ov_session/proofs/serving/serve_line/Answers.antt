@@ -8,7 +8,7 @@ use Rattle.ov_session.specs.Asking.{line_asked, refusal_to}
 use Rattle.law_runs.specs.Serving.{Serves, session_of}
 use Rattle.ov_model.specs.Line.{Asks, Refused}
 use Rattle.ov_session.proofs.Saying.{comment_none, line_unserved, says_comment, says_refusal}
-use Rattle.ov_session.proofs.Shaping.{broken_shaped, comment_shaped, damaged_shaped, fetched_shaped, idle_shaped, reply_shaped, served_shaped, still_shaped, unread_shaped, whole_shaped}
+use Rattle.ov_session.proofs.Shaping.{broken_shaped, comment_shaped, damaged_shaped, fetched_shaped, idle_shaped, none_shaped, reply_shaped, served_shaped, still_shaped, unread_shaped, whole_shaped}
 use Rattle.ov_model.specs.BuiltShapes.{served_line}
 use Rattle.ov_session.specs.Commands.{IsNoDamage, is_comment_in, is_refused}
 use Rattle.std.proofs.Common.{ℕ}
@@ -16,7 +16,7 @@ use Rattle.ov_model.specs.Line.{Line}
 use Rattle.ov_model.specs.declared.reply.Reply.TheVariants as says
 use Rattle.ov_session.proofs.Bounds.{host_again, ok_no_host, printed_line, unread_line}
 use Rattle.ov_session.proofs.Replying.{asked_seen, is_replied, refused_missed}
-use Rattle.ov_session.proofs.Standing.{at_said, idle_unsaid_on, unsaid_line}
+use Rattle.ov_session.proofs.Standing.{at_said, idle_unsaid_on, on_any, unsaid_line}
 use Rattle.ov_session.specs.Replying.{IsReplyTo}
 use Rattle.ov_session.specs.Standing.{IsIdleOn}
 use Rattle.ov_session.proofs.Numbering.{journal_said}
@@ -260,3 +260,12 @@ pub returns-in_ok-reply-in-Ok-Some-clause-still : goal.returns-in_ok-reply-in-Ok
 returns-in_ok-reply-in-Ok-Some-clause-still g c =
     still_shaped c.args.user.now c.in-Ok-Some.command (line_asked c.args.user.now c.args.line.now) (c.in-Ok-Some.ensures.ok ∙ ap (λ (o : Option Command). served_line (said o)) c.in-Ok-Some.field-0-is)
     c.args.store.now c.answer.new.store (g.T.Stage.staged c.args.stage.now) (g.T.Stage.staged c.answer.new.stage) (g.H.Host.state c.args.host.now) (g.H.Host.state c.answer.new.host) c.answer.result c.answer.ensures.other c.answer.ensures.still
+
+-- ---- no plan
+
+pub returns-in_ok-reply-in-Ok-Some-clause-begins_none : goal.returns-in_ok-reply-in-Ok-Some-clause-begins_none
+returns-in_ok-reply-in-Ok-Some-clause-begins_none g c = λ quiet none.
+    on_any _ c.say.result
+    (none_shaped c.args.user.now c.in-Ok-Some.command (line_asked c.args.user.now c.args.line.now) (c.in-Ok-Some.ensures.ok ∙ ap (λ (o : Option Command). served_line (said o)) c.in-Ok-Some.field-0-is)
+    c.args.store.now c.answer.new.store (g.T.Stage.staged c.args.stage.now) (g.T.Stage.staged c.answer.new.stage) (g.H.Host.state c.args.host.now) (g.H.Host.state c.answer.new.host) c.in_ok-reply-in-Ok-Some.reply c.in_ok-reply-in-Ok-Some.ensures.other
+    c.in_ok-reply-in-Ok-Some.ensures.begins_none quiet none)

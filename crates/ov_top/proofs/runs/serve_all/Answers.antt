@@ -13,7 +13,7 @@ use Rattle.ov_top.specs.declared.errors.RunErr.TheVariants as running
 use Rattle.ov_top.proofs.Lined.{Gone, admin_is_name, ends_reading, ends_serving, err_is, given_true, gone_all, gone_ends, gone_more, gone_start, no_lines, nothing_left, read_whole, runs_start, not_seen, rose_in_all, serves_as, spent_by}
 use Rattle.ov_script.proofs.Readers.{next_lines}
 use Rattle.ov_session.specs.declared.errors.EndErr.TheVariants as ending
-use Rattle.ov_top.proofs.Reading.{Fetches, asked_among, err_end, fetches_all, fetches_ends, fetches_more, fetches_start, line_kept, lined_more, none_still, reading_harmless, reply_among, run_damage, unharmed, unharmed_reading}
+use Rattle.ov_top.proofs.Reading.{Fetches, asked_among, err_end, fetches_all, fetches_ends, fetches_more, fetches_start, line_kept, lined_more, none_then, reading_harmless, reply_among, run_damage, unharmed, unharmed_reading}
 use Rattle.ov_top.proofs.runs.serve_all.Goals as goal
 
 pub returns-in_err-user-clause-served : goal.returns-in_err-user-clause-served
@@ -176,8 +176,12 @@ lines-preserved g c =
           c.lines.user c.as_slice.result.now given.0 (g.H.Host.state c.args.host.now) (g.H.Host.state c.lines.host) (g.H.Host.state c.serve.new.host) (inv.fetched none told are) inv.user
           (next_lines c.next_line.new.self.ended given.0 left later given.1)
           (line_kept c.lines.user c.as_slice.result.now c.next_line.new.line.items given.0 inv.user c.as_slice.ensures.value given.2)
-          c.serve.new.store.held _ (c.serve.ensures.fetched (none_still c.args.steps c.args.store.held c.lines.store.held (inv.fetched none told are).same none))
-          (c.serve.ensures.still (none_still c.args.steps c.args.store.held c.lines.store.held (inv.fetched none told are).same none));
+          c.serve.new.store.held _ (c.serve.ensures.fetched (none_then c.args.steps c.args.store.held c.lines.store.held (lines_of (g.S.Source.script c.args.source.now).left) (lines_of left) (lines_of later)
+          c.lines.user c.as_slice.result.now given.0 (g.H.Host.state c.args.host.now) (g.H.Host.state c.lines.host) (inv.fetched none told are) (next_lines c.next_line.new.self.ended given.0 left later given.1)
+          (line_kept c.lines.user c.as_slice.result.now c.next_line.new.line.items given.0 inv.user c.as_slice.ensures.value given.2) none))
+          (c.serve.ensures.still (none_then c.args.steps c.args.store.held c.lines.store.held (lines_of (g.S.Source.script c.args.source.now).left) (lines_of left) (lines_of later)
+          c.lines.user c.as_slice.result.now given.0 (g.H.Host.state c.args.host.now) (g.H.Host.state c.lines.host) (inv.fetched none told are) (next_lines c.next_line.new.self.ended given.0 left later given.1)
+          (line_kept c.lines.user c.as_slice.result.now c.next_line.new.line.items given.0 inv.user c.as_slice.ensures.value given.2) none));
       at_end = λ told. c.in_ok-next_line.ensures.at_end (inv.told ∙ told) (inv.at_end told);
     }
 
@@ -290,4 +294,6 @@ returns-in_err-served-clause-fetched g c = λ none told are.
     c.lines.user c.as_slice.result.now given.0 (g.H.Host.state c.args.host.now) (g.H.Host.state c.lines.host) (g.H.Host.state c.serve.new.host) (c.lines.invariant.fetched none told are) c.lines.invariant.user
     (next_lines c.next_line.new.self.ended given.0 left later given.1)
     (line_kept c.lines.user c.as_slice.result.now c.next_line.new.line.items given.0 c.lines.invariant.user c.as_slice.ensures.value given.2)
-    c.serve.new.store.held _ (c.serve.ensures.fetched (none_still c.args.steps c.args.store.held c.lines.store.held (c.lines.invariant.fetched none told are).same none))
+    c.serve.new.store.held _ (c.serve.ensures.fetched (none_then c.args.steps c.args.store.held c.lines.store.held (lines_of (g.S.Source.script c.args.source.now).left) (lines_of left) (lines_of later)
+    c.lines.user c.as_slice.result.now given.0 (g.H.Host.state c.args.host.now) (g.H.Host.state c.lines.host) (c.lines.invariant.fetched none told are) (next_lines c.next_line.new.self.ended given.0 left later given.1)
+    (line_kept c.lines.user c.as_slice.result.now c.next_line.new.line.items given.0 c.lines.invariant.user c.as_slice.ensures.value given.2) none))
