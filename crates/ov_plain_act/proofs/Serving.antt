@@ -1,0 +1,50 @@
+-- What comes of a deed where there is room for its moves, and the steps behind its reply.
+use Rattle.std.proofs.Common.{◌≡◌, ℕ, zero, suc, ◌+◌, List, [], ◌∷◌, ◌++◌, map, refl, sym, ◌∙◌, ap}
+use Rattle.std.specs.Prelude.{Option, Some, None}
+use Rattle.std.proofs.lemmas.List.{append-nil, append_assoc}
+use Rattle.ov_model.specs.Act.{Session, Deed}
+use Rattle.ov_model.specs.Course.{Item, Makes, Served, nothing, after, attempts, steps, and_steps, line_served}
+use Rattle.ov_model.specs.Deed.{deed}
+use Rattle.ov_model.specs.Line.{Asks}
+use Rattle.ov_model.specs.Moves.{Move, moved}
+use Rattle.ov_model.specs.Steps.{next_step}
+use Rattle.ov_model.specs.World.{World}
+use Rattle.ov_model.specs.declared.command.Command.{Command}
+use Rattle.ov_plain_act.specs.Acts.{deed_of, session_of}
+use Rattle.ov_plain_act.specs.Runs.{item_of, made, run_of}
+use Rattle.ov_plain_act.specs.declared.deed.Deed.{Deed as KeptDeed}
+use Rattle.ov_plain_act.specs.declared.running.Run.{Run}
+
+attempts_made : (d : Deed) (s : Session) (taken : ℕ) (ms : List Move) (w : World) → attempts d s taken ms w [] ≡ made ms w d.reply d.session
+attempts_made d s taken [] w = refl
+attempts_made d s taken (m ∷ ms) w = ap (λ (k : Served). after (Makes m ∷ []) k) (attempts_made d s (taken + 1) ms (moved m w))
+
+-- what comes of a command, by its deed's moves and reply
+pub served_made : (n : ℕ) (w : World) (s : Session) (c : Command) (d : KeptDeed) (run all : Run)
+    → deed_of d ≡ deed w s c → made (deed_of d).moves w d.reply (session_of d.session) ≡ run_of run
+    → and_steps n (run_of run) ≡ run_of all → line_served n w s [] (Asks c) ≡ run_of all
+served_made n w s c d run all e f more =
+    ap (λ (k : Deed). and_steps n (attempts k s 0 k.moves w [])) (sym e)
+    ∙ ap (λ (k : Served). and_steps n k) (attempts_made (deed_of d) s 0 (deed_of d).moves w ∙ f)
+    ∙ more
+
+-- with these items, which end where they are
+ended : List Item → Served → Served
+ended items k = record k { items = items }
+
+pub none_taken : (r : Run) → and_steps 0 (run_of r) ≡ run_of r
+none_taken r = ap (λ (items : List Item). ended items (run_of r)) (append-nil (map item_of r.items))
+
+pub none_runs : (n : ℕ) (r : Run) → next_step r.world ≡ None → and_steps n (run_of r) ≡ run_of r
+none_runs zero r e = none_taken r
+none_runs (suc n) r e = rw e (none_taken r)
+
+one_behind : (items : List Item) (item : Item) (k : Served) → after items (after (item ∷ []) k) ≡ after (items ++ item ∷ []) k
+one_behind items item k = ap (λ (all : List Item). ended all k) (sym (append_assoc items (item ∷ []) k.items))
+
+-- the first of some steps
+pub one_taken : (n : ℕ) (m : Move) (r later : Run) → next_step r.world ≡ Some m
+    → map item_of later.items ≡ map item_of r.items ++ Makes m ∷ [] → later.world ≡ moved m r.world → later.session ≡ r.session
+    → and_steps (suc n) (run_of r) ≡ and_steps n (run_of later)
+one_taken n m r later e items world session =
+    rw (e, items, world, session) (one_behind (map item_of r.items) (Makes m) (steps n (session_of r.session) (moved m r.world) []))
