@@ -2,7 +2,7 @@
 //!
 //! A World between two steps that is too large for the next one is answered as want of memory.
 
-ghost use Rattle.std.specs.Prelude.{◌≡◌, map, IfOk, IfSome};
+ghost use Rattle.std.specs.Prelude.{◌≡◌, ◌∷◌, map, IfOk, IfSome};
 ghost use Rattle.std.specs.Option.{option_map};
 ghost use Rattle.ov_model.specs.Act.{migrate_by};
 ghost use Rattle.ov_model.specs.Moves.{moved};
