@@ -1,5 +1,5 @@
 -- What comes of a deed where there is room for its moves, and the steps behind its reply.
-use Rattle.std.proofs.Common.{◌≡◌, ℕ, zero, suc, ◌+◌, List, [], ◌∷◌, ◌++◌, map, refl, sym, ◌∙◌, ap}
+use Rattle.std.proofs.Common.{◌≡◌, ℕ, zero, suc, ◌+◌, ◌-◌, ◌<◌, List, [], ◌∷◌, ◌++◌, map, refl, sym, ◌∙◌, ap, subst, arith}
 use Rattle.std.specs.Prelude.{Option, Some, None}
 use Rattle.std.proofs.lemmas.List.{append-nil, append_assoc}
 use Rattle.ov_model.specs.Act.{Session, Deed}
@@ -10,9 +10,10 @@ use Rattle.ov_model.specs.Moves.{Move, moved}
 use Rattle.ov_model.specs.Steps.{next_step}
 use Rattle.ov_model.specs.World.{World}
 use Rattle.ov_model.specs.declared.command.Command.{Command}
-use Rattle.ov_plain_act.specs.Acts.{deed_of, session_of}
+use Rattle.ov_plain_act.specs.Acts.{deed_of, move_of, session_of}
 use Rattle.ov_plain_act.specs.Runs.{item_of, made, run_of}
 use Rattle.ov_plain_act.specs.declared.deed.Deed.{Deed as KeptDeed}
+use Rattle.ov_plain_act.specs.declared.deed.Move.{Move as Kept}
 use Rattle.ov_plain_act.specs.declared.running.Run.{Run}
 
 attempts_made : (d : Deed) (s : Session) (taken : ℕ) (ms : List Move) (w : World) → attempts d s taken ms w [] ≡ made ms w d.reply d.session
@@ -29,7 +30,7 @@ served_made n w s c d run all e f more =
     ∙ more
 
 -- with these items, which end where they are
-ended : List Item → Served → Served
+abbrev ended : List Item → Served → Served
 ended items k = record k { items = items }
 
 pub none_taken : (r : Run) → and_steps 0 (run_of r) ≡ run_of r
@@ -48,3 +49,12 @@ pub one_taken : (n : ℕ) (m : Move) (r later : Run) → next_step r.world ≡ S
     → and_steps (suc n) (run_of r) ≡ and_steps n (run_of later)
 one_taken n m r later e items world session =
     rw (e, items, world, session) (one_behind (map item_of r.items) (Makes m) (steps n (session_of r.session) (moved m r.world) []))
+
+-- a step, and then those behind it
+pub steps_more : (count : ℕ) (m : Kept) (r later all : Run) → 0 < count → Some (move_of m) ≡ next_step r.world
+    → map item_of later.items ≡ map item_of r.items ++ Makes (move_of m) ∷ [] → later.world ≡ moved (move_of m) r.world
+    → later.session ≡ r.session → and_steps (count - 1) (run_of later) ≡ run_of all → and_steps count (run_of r) ≡ run_of all
+steps_more zero m r later all some e items world session more = absurd (omega arith)
+steps_more (suc n) m r later all some e items world session more =
+    let less : suc n - 1 ≡ n = omega arith
+    in one_taken n (move_of m) r later (sym e) items world session ∙ subst (λ (k : ℕ). and_steps k (run_of later) ≡ run_of all) less more

@@ -5,7 +5,7 @@ ghost use Rattle.std.specs.Prelude.{◌≡◌, ◌++◌, [], ◌∷◌, map, is_
 ghost use Rattle.ov_model.specs.Course.{Makes, Says, after, and_steps, line_served};
 ghost use Rattle.ov_model.specs.Line.{Asks};
 ghost use Rattle.ov_model.specs.Moves.{moved};
-ghost use Rattle.ov_plain_act.specs.Acts.{is_plain, move_of, session_of};
+ghost use Rattle.ov_plain_act.specs.Acts.{deed_of, is_plain, move_of, session_of};
 ghost use Rattle.ov_plain_act.specs.Runs.{IsReady, item_of, made, run_of};
 ghost use Rattle.ov_plain_act.specs.Small.{AreSmallMoves, IsSmallCommand, IsSmallMove};
 
@@ -86,6 +86,21 @@ fn made(
     }
 }
 
+/// What comes of a deed.
+fn attempts(alloc: Global, deed: Deed, world: World) -> Result<Run, AllocError>
+    requires { AreSmallMoves deed.moves }
+    ensures { IfOk result (λ run. made (deed_of deed).moves world deed.reply (session_of deed.session) ≡ run_of run) }
+{
+    let Deed {
+        moves,
+        reply,
+        counts_steps: _counts_steps,
+        session,
+    } = deed;
+    let run = made(alloc, moves.as_slice(), reply, world, session)?;
+    Ok(run)
+}
+
 /// A run, and then a step more.
 fn with_step(alloc: Global, run: Run, step: Move) -> Result<Run, AllocError>
     requires { IsSmallMove step }
@@ -108,6 +123,7 @@ fn with_step(alloc: Global, run: Run, step: Move) -> Result<Run, AllocError>
 }
 
 /// A run, and then up to so many steps, until no plan runs.
+#[tactic(auto, using(crate::proofs::Serving::none_taken, crate::proofs::Serving::none_runs, crate::proofs::Serving::steps_more))]
 fn and_steps(alloc: Global, count: u32, run: Run) -> Result<Run, AllocError>
     ensures { IfOk result (λ all. and_steps count (run_of run) ≡ run_of all) }
 {
@@ -116,7 +132,11 @@ fn and_steps(alloc: Global, count: u32, run: Run) -> Result<Run, AllocError>
     }
     match first_step(alloc, run.world.sets())? {
         None => Ok(run),
-        Some(step) => and_steps(alloc, count - 1, with_step(alloc, run, step)?),
+        Some(step) => {
+            let later = with_step(alloc, run, step)?;
+            let all = and_steps(alloc, count - 1, later)?;
+            Ok(all)
+        }
     }
 }
 
@@ -136,14 +156,9 @@ pub fn plain_served(
     match plain_deed(alloc, &world, session, command)? {
         None => Ok(None),
         Some(deed) => {
-            let Deed {
-                moves,
-                reply,
-                counts_steps: _counts_steps,
-                session,
-            } = deed;
-            let run = made(alloc, moves.as_slice(), reply, world, session)?;
-            Ok(Some(and_steps(alloc, steps, run)?))
+            let run = attempts(alloc, deed, world)?;
+            let all = and_steps(alloc, steps, run)?;
+            Ok(Some(all))
         }
     }
 }
