@@ -5,3 +5,4 @@ pub mod Fitting
 pub mod Logging
 pub mod Onward
 pub mod Serving
+pub mod Stepping

@@ -107,7 +107,8 @@ fn next_steps(alloc: Global, count: u32, world: World) -> Result<Steps, AllocErr
         Some(step) => {
             let after = after_move(alloc, &step, world)?;
             let later = next_steps(alloc, count - 1, after)?;
-            behind(alloc, step, later)
+            let all = behind(alloc, step, later)?;
+            Ok(all)
         }
     }
 }
