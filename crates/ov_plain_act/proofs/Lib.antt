@@ -5,4 +5,4 @@ pub mod Fitting
 pub mod Logging
 pub mod Onward
 pub mod Serving
-pub mod Stepping
+pub mod StepByStep

@@ -1,6 +1,7 @@
 -- What comes of a deed where there is room for its moves, and the steps behind its reply.
-use Rattle.std.proofs.Common.{◌≡◌, ℕ, zero, suc, ◌+◌, ◌-◌, ◌<◌, List, [], ◌∷◌, ◌++◌, map, refl, sym, ◌∙◌, ap, subst, arith}
+use Rattle.std.proofs.Common.{◌≡◌, ℕ, zero, suc, ◌+◌, ◌-◌, ◌<◌, ◌≤◌, List, [], ◌∷◌, ◌++◌, length, map, take, drop, get_or, refl, sym, ◌∙◌, ap, subst, arith}
 use Rattle.std.specs.Prelude.{Option, Some, None}
+use Rattle.std.proofs.lemmas.Grind.{common_steps}
 use Rattle.std.proofs.lemmas.List.{append-nil, append_assoc}
 use Rattle.ov_model.specs.Act.{Session, Deed}
 use Rattle.ov_model.specs.Course.{Item, Makes, Served, nothing, after, attempts, steps, and_steps, line_served}
@@ -10,6 +11,7 @@ use Rattle.ov_model.specs.Moves.{Move, moved}
 use Rattle.ov_model.specs.Steps.{next_step}
 use Rattle.ov_model.specs.World.{World}
 use Rattle.ov_model.specs.declared.command.Command.{Command}
+use Rattle.ov_model.specs.declared.reply.Reply.{Reply}
 use Rattle.ov_plain_act.specs.Acts.{deed_of, move_of, session_of}
 use Rattle.ov_plain_act.specs.Runs.{item_of, made, run_of}
 use Rattle.ov_plain_act.specs.declared.deed.Deed.{Deed as KeptDeed}
@@ -28,6 +30,26 @@ served_made n w s c d run all e f more =
     ap (λ (k : Deed). and_steps n (attempts k s 0 k.moves w [])) (sym e)
     ∙ ap (λ (k : Served). and_steps n k) (attempts_made (deed_of d) s 0 (deed_of d).moves w ∙ f)
     ∙ more
+
+-- those behind the first one
+abbrev pub other_moves : List Kept → List Kept
+other_moves ms = take (length ms - 1) (drop 1 ms)
+
+all_but_first : (m : Kept) (ms : List Kept) → other_moves (m ∷ ms) ≡ ms
+all_but_first m ms = grind (arith, common_steps)
+
+-- a move, and then the others and the reply
+pub made_more : (ms : List Kept) (m : Kept) (w next : World) (reply : Reply) (s : Session) (later all : Run)
+    → 1 ≤ length ms → m ≡ get_or ms 0 m → next ≡ moved (move_of m) w
+    → made (map move_of (other_moves ms)) next reply s ≡ run_of later
+    → run_of all ≡ after (Makes (move_of m) ∷ []) (run_of later) → made (map move_of ms) w reply s ≡ run_of all
+made_more [] m w next reply s later all some first e f is = absurd (omega arith)
+made_more (x ∷ xs) m w next reply s later all some first e f is =
+    ap (λ (k : Kept). after (Makes (move_of k) ∷ []) (made (map move_of xs) (moved (move_of k) w) reply s)) (sym first)
+    ∙ ap (λ (v : World). after (Makes (move_of m) ∷ []) (made (map move_of xs) v reply s)) (sym e)
+    ∙ ap (λ (ks : List Kept). after (Makes (move_of m) ∷ []) (made (map move_of ks) next reply s)) (sym (all_but_first x xs))
+    ∙ ap (λ (k : Served). after (Makes (move_of m) ∷ []) k) f
+    ∙ sym is
 
 -- with these items, which end where they are
 abbrev ended : List Item → Served → Served

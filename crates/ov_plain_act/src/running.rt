@@ -81,7 +81,8 @@ fn made(
             let later = made(alloc, rest, reply, next, session)?;
             let mut items = Items::new(alloc);
             items.push(Item::Makes(first.copy(alloc)?))?;
-            behind(items, later)
+            let run = behind(items, later)?;
+            Ok(run)
         }
     }
 }

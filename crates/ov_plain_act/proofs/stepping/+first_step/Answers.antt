@@ -1,7 +1,7 @@
 -- The first dataset's plan runs.
 use Rattle.std.proofs.Common.{◌≡◌, rules}
 use Rattle.std.specs.Prelude.{Some}
-use Rattle.ov_plain_act.proofs.Stepping.{first_is}
+use Rattle.ov_plain_act.proofs.StepByStep.{first_is}
 use Rattle.ov_plain_act.proofs.stepping.+first_step.Goals as goal
 use Rattle.ov_plain_act.specs.Acts.{move_of}
 

@@ -3,7 +3,7 @@ use Rattle.std.proofs.Common.{◌≡◌, ◌<◌, List, ◌∷◌, sym, ◌∙�
 use Rattle.std.specs.Prelude.{Some}
 use Rattle.ov_model.specs.Moves.{Move}
 use Rattle.ov_model.specs.Steps.{first_step}
-use Rattle.ov_plain_act.proofs.Stepping.{steps_more, moved_more}
+use Rattle.ov_plain_act.proofs.StepByStep.{steps_more, moved_more}
 use Rattle.ov_plain_act.proofs.stepping.+next_steps.Goals as goal
 use Rattle.ov_plain_act.specs.Acts.{move_of}
 
