@@ -39,6 +39,22 @@ impl Cvd {
         }
     }
 
+    /// A copy of it.
+    pub fn copy(&self, alloc: Global) -> Result<Cvd, AllocError>
+        ensures { IfOk result (λ made. made ≡ self.now) }
+    {
+        let name = self.name.copy(alloc)?;
+        let schema = self.schema.copy(alloc)?;
+        let mut versions = Items::new(alloc);
+        add_copies_of_versions(alloc, self.versions.as_slice(), &mut versions)?;
+        Ok(Cvd {
+            number: self.number,
+            name,
+            schema,
+            versions,
+        })
+    }
+
     /// Its number among all that were made.
     pub fn number(&self) -> u32
         ensures { result ≡ self.now.number }
@@ -84,6 +100,23 @@ impl Cvd {
         ensures { result.now ≡ self.now.versions }
     {
         self.versions.as_slice()
+    }
+}
+
+/// Adds copies of these versions.
+fn add_copies_of_versions(
+    alloc: Global,
+    versions: &[Version],
+    found: &mut Items<Version>,
+) -> Result<(), AllocError>
+    ensures { OnOk result (found.new ≡ found.old ++ versions.now) }
+{
+    match versions {
+        [] => Ok(()),
+        [version, rest @ ..] => {
+            found.push(version.copy(alloc)?)?;
+            add_copies_of_versions(alloc, rest, found)
+        }
     }
 }
 
@@ -159,6 +192,23 @@ impl Part {
         ensures { result.now ≡ self.now.pieces }
     {
         self.pieces.as_slice()
+    }
+}
+
+/// Adds copies of these partitions.
+pub fn add_copies_of_parts(
+    alloc: Global,
+    parts: &[Part],
+    found: &mut Items<Part>,
+) -> Result<(), AllocError>
+    ensures { OnOk result (found.new ≡ found.old ++ parts.now) }
+{
+    match parts {
+        [] => Ok(()),
+        [part, rest @ ..] => {
+            found.push(part.copy(alloc)?)?;
+            add_copies_of_parts(alloc, rest, found)
+        }
     }
 }
 
@@ -297,6 +347,21 @@ impl Plan {
         self.copied.as_slice()
     }
 
+    /// A copy of it.
+    pub fn copy(&self, alloc: Global) -> Result<Plan, AllocError>
+        ensures { IfOk result (λ made. made ≡ self.now) }
+    {
+        let targets = copies_of_targets(alloc, self.targets.as_slice())?;
+        let copied = copies_of_pieces(alloc, self.copied.as_slice())?;
+        Ok(Plan {
+            p: self.p,
+            q: self.q,
+            targets,
+            at: self.at,
+            copied,
+        })
+    }
+
     /// A copy with one copied piece more.
     pub fn with_copied(&self, alloc: Global, piece: Items<Rec>) -> Result<Plan, AllocError>
         ensures { IfOk result (λ plan. plan ≡ record self.now { copied = self.now.copied ++ piece ∷ [] }) }
@@ -355,6 +420,16 @@ fn copies_of_targets(alloc: Global, targets: &[Target]) -> Result<Items<Target>,
     Ok(copies)
 }
 
+/// A copy of the plan that runs, where one does.
+fn copy_of_plan(alloc: Global, plan: &Option<Plan>) -> Result<Option<Plan>, AllocError>
+    ensures { IfOk result (λ made. made ≡ plan.now) }
+{
+    match plan {
+        None => Ok(None),
+        Some(plan) => Ok(Some(plan.copy(alloc)?)),
+    }
+}
+
 /// A dataset with its partitions by number, the next partition's number, the threshold of the last plan, and the running
 /// plan.
 #[derive(Debug, Drop)]
@@ -396,6 +471,23 @@ impl Dataset {
             threshold: of.threshold,
             plan: of.plan,
         }
+    }
+
+    /// A copy of it.
+    pub fn copy(&self, alloc: Global) -> Result<Dataset, AllocError>
+        ensures { IfOk result (λ made. made ≡ self.now) }
+    {
+        let cvd = self.cvd.copy(alloc)?;
+        let mut parts = Items::new(alloc);
+        add_copies_of_parts(alloc, self.parts.as_slice(), &mut parts)?;
+        let plan = copy_of_plan(alloc, &self.plan)?;
+        Ok(Dataset {
+            cvd,
+            parts,
+            next_part: self.next_part,
+            threshold: self.threshold,
+            plan,
+        })
     }
 
     /// What it is made of.

@@ -6,7 +6,7 @@ ghost use Rattle.ov_model.specs.Moves.{tree_edge_of, facts_of, placed_at, piece_
 ghost use Rattle.ov_model.specs.Records.{lacking, ordered_records};
 ghost use Rattle.ov_model.specs.World.{held, is_one, part_of, is_unmoved, stored};
 
-use crate::dataset::{Cvd, Dataset, Part, Pieces, Plan, Target};
+use crate::dataset::{Cvd, Dataset, Part, Pieces, Plan, Target, add_copies_of_parts};
 use crate::placement::{heaviest, plain_place};
 use crate::plans::{held, is_one};
 use crate::rec::{Rec, Version};
@@ -171,19 +171,6 @@ fn add_joined(
     }
 }
 
-/// Adds copies of these partitions.
-fn add_parts(alloc: Global, parts: &[Part], found: &mut Items<Part>) -> Result<(), AllocError>
-    ensures { OnOk result (found.new ≡ found.old ++ parts.now) }
-{
-    match parts {
-        [] => Ok(()),
-        [part, rest @ ..] => {
-            found.push(part.copy(alloc)?)?;
-            add_parts(alloc, rest, found)
-        }
-    }
-}
-
 /// The partitions with a version more.
 fn parts_with(
     alloc: Global,
@@ -198,7 +185,7 @@ fn parts_with(
     let mut found = Items::new(alloc);
     match place {
         Place::Own => {
-            add_parts(alloc, parts, &mut found)?;
+            add_copies_of_parts(alloc, parts, &mut found)?;
             found.push(own_part(alloc, next, vid, recs)?)?;
             Ok(found)
         }

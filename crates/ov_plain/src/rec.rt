@@ -3,6 +3,7 @@
 ghost use Rattle.std.specs.Prelude.{◌≡◌, IfOk};
 ghost use Rattle.ov_model.specs.Records.{is_same_rec};
 
+use crate::merge::add_rows;
 use ov_value::{Row, Txt};
 use sqlite_items::Items;
 use std::alloc::{AllocError, Global};
@@ -90,6 +91,21 @@ impl Version {
             message,
             rows,
         }
+    }
+
+    /// A copy of it.
+    pub fn copy(&self, alloc: Global) -> Result<Version, AllocError>
+        ensures { IfOk result (λ made. made ≡ self.now) }
+    {
+        let parents = Items::from_slice(alloc, self.parents.as_slice())?;
+        let message = self.message.copy(alloc)?;
+        let mut rows = Items::new(alloc);
+        add_rows(alloc, self.rows.as_slice(), &mut rows)?;
+        Ok(Version {
+            parents,
+            message,
+            rows,
+        })
     }
 
     /// Its parents, in the order in which they were listed.

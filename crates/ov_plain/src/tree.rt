@@ -29,7 +29,7 @@ fn fresh(nodes: &[Node], vid: u32) -> u32
 }
 
 /// The sum of these versions' fresh records.
-fn all_fresh(nodes: &[Node], vids: &[u32]) -> u64
+pub fn all_fresh(nodes: &[Node], vids: &[u32]) -> u64
     requires { length vids.now ≤ 65535 }
     ensures sum { result ≡ total (fresh (tree_of nodes.now)) vids.now }
     ensures few { result ≤ length vids.now * 2 ^ 32 }

@@ -1,6 +1,7 @@
 //! The reduced tree of a dataset's versions, and its split.
 
 ghost use Rattle.std.specs.Prelude.{◌≡◌, ◌+◌, ◌++◌, ◌≤◌, ◌<◌, length, IfOk, OnOk};
+ghost use Rattle.ov_graph.specs.Trees.{all_members, all_records, vids_of};
 ghost use Rattle.ov_graph.specs.Versions.{node_of, reduced};
 ghost use Rattle.ov_lyre.specs.Parts.{lists_of};
 ghost use Rattle.ov_model.specs.Plans.{graph_of, nodes_of_set, parts_at, depth_at};
@@ -11,7 +12,8 @@ use crate::dataset::Dataset;
 use crate::placement::heaviest;
 use crate::rec::{Rec, Version};
 use crate::records::{records_of, weights};
-use crate::split::plain_split;
+use crate::split::{all_vids, plain_split};
+use crate::tree::{all_fresh, members};
 use ov_graph::{Node, Tree};
 use sqlite_items::Items;
 use std::alloc::{AllocError, Global};
@@ -112,4 +114,33 @@ pub fn depth_at(alloc: Global, set: &Dataset, p: u32, q: u32) -> Result<u32, All
     let tree = tree_of_set(alloc, set)?;
     let split = plain_split(alloc, &tree, p, q)?;
     Ok(split.depth)
+}
+
+/// The vids of a dataset's versions.
+fn vids_of_set(alloc: Global, tree: &Tree) -> Result<Vec<u32>, AllocError>
+    requires { length tree.now.nodes.items ≤ 65535 }
+    ensures is { IfOk result (λ vids. vids.items ≡ vids_of tree.now.nodes.items) }
+    ensures count { IfOk result (λ vids. length vids.items ≤ 65535) }
+{
+    all_vids(alloc, tree.nodes.len())
+}
+
+/// T of the reduced tree: the records of all versions that their tree parents haven't.
+pub fn tree_records(alloc: Global, set: &Dataset) -> Result<u64, AllocError>
+    requires { IsSmall set.now.cvd }
+    ensures { IfOk result (λ sum. sum ≡ all_records (nodes_of_set set.now)) }
+{
+    let tree = tree_of_set(alloc, set)?;
+    let vids = vids_of_set(alloc, &tree)?;
+    Ok(all_fresh(&tree.nodes, &vids))
+}
+
+/// E of the reduced tree: the records of all versions together.
+pub fn tree_members(alloc: Global, set: &Dataset) -> Result<u64, AllocError>
+    requires { IsSmall set.now.cvd }
+    ensures { IfOk result (λ sum. sum ≡ all_members (nodes_of_set set.now)) }
+{
+    let tree = tree_of_set(alloc, set)?;
+    let vids = vids_of_set(alloc, &tree)?;
+    Ok(members(&tree.nodes, &vids))
 }

@@ -1,6 +1,8 @@
 pub mod Accepting
 pub mod Changing
 pub mod Counting
+pub mod Fitting
 pub mod Logging
 pub mod Onward
-pub mod Resting
+pub mod Serving
+pub mod StepByStep

@@ -31,15 +31,15 @@ course_more n w s cs f run later all split e more is =
     ∙ ap (λ (k : Served). after (map item_of run.items) k) more
     ∙ sym is
 
-pub course_ready : (w : World) (s : Session) (cs : List Command) (f : Command) (run : Run)
-    → cs ≡ f ∷ others cs → IsReady w → is_plain f ≡ true → IsSmallCommand f → line_served 0 w s [] (Asks f) ≡ run_of run
-    → IsPlainCourse run.world (session_of run.session) (others cs) → IsPlainCourse w s cs
-course_ready w s cs f run split ready plain small e later =
-    subst (λ (these : List Command). IsPlainCourse w s these) (sym split)
-    (ready, (plain, (small, subst (λ (k : Served). IsPlainCourse k.world k.session (others cs)) (sym e) later)))
+pub course_ready : (n : ℕ) (w : World) (s : Session) (cs : List Command) (f : Command) (run : Run)
+    → cs ≡ f ∷ others cs → IsReady w → is_plain f ≡ true → IsSmallCommand f → line_served n w s [] (Asks f) ≡ run_of run
+    → IsPlainCourse n run.world (session_of run.session) (others cs) → IsPlainCourse n w s cs
+course_ready n w s cs f run split ready plain small e later =
+    subst (λ (these : List Command). IsPlainCourse n w s these) (sym split)
+    (ready, (plain, (small, subst (λ (k : Served). IsPlainCourse n k.world k.session (others cs)) (sym e) later)))
 
-pub course_rest : (w : World) (s : Session) (cs : List Command) (f : Command) (run : Run)
-    → cs ≡ f ∷ others cs → line_served 0 w s [] (Asks f) ≡ run_of run → IsPlainCourse w s cs → IsPlainCourse run.world (session_of run.session) (others cs)
-course_rest w s cs f run split e all =
-    let parts = subst (λ (these : List Command). IsPlainCourse w s these) split all
-    in subst (λ (k : Served). IsPlainCourse k.world k.session (others cs)) e parts.1.1.1
+pub course_rest : (n : ℕ) (w : World) (s : Session) (cs : List Command) (f : Command) (run : Run)
+    → cs ≡ f ∷ others cs → line_served n w s [] (Asks f) ≡ run_of run → IsPlainCourse n w s cs → IsPlainCourse n run.world (session_of run.session) (others cs)
+course_rest n w s cs f run split e all =
+    let parts = subst (λ (these : List Command). IsPlainCourse n w s these) split all
+    in subst (λ (k : Served). IsPlainCourse n k.world k.session (others cs)) e parts.1.1.1

@@ -2,12 +2,16 @@
 use Rattle.std.specs.Prelude.{◌+◌, Bool, true, false, List, [], ◌∷◌, ◌++◌, length, map, Some, None, Result, Ok, Err}
 use Rattle.ov_model.specs.Act.{Files, put, refuses, Session as KnownSession, Deed as KnownDeed}
 use Rattle.ov_model.specs.Book.{Row, Version}
-use Rattle.ov_model.specs.Moves.{Move as KnownMove, Init, Commit, Drop}
+use Rattle.ov_model.specs.Moves.{Move as KnownMove, Init, Commit, BeginPlan, Copy, Flip, Drop, committed}
+use Rattle.ov_model.specs.Plans.{planned, copied_more, flipped}
 use Rattle.ov_model.specs.Records.{Rec, records_of, fresh_in}
+use Rattle.ov_model.specs.World.{Dataset}
 use Rattle.ov_model.specs.declared.command.Command.{Command}
 use Rattle.ov_model.specs.declared.command.Command.TheVariants as asks
 use Rattle.ov_model.specs.declared.refusal.Refusal.{Refusal}
 use Rattle.ov_model.specs.declared.reply.LogLine.{LogLine}
+use Rattle.ov_plain_act.specs.declared.changes.Change.{Change}
+use Rattle.ov_plain_act.specs.declared.changes.Change.TheVariants as changes
 use Rattle.ov_plain_act.specs.declared.deed.Deed.{Deed}
 use Rattle.ov_plain_act.specs.declared.deed.Move.{Move}
 use Rattle.ov_plain_act.specs.declared.deed.Move.TheVariants as kept
@@ -25,7 +29,17 @@ session_of s = record { files = files_of s.files; user = s.user }
 abbrev pub move_of : Move → KnownMove
 move_of (kept.Init name schema rows) = Init name schema rows
 move_of (kept.Commit cvd version) = Commit cvd version.parents version.message [] version.rows
+move_of (kept.BeginPlan cvd p q) = BeginPlan cvd p q
+move_of (kept.Copy cvd) = Copy cvd
+move_of (kept.Flip cvd) = Flip cvd
 move_of (kept.Drop cvd) = Drop cvd
+
+-- what a change makes of the dataset that it is of
+abbrev pub changed_by : Change → Dataset → Dataset
+changed_by (changes.Version version) = committed version.parents version.message [] version.rows
+changed_by (changes.Plan p q) = planned p q
+changed_by changes.Copy = copied_more
+changed_by changes.Flip = flipped
 
 abbrev pub deed_of : Deed → KnownDeed
 deed_of d = record {
@@ -49,10 +63,10 @@ is_plain (asks.Commit cvd vids file message None) = true
 is_plain (asks.Commit cvd vids file message (Some added)) = false
 is_plain (asks.CommitStaged user table message) = false
 is_plain (asks.Run text) = false
-is_plain (asks.Optimize cvd p q) = false
+is_plain (asks.Optimize cvd p q) = true
 is_plain (asks.OptimizeWithin cvd budget) = false
 is_plain (asks.Advise cvd budget a b) = false
-is_plain (asks.Migrate count) = false
+is_plain (asks.Migrate count) = true
 is_plain (asks.Layout cvd) = true
 is_plain (asks.Log cvd) = true
 is_plain asks.Ls = true

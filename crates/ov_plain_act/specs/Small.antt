@@ -1,10 +1,12 @@
 -- Worlds, commands and moves so small that each count of them fits the programs' numbers.
-use Rattle.std.specs.Prelude.{ℕ, ◌+◌, ◌^◌, ◌<◌, ◌≤◌, List, [], ◌∷◌, length}
+use Rattle.std.specs.Prelude.{ℕ, ◌+◌, ◌^◌, ◌<◌, ◌≤◌, List, [], ◌∷◌, length, IfSome}
 use Rattle.ov_model.specs.Book.{Version}
 use Rattle.ov_model.specs.Records.{order_of}
 use Rattle.ov_model.specs.World.{Dataset, World, stored}
 use Rattle.ov_model.specs.declared.command.Command.{Command}
 use Rattle.ov_model.specs.declared.command.Command.TheVariants as asks
+use Rattle.ov_plain_act.specs.declared.changes.Change.{Change}
+use Rattle.ov_plain_act.specs.declared.changes.Change.TheVariants as changes
 use Rattle.ov_plain_act.specs.declared.deed.Move.{Move}
 use Rattle.ov_plain_act.specs.declared.deed.Move.TheVariants as kept
 
@@ -33,12 +35,16 @@ abbrev pub AllFit : List ℕ → Type 0
 AllFit [] = Unit {0}
 AllFit (n ∷ ns) = (n < 2 ^ 32) × AllFit ns
 
--- a dataset takes a version and a partition more, and stores fewer than 2^64 records
+-- a dataset of few rows takes a version and a partition more, and stores fewer than 2^64 records; and its running plan has few
+-- targets and isn't past them
 pub record HasPlace (d : Dataset) : Type 0 where
   pub versions : length d.cvd.versions < 65535
+  pub rows : HaveFewRows d.cvd.versions
   pub parts : length d.parts ≤ 65535
   pub number : d.next_part < 4294967295
   pub stored : stored d < 2 ^ 64
+  pub at : IfSome d.plan (λ plan. plan.at < 65535)
+  pub targets : IfSome d.plan (λ plan. length plan.targets ≤ 65535)
 
 abbrev pub HavePlace : List Dataset → Type 0
 HavePlace [] = Unit {0}
@@ -55,8 +61,11 @@ abbrev pub IsSmallMove : Move → Type 0
 IsSmallMove (kept.Commit cvd version) = length version.rows < 4294967295
 IsSmallMove _ = Unit {0}
 
--- at most one move, and it has few rows
+abbrev pub IsSmallChange : Change → Type 0
+IsSmallChange (changes.Version version) = length version.rows < 4294967295
+IsSmallChange _ = Unit {0}
+
+-- each of these moves has few rows
 abbrev pub AreSmallMoves : List Move → Type 0
 AreSmallMoves [] = Unit {0}
-AreSmallMoves (m ∷ []) = IsSmallMove m
-AreSmallMoves (m ∷ n ∷ moves) = ⊥
+AreSmallMoves (m ∷ moves) = IsSmallMove m × AreSmallMoves moves

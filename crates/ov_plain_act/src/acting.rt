@@ -13,8 +13,10 @@ ghost use Rattle.ov_plain_act.specs.Small.{AllFit, AreSmall, AreSmallMoves, IsSm
 use crate::accepted::accepted;
 use crate::deed::{Deed, Move, does, refuses};
 use crate::laying::layout_deed;
+use crate::planning::optimize_deed;
 use crate::session::Session;
 use crate::showing::checkout_deed;
+use crate::stepping::migrate_deed;
 use crate::telling::{count_fresh, log_deed, ls_deed};
 use crate::world::{World, first_named};
 use ov_answers::{commit_refusal, records_refusal};
@@ -311,10 +313,12 @@ fn permitted_deed(
         Command::Commit { added: Some(_), .. } => Ok(None),
         Command::CommitStaged { .. } => Ok(None),
         Command::Run { .. } => Ok(None),
-        Command::Optimize { .. } => Ok(None),
+        Command::Optimize { cvd, p, q } => {
+            Ok(Some(optimize_deed(alloc, world, session, cvd, *p, *q)?))
+        }
         Command::OptimizeWithin { .. } => Ok(None),
         Command::Advise { .. } => Ok(None),
-        Command::Migrate { .. } => Ok(None),
+        Command::Migrate { count } => Ok(Some(migrate_deed(alloc, world, session, *count)?)),
         Command::Checkpoint => Ok(None),
         Command::Generate { .. } => Ok(None),
         Command::CreateUser { .. } => Ok(None),

@@ -1,54 +1,73 @@
-//! What a move makes of a World: a dataset more, a version more, a dataset less.
+//! What a move makes of a World: a dataset more, a change of one, a dataset less.
 
 ghost use Rattle.std.specs.Prelude.{◌≡◌, ◌+◌, ◌++◌, ◌<◌, ◌≤◌, ◌^◌, [], ◌∷◌, length, filter, not, if◌then◌else◌, IfOk};
-ghost use Rattle.ov_model.specs.Moves.{Init, Commit, Drop, moved, change, committed, numbered};
-ghost use Rattle.ov_plain_act.specs.Acts.{move_of};
-ghost use Rattle.ov_plain_act.specs.Small.{CanMove, HasPlace, HavePlace, IsSmallMove};
+ghost use Rattle.ov_model.specs.Moves.{Init, Drop, moved, change, changed, numbered};
+ghost use Rattle.ov_plain_act.specs.Acts.{changed_by, move_of};
+ghost use Rattle.ov_plain_act.specs.Small.{CanMove, HasPlace, HavePlace, IsSmallChange, IsSmallMove};
 
-use crate::copies::copy_of;
 use crate::deed::Move;
 use crate::world::{Pieces, World};
-use ov_plain::{Dataset, Version, new_set, with_version};
+use ov_plain::{Dataset, Version, copied_more, flipped, new_set, planned, with_version};
 use ov_value::{Row, Schema, Txt};
 use sqlite_items::Items;
 use std::alloc::{AllocError, Global};
 
-/// A dataset, with a version more where it has the number.
-fn changed_set(
-    alloc: Global,
-    cvd: u32,
-    version: &Version,
-    set: Dataset,
-) -> Result<Dataset, AllocError>
-    requires rows { length version.now.rows < 4294967295 }
+/// A change of one dataset.
+#[derive(Drop)]
+pub enum Change {
+    /// A version more.
+    Version(Version),
+    /// A plan begins, at the threshold p / q.
+    Plan { p: u32, q: u32 },
+    /// Its plan's target takes the next missing records.
+    Copy,
+    /// Its plan's target becomes a partition.
+    Flip,
+}
+
+/// A dataset after a change.
+fn changed_by(alloc: Global, how: &Change, set: Dataset) -> Result<Dataset, AllocError>
+    requires how { IsSmallChange how.now }
     requires place { HasPlace set }
-    ensures { IfOk result (λ after. after ≡ (if numbered cvd set then committed version.now.parents version.now.message [] version.now.rows set else set)) }
+    ensures { IfOk result (λ after. after ≡ changed_by how.now set) }
+{
+    match how {
+        Change::Version(version) => with_version(alloc, version.copy(alloc)?, set),
+        Change::Plan { p, q } => planned(alloc, *p, *q, set),
+        Change::Copy => copied_more(alloc, set),
+        Change::Flip => flipped(alloc, set),
+    }
+}
+
+/// A dataset, after a change where it has the number.
+fn changed_set(alloc: Global, cvd: u32, how: &Change, set: Dataset) -> Result<Dataset, AllocError>
+    requires how { IsSmallChange how.now }
+    requires place { HasPlace set }
+    ensures { IfOk result (λ after. after ≡ (if numbered cvd set then changed_by how.now set else set)) }
 {
     if set.cvd().number() == cvd {
-        let more = copy_of(alloc, version)?;
-        let after = with_version(alloc, more, set)?;
-        Ok(after)
+        changed_by(alloc, how, set)
     } else {
         Ok(set)
     }
 }
 
-/// These datasets, with a version more of that of a number.
+/// These datasets, after a change of that of a number.
 fn changed_sets(
     alloc: Global,
     cvd: u32,
-    version: &Version,
+    how: &Change,
     mut sets: Items<Dataset>,
 ) -> Result<Items<Dataset>, AllocError>
-    requires rows { length version.now.rows < 4294967295 }
+    requires how { IsSmallChange how.now }
     requires place { HavePlace sets }
-    ensures { IfOk result (λ after. after ≡ change cvd (committed version.now.parents version.now.message [] version.now.rows) sets) }
+    ensures { IfOk result (λ after. after ≡ change cvd (changed_by how.now) sets) }
 {
     match sets.pop() {
         None => Ok(sets),
         Some(last) => {
-            let mut found = changed_sets(alloc, cvd, version, sets)?;
-            found.push(changed_set(alloc, cvd, version, last)?)?;
+            let mut found = changed_sets(alloc, cvd, how, sets)?;
+            found.push(changed_set(alloc, cvd, how, last)?)?;
             Ok(found)
         }
     }
@@ -111,11 +130,11 @@ fn with_init(
     }))
 }
 
-/// The World with a version more.
-fn with_commit(alloc: Global, cvd: u32, version: Version, world: World) -> Result<World, AllocError>
-    requires rows { length version.rows < 4294967295 }
+/// The World after a change of a dataset.
+fn with_change(alloc: Global, cvd: u32, how: &Change, world: World) -> Result<World, AllocError>
+    requires how { IsSmallChange how.now }
     requires can { CanMove world }
-    ensures { IfOk result (λ after. after ≡ moved (Commit cvd version.parents version.message [] version.rows) world) }
+    ensures { IfOk result (λ after. after ≡ changed cvd (changed_by how.now) world) }
 {
     let Pieces {
         sets,
@@ -124,7 +143,7 @@ fn with_commit(alloc: Global, cvd: u32, version: Version, world: World) -> Resul
         records,
         format,
     } = world.into_pieces();
-    let sets = changed_sets(alloc, cvd, &version, sets)?;
+    let sets = changed_sets(alloc, cvd, how, sets)?;
     Ok(World::new(Pieces {
         sets,
         next,
@@ -164,7 +183,12 @@ pub fn plain_moved(alloc: Global, the_move: Move, world: World) -> Result<World,
 {
     match the_move {
         Move::Init { name, schema, rows } => with_init(alloc, name, schema, rows, world),
-        Move::Commit { cvd, version } => with_commit(alloc, cvd, version, world),
+        Move::Commit { cvd, version } => {
+            with_change(alloc, cvd, &Change::Version(version), world)
+        }
+        Move::BeginPlan { cvd, p, q } => with_change(alloc, cvd, &Change::Plan { p, q }, world),
+        Move::Copy { cvd } => with_change(alloc, cvd, &Change::Copy, world),
+        Move::Flip { cvd } => with_change(alloc, cvd, &Change::Flip, world),
         Move::Drop { cvd } => with_drop(cvd, world),
     }
 }

@@ -1,8 +1,7 @@
-//! Copies of rows and of versions.
+//! Copies of rows.
 
 ghost use Rattle.std.specs.Prelude.{◌≡◌, ◌∷◌, IfOk};
 
-use ov_plain::Version;
 use ov_value::Row;
 use sqlite_items::Items;
 use std::alloc::{AllocError, Global};
@@ -28,14 +27,4 @@ pub fn copies_of(alloc: Global, rows: &[Row]) -> Result<Items<Row>, AllocError>
             with_first(alloc, row, later)
         }
     }
-}
-
-/// A copy of a version.
-pub fn copy_of(alloc: Global, version: &Version) -> Result<Version, AllocError>
-    ensures { IfOk result (λ made. made ≡ version.now) }
-{
-    let parents = Items::from_slice(alloc, version.parents())?;
-    let message = version.message().copy(alloc)?;
-    let rows = copies_of(alloc, version.rows())?;
-    Ok(Version::new(parents, message, rows))
 }

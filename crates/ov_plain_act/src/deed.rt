@@ -5,7 +5,7 @@ ghost use Rattle.ov_model.specs.Act.{tells, refuses, does};
 ghost use Rattle.ov_plain_act.specs.Acts.{deed_of, move_of, session_of};
 ghost use Rattle.ov_plain_act.specs.Small.{AreSmallMoves, IsSmallMove};
 
-use crate::copies::{copies_of, copy_of};
+use crate::copies::copies_of;
 use crate::session::Session;
 use ov_model::{Refusal, Reply};
 use ov_plain::Version;
@@ -27,6 +27,20 @@ pub enum Move {
         cvd: u32,
         version: Version,
     },
+    /// A plan of the dataset of this number begins, at the threshold p / q.
+    BeginPlan {
+        cvd: u32,
+        p: u32,
+        q: u32,
+    },
+    /// Its plan's target takes the next missing records.
+    Copy {
+        cvd: u32,
+    },
+    /// Its plan's target becomes a partition.
+    Flip {
+        cvd: u32,
+    },
     /// The dataset of this number goes.
     Drop {
         cvd: u32,
@@ -46,9 +60,16 @@ impl Move {
                 Ok(Move::Init { name, schema, rows })
             }
             Move::Commit { cvd, version } => {
-                let version = copy_of(alloc, version)?;
+                let version = version.copy(alloc)?;
                 Ok(Move::Commit { cvd: *cvd, version })
             }
+            Move::BeginPlan { cvd, p, q } => Ok(Move::BeginPlan {
+                cvd: *cvd,
+                p: *p,
+                q: *q,
+            }),
+            Move::Copy { cvd } => Ok(Move::Copy { cvd: *cvd }),
+            Move::Flip { cvd } => Ok(Move::Flip { cvd: *cvd }),
             Move::Drop { cvd } => Ok(Move::Drop { cvd: *cvd }),
         }
     }

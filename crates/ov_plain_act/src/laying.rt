@@ -9,6 +9,7 @@ ghost use Rattle.ov_model.specs.World.{set_named};
 ghost use Rattle.ov_plain_act.specs.Acts.{deed_of, session_of};
 ghost use Rattle.ov_plain_act.specs.Small.{AreSmall, AreSmallMoves, IsSmallSet};
 
+use crate::counts::{count_of, sum_of};
 use crate::deed::{Deed, refuses, tells};
 use crate::session::Session;
 use crate::world::{World, first_named};
@@ -19,26 +20,6 @@ use ov_plain::{
 use ov_value::Txt;
 use sqlite_items::Items;
 use std::alloc::{AllocError, Global};
-
-/// A count, in 32 bits.
-fn count_of(count: usize) -> Result<u32, AllocError>
-    ensures { IfOk result (λ n. n ≡ count) }
-{
-    match u32::try_from(count) {
-        Ok(n) => Ok(n),
-        Err(_) => Err(AllocError),
-    }
-}
-
-/// A sum, in 64 bits.
-fn sum_of(sum: u128) -> Result<u64, AllocError>
-    ensures { IfOk result (λ n. n ≡ sum) }
-{
-    match u64::try_from(sum) {
-        Ok(n) => Ok(n),
-        Err(_) => Err(AllocError),
-    }
-}
 
 /// The line of a partition.
 fn part_line(alloc: Global, part: &Part) -> Result<PartLine, AllocError>

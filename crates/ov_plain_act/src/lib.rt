@@ -8,13 +8,16 @@ mod accepted;
 mod acting;
 mod changes;
 mod copies;
+mod counts;
 mod course;
 mod deed;
 mod laying;
+mod planning;
 mod running;
 mod session;
 mod showing;
 mod small;
+mod stepping;
 mod telling;
 mod world;
 

@@ -1,20 +1,18 @@
-//! What comes of a command, where there is room for its moves and no plan runs: its moves and its reply, and the World and the session
-//! then.
+//! What comes of a command, where there is room for its moves and for the steps behind its reply: its moves and its reply, those
+//! steps, and the World and the session then.
 
-ghost use Rattle.std.specs.Prelude.{◌≡◌, ℕ, [], ◌∷◌, is_some, None, IfOk, IfSome};
-ghost use Rattle.ov_model.specs.Act.{Session as KnownSession};
-ghost use Rattle.ov_model.specs.Course.{Makes, Says, attempts, line_served};
+ghost use Rattle.std.specs.Prelude.{◌≡◌, ◌++◌, [], ◌∷◌, map, is_some, IfOk, IfSome};
+ghost use Rattle.ov_model.specs.Course.{Makes, Says, after, and_steps, line_served};
 ghost use Rattle.ov_model.specs.Line.{Asks};
 ghost use Rattle.ov_model.specs.Moves.{moved};
-ghost use Rattle.ov_model.specs.Steps.{next_step};
 ghost use Rattle.ov_plain_act.specs.Acts.{deed_of, is_plain, move_of, session_of};
-ghost use Rattle.ov_plain_act.specs.Runs.{IsReady, run_of};
-ghost use Rattle.ov_plain_act.specs.Small.{AreSmallMoves, CanMove, IsSmallCommand, IsSmallMove};
+ghost use Rattle.ov_plain_act.specs.Runs.{IsReady, item_of, made, run_of};
+ghost use Rattle.ov_plain_act.specs.Small.{AreSmallMoves, IsSmallCommand, IsSmallMove};
 
 use crate::acting::plain_deed;
-use crate::changes::plain_moved;
 use crate::deed::{Deed, Move};
 use crate::session::Session;
+use crate::stepping::{after_move, first_step};
 use crate::world::World;
 use ov_model::{Command, Reply};
 use sqlite_items::Items;
@@ -48,71 +46,120 @@ fn replied(alloc: Global, reply: Reply, world: World, session: Session) -> Resul
     })
 }
 
-/// A move and a reply.
-fn made(
-    alloc: Global,
-    the_move: Move,
-    reply: Reply,
-    world: World,
-    session: Session,
-) -> Result<Run, AllocError>
-    requires small { IsSmallMove the_move }
-    requires can { CanMove world }
-    ensures { IfOk result (λ run. run_of run ≡ record { items = Makes (move_of the_move) ∷ Says reply ∷ []; world = moved (move_of the_move) world; session = session_of session; left = [] }) }
+/// A run behind these.
+pub fn behind(mut items: Items<Item>, later: Run) -> Result<Run, AllocError>
+    ensures { IfOk result (λ run. run_of run ≡ after (map item_of items) (run_of later)) }
 {
-    let mut items = Items::new(alloc);
-    items.push(Item::Makes(the_move.copy(alloc)?))?;
-    items.push(Item::Says(reply))?;
-    let after = plain_moved(alloc, the_move, world)?;
+    let Run {
+        items: more,
+        world,
+        session,
+    } = later;
+    items.append(more)?;
     Ok(Run {
         items,
-        world: after,
+        world,
         session,
     })
 }
 
-/// What comes of a deed.
-fn attempts(alloc: Global, deed: Deed, world: World) -> Result<Run, AllocError>
-    requires small { AreSmallMoves deed.moves }
-    requires can { CanMove world }
-    ensures is { IfOk result (λ run. (s : KnownSession) → attempts (deed_of deed) s 0 (deed_of deed).moves world [] ≡ run_of run) }
-    ensures still { IfOk result (λ run. next_step world ≡ None → next_step run.world ≡ None) }
+/// These moves and then a reply.
+fn made(
+    alloc: Global,
+    moves: &[Move],
+    reply: Reply,
+    world: World,
+    session: Session,
+) -> Result<Run, AllocError>
+    requires { AreSmallMoves moves.now }
+    ensures { IfOk result (λ run. made (map move_of moves.now) world reply (session_of session) ≡ run_of run) }
 {
-    let Deed {
-        mut moves,
-        reply,
-        counts_steps: _counts_steps,
-        session,
-    } = deed;
-    match moves.pop() {
-        None => {
-            let run = replied(alloc, reply, world, session)?;
-            Ok(run)
-        }
-        Some(the_move) => {
-            let run = made(alloc, the_move, reply, world, session)?;
+    match moves {
+        [] => replied(alloc, reply, world, session),
+        [first, rest @ ..] => {
+            let next = after_move(alloc, first, world)?;
+            let later = made(alloc, rest, reply, next, session)?;
+            let mut items = Items::new(alloc);
+            items.push(Item::Makes(first.copy(alloc)?))?;
+            let run = behind(items, later)?;
             Ok(run)
         }
     }
 }
 
-/// What comes of a command; None where it isn't computed here.
+/// What comes of a deed.
+fn attempts(alloc: Global, deed: Deed, world: World) -> Result<Run, AllocError>
+    requires { AreSmallMoves deed.moves }
+    ensures { IfOk result (λ run. made (deed_of deed).moves world deed.reply (session_of deed.session) ≡ run_of run) }
+{
+    let Deed {
+        moves,
+        reply,
+        counts_steps: _counts_steps,
+        session,
+    } = deed;
+    let run = made(alloc, moves.as_slice(), reply, world, session)?;
+    Ok(run)
+}
+
+/// A run, and then a step more.
+fn with_step(alloc: Global, run: Run, step: Move) -> Result<Run, AllocError>
+    requires { IsSmallMove step }
+    ensures items { IfOk result (λ all. map item_of all.items ≡ map item_of run.items ++ Makes (move_of step) ∷ []) }
+    ensures world { IfOk result (λ all. all.world ≡ moved (move_of step) run.world) }
+    ensures session { IfOk result (λ all. all.session ≡ run.session) }
+{
+    let Run {
+        mut items,
+        world,
+        session,
+    } = run;
+    let next = after_move(alloc, &step, world)?;
+    items.push(Item::Makes(step))?;
+    Ok(Run {
+        items,
+        world: next,
+        session,
+    })
+}
+
+/// A run, and then up to so many steps, until no plan runs.
+#[tactic(auto, using(crate::proofs::Serving::none_taken, crate::proofs::Serving::none_runs, crate::proofs::Serving::steps_more))]
+fn and_steps(alloc: Global, count: u32, run: Run) -> Result<Run, AllocError>
+    ensures { IfOk result (λ all. and_steps count (run_of run) ≡ run_of all) }
+{
+    if count == 0 {
+        return Ok(run);
+    }
+    match first_step(alloc, run.world.sets())? {
+        None => Ok(run),
+        Some(step) => {
+            let later = with_step(alloc, run, step)?;
+            let all = and_steps(alloc, count - 1, later)?;
+            Ok(all)
+        }
+    }
+}
+
+/// What comes of a command, with so many steps behind its reply; None where it isn't computed here.
 pub fn plain_served(
     alloc: Global,
+    steps: u32,
     world: World,
     session: &Session,
     command: &Command,
 ) -> Result<Option<Run>, AllocError>
     requires ready { IsReady world }
     requires command { IsSmallCommand command.now }
-    ensures is { IfOk result (λ found. IfSome found (λ run. (n : ℕ) → line_served n world (session_of session.now) [] (Asks command.now) ≡ run_of run)) }
+    ensures is { IfOk result (λ found. IfSome found (λ run. line_served steps world (session_of session.now) [] (Asks command.now) ≡ run_of run)) }
     ensures plain { IfOk result (λ found. is_some found ≡ is_plain command.now) }
 {
     match plain_deed(alloc, &world, session, command)? {
         None => Ok(None),
         Some(deed) => {
             let run = attempts(alloc, deed, world)?;
-            Ok(Some(run))
+            let all = and_steps(alloc, steps, run)?;
+            Ok(Some(all))
         }
     }
 }

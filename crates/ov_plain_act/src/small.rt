@@ -1,13 +1,12 @@
 //! Whether a World or a command is so small that each count of it fits the programs' numbers.
 
-ghost use Rattle.std.specs.Prelude.{◌≡◌, ◌↔◌, ◌<◌, ◌≤◌, ◌^◌, IsTrue, is_some, length, IfOk};
-ghost use Rattle.ov_model.specs.Steps.{first_step};
+ghost use Rattle.std.specs.Prelude.{◌≡◌, ◌↔◌, ◌<◌, ◌≤◌, ◌^◌, IsTrue, length, IfOk, IfSome};
 ghost use Rattle.ov_plain_act.specs.Runs.{IsReady};
 ghost use Rattle.ov_plain_act.specs.Small.{HaveFewRows, IsSmallSet, AreSmall, IsSmallCommand, HasPlace, HavePlace, CanMove};
 
 use crate::world::World;
 use ov_model::Command;
-use ov_plain::{Dataset, Version, order_of, stored};
+use ov_plain::{Dataset, Plan, Version, order_of, stored};
 use std::alloc::{AllocError, Global};
 
 /// Whether each version has at most 65,535 rows.
@@ -68,6 +67,26 @@ pub fn is_small_command(command: &Command) -> bool
     }
 }
 
+/// Whether the plan that runs isn't past 65,535 targets.
+fn is_early(plan: &Option<Plan>) -> bool
+    ensures { IsTrue result ↔ IfSome plan.now (λ plan. plan.at < 65535) }
+{
+    match plan {
+        None => true,
+        Some(plan) => plan.at() < 65_535,
+    }
+}
+
+/// Whether the plan that runs has at most 65,535 targets.
+fn has_few_targets(plan: &Option<Plan>) -> bool
+    ensures { IsTrue result ↔ IfSome plan.now (λ plan. length plan.targets ≤ 65535) }
+{
+    match plan {
+        None => true,
+        Some(plan) => plan.targets().len() <= 65_535,
+    }
+}
+
 /// Whether a dataset takes a version more.
 fn has_place(alloc: Global, set: &Dataset) -> Result<bool, AllocError>
     ensures { IfOk result (λ has. IsTrue has ↔ HasPlace set.now) }
@@ -75,7 +94,10 @@ fn has_place(alloc: Global, set: &Dataset) -> Result<bool, AllocError>
     if set.cvd().versions().len() >= 65_535 || set.parts().len() > 65_535 {
         return Ok(false);
     }
-    if set.next_part() == 4_294_967_295 {
+    if set.next_part() == 4_294_967_295 || !have_few_rows(set.cvd().versions()) {
+        return Ok(false);
+    }
+    if !is_early(set.plan()) || !has_few_targets(set.plan()) {
         return Ok(false);
     }
     let all = stored(alloc, set)?;
@@ -99,7 +121,7 @@ fn have_place(alloc: Global, sets: &[Dataset]) -> Result<bool, AllocError>
 }
 
 /// Whether a World is so small that its next move can be computed.
-fn can_move(alloc: Global, world: &World) -> Result<bool, AllocError>
+pub fn can_move(alloc: Global, world: &World) -> Result<bool, AllocError>
     ensures { IfOk result (λ can. IsTrue can ↔ CanMove world.now) }
 {
     if world.next() == 4_294_967_295 || world.records() == 18_446_744_073_709_551_615 {
@@ -108,26 +130,10 @@ fn can_move(alloc: Global, world: &World) -> Result<bool, AllocError>
     have_place(alloc, world.sets())
 }
 
-/// Whether a plan of one of these datasets runs.
-fn runs_plan(sets: &[Dataset]) -> bool
-    ensures { result ≡ is_some (first_step sets.now) }
-{
-    match sets {
-        [] => false,
-        [set, rest @ ..] => match set.plan() {
-            Some(_) => true,
-            None => runs_plan(rest),
-        },
-    }
-}
-
-/// Whether a World is small, takes a move, and runs no plan.
+/// Whether a World is small and takes a move.
 pub fn is_ready(alloc: Global, world: &World) -> Result<bool, AllocError>
     ensures { IfOk result (λ is. IsTrue is ↔ IsReady world.now) }
 {
-    if runs_plan(world.sets()) {
-        return Ok(false);
-    }
     if !is_small_world(alloc, world)? {
         return Ok(false);
     }

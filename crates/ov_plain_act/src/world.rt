@@ -1,6 +1,6 @@
 //! A World: the datasets, and the numbers of the store.
 
-ghost use Rattle.std.specs.Prelude.{◌≡◌, ◌+◌, ◌++◌, ◌<◌, ◌^◌, [], ◌∷◌, IfOk, IfSome};
+ghost use Rattle.std.specs.Prelude.{◌≡◌, ◌+◌, ◌++◌, ◌<◌, ◌^◌, [], ◌∷◌, IfOk, IfSome, OnOk};
 ghost use Rattle.std.specs.Option.{option_copied};
 ghost use Rattle.ov_model.specs.World.{empty_world, first_set, named, set_named};
 ghost use Rattle.ov_plain_act.specs.Small.{AreSmall, IsSmallSet};
@@ -67,6 +67,21 @@ impl World {
         }
     }
 
+    /// A copy of it.
+    pub fn copy(&self, alloc: Global) -> Result<World, AllocError>
+        ensures { IfOk result (λ made. made ≡ self.now) }
+    {
+        let mut sets = Items::new(alloc);
+        add_copies(alloc, self.sets.as_slice(), &mut sets)?;
+        Ok(World {
+            sets,
+            next: self.next,
+            epoch: self.epoch,
+            records: self.records,
+            format: self.format,
+        })
+    }
+
     /// What it is made of.
     pub fn into_pieces(self) -> Pieces
         ensures { result ≡ record { sets = self.sets; next = self.next; epoch = self.epoch; records = self.records; format = self.format } }
@@ -120,6 +135,19 @@ impl World {
         ensures { result ≡ self.now.format }
     {
         self.format
+    }
+}
+
+/// Adds copies of these datasets.
+fn add_copies(alloc: Global, sets: &[Dataset], found: &mut Items<Dataset>) -> Result<(), AllocError>
+    ensures { OnOk result (found.new ≡ found.old ++ sets.now) }
+{
+    match sets {
+        [] => Ok(()),
+        [set, rest @ ..] => {
+            found.push(set.copy(alloc)?)?;
+            add_copies(alloc, rest, found)
+        }
     }
 }
 

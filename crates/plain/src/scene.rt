@@ -11,6 +11,9 @@ use ov_value::Txt;
 use std::alloc::Global;
 use std::slice;
 
+/// How many steps are taken behind each reply.
+const STEPS: u32 = 0;
+
 /// The World and the session after some lines, and whether one of these was refused.
 #[derive(Drop)]
 pub struct Scene {
@@ -51,7 +54,7 @@ impl Scene {
             session,
             refused,
         } = self;
-        match plain_course(rt.alloc(), world, session, slice::from_ref(command))? {
+        match plain_course(rt.alloc(), STEPS, world, session, slice::from_ref(command))? {
             None => bail!("a command that the plain programs leave out"),
             Some(run) => after_run(rt, refused, run),
         }

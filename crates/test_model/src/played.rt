@@ -80,21 +80,31 @@ pub fn printed_over(alloc: Global, world: &World, line: &str) -> Result<Option<V
     }
 }
 
-/// What comes of a command.
-fn run_of(alloc: Global, world: World, command: &Command) -> Result<Run, Fail> {
-    match plain_course(alloc, world, session(alloc)?, slice::from_ref(command))? {
+/// What comes of a command, with so many steps behind its reply.
+fn run_of(alloc: Global, steps: u32, world: World, command: &Command) -> Result<Run, Fail> {
+    let session = session(alloc)?;
+    match plain_course(alloc, steps, world, session, slice::from_ref(command))? {
         Some(run) => Ok(run),
         None => Err("a line that is left out")?,
     }
 }
 
-/// The World after these lines, from one of no datasets on.
-pub fn world_after(alloc: Global, lines: &[&str]) -> Result<World, Fail> {
-    let mut world = World::empty(alloc);
+/// A World after these lines, with so many steps behind each one's reply.
+pub fn world_after_steps(
+    alloc: Global,
+    steps: u32,
+    mut world: World,
+    lines: &[&str],
+) -> Result<World, Fail> {
     for line in lines {
-        world = run_of(alloc, world, &command_of(alloc, line)?)?.world;
+        world = run_of(alloc, steps, world, &command_of(alloc, line)?)?.world;
     }
     Ok(world)
+}
+
+/// The World after these lines, from one of no datasets on.
+pub fn world_after(alloc: Global, lines: &[&str]) -> Result<World, Fail> {
+    world_after_steps(alloc, 0, World::empty(alloc), lines)
 }
 
 /// The newest dataset after these lines.

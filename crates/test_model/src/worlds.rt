@@ -1,6 +1,6 @@
 //! Worlds: the numbers that lines leave, and lines over Worlds that no script reaches today.
 
-use crate::played::{FOUR, INIT, RAISE, printed_over, world_after};
+use crate::played::{CHAIN, FOUR, INIT, RAISE, printed_over, world_after, world_after_steps};
 use ov_model::Seq;
 use ov_plain_act::{Pieces, World};
 use std::alloc::Global;
@@ -80,9 +80,12 @@ fn odd_worlds_refuse(rt: HostRuntime) -> Result<(), Fail> {
 }
 
 // Commands over one dataset, and whether the plain programs say what they do.
-const SAID: [(&str, bool); 6] = [
+const SAID: [(&str, bool); 9] = [
     ("commit people -v 1 -f a.csv -m more", true),
     ("commit people -v 1 -f a.csv -m more -a team:text", false),
+    ("optimize people -d 1/2", true),
+    ("migrate 3", true),
+    ("generate g 7 3 4", false),
     ("checkpoint", false),
     ("ls", true),
     ("tables", false),
@@ -90,11 +93,56 @@ const SAID: [(&str, bool); 6] = [
 ];
 
 #[test]
-fn columns_and_plans_are_left_out(rt: HostRuntime) -> Result<(), Fail> {
+fn columns_and_what_is_generated_are_left_out(rt: HostRuntime) -> Result<(), Fail> {
     let alloc = rt.alloc();
     let world = world_after(alloc, &[INIT])?;
     for (line, wanted) in SAID {
         assert_eq!(rt; printed_over(alloc, &world, line)?.is_some(), wanted);
+    }
+    Ok(())
+}
+
+const BEGINS: &str = "optimize chain -d 3/4";
+
+// How many steps are taken behind each reply, the lines over the chain, and its layout then: a copy, a flip, a copy and a flip.
+// A refusal is a reply too.
+const STEPS: [(u32, &[&str], &str); 5] = [
+    (
+        1,
+        &[BEGINS],
+        "partition 1: records 8, versions 1,2,3\nplan 3/4: target 1 of 2, copied 4 of 4, steps 3\nstored 12, cost 24\n",
+    ),
+    (
+        1,
+        &[BEGINS, BEGINS],
+        "partition 1: records 8, versions 2,3\npartition 2: records 4, versions 1\nplan 3/4: target 2 of 2, copied 0 of 1, steps 2\nstored 12, cost 20\n",
+    ),
+    (
+        3,
+        &[BEGINS],
+        "partition 1: records 8, versions 2,3\npartition 2: records 4, versions 1\nplan 3/4: target 2 of 2, copied 1 of 1, steps 1\nstored 13, cost 20\n",
+    ),
+    (
+        2,
+        &[BEGINS, "ls"],
+        "partition 2: records 4, versions 1\npartition 3: records 5, versions 2,3\nstored 9, cost 14\n",
+    ),
+    (
+        9,
+        &["ls", BEGINS],
+        "partition 2: records 4, versions 1\npartition 3: records 5, versions 2,3\nstored 9, cost 14\n",
+    ),
+];
+
+#[test]
+fn steps_follow_each_reply(rt: HostRuntime) -> Result<(), Fail> {
+    let alloc = rt.alloc();
+    for (steps, lines, wanted) in STEPS {
+        let world = world_after_steps(alloc, steps, world_after(alloc, &CHAIN)?, lines)?;
+        let printed = printed_over(alloc, &world, "layout chain")?.ok_or(
+            "a line that is left out",
+        )?;
+        assert_eq!(rt; printed.as_slice(), wanted.as_bytes());
     }
     Ok(())
 }

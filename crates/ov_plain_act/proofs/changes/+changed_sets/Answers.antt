@@ -7,7 +7,7 @@ use Rattle.ov_plain_act.proofs.changes.+changed_sets.Goals as goal
 pub changed_sets-requires : goal.changed_sets-requires
 changed_sets-requires t c = (
   grind (arith, common_steps, c.in-Some.ensures, c.decreases),
-  (c.requires.rows, front_place c.args.sets c.pop.new.self c.in-Some.last c.in-Some.ensures c.requires.place),
+  (c.requires.how, front_place c.args.sets c.pop.new.self c.in-Some.last c.in-Some.ensures c.requires.place),
 )
 
 pub changed_set-requires-clause-place : goal.changed_set-requires-clause-place

@@ -13,16 +13,16 @@ returns-in-None-2-clause-plain t c =
       λ h. cc,
       λ all.
           (rw c.in-None-2.is at c.in_ok-plain_course-in-Some.ensures.plain).1
-          (course_rest c.args.world (session_of c.args.session) c.args.commands.now c.command-item.result c.in-Some.run' split
-          ((rw c.in-Some.is at c.in_ok-plain_served-in-len1-up.ensures.is) 0) all),
+          (course_rest c.args.steps c.args.world (session_of c.args.session) c.args.commands.now c.command-item.result c.in-Some.run' split
+          (rw c.in-Some.is at c.in_ok-plain_served-in-len1-up.ensures.is) all),
     )
 
 pub returns-clause-is : goal.returns-clause-is
-returns-clause-is t c = λ n.
+returns-clause-is t c =
     let split = first_and_others c.args.commands.now c.command-item.result c.in-len1-up.len_at_least c.command-item.is
-    in course_more n c.args.world (session_of c.args.session) c.args.commands.now c.command-item.result c.in-Some.run' c.in-Some-2.later c.in_ok-behind-in-Some-2.field-0 split
-    ((rw c.in-Some.is at c.in_ok-plain_served-in-len1-up.ensures.is) n)
-    ((rw c.in-Some-2.is at c.in_ok-plain_course-in-Some.ensures.is) n)
+    in course_more c.args.steps c.args.world (session_of c.args.session) c.args.commands.now c.command-item.result c.in-Some.run' c.in-Some-2.later c.in_ok-behind-in-Some-2.field-0 split
+    (rw c.in-Some.is at c.in_ok-plain_served-in-len1-up.ensures.is)
+    (rw c.in-Some-2.is at c.in_ok-plain_course-in-Some.ensures.is)
     c.in_ok-behind-in-Some-2.ensures
 
 pub returns-clause-plain : goal.returns-clause-plain
@@ -31,9 +31,9 @@ returns-clause-plain t c =
     in let ready : IsReady c.args.world = search rules
     in let small : IsSmallCommand c.command-item.result = search rules
     in (
-      λ h. course_ready c.args.world (session_of c.args.session) c.args.commands.now c.command-item.result c.in-Some.run' split ready
+      λ h. course_ready c.args.steps c.args.world (session_of c.args.session) c.args.commands.now c.command-item.result c.in-Some.run' split ready
           (sym (rw c.in-Some.is at c.in_ok-plain_served-in-len1-up.ensures.plain)) small
-          ((rw c.in-Some.is at c.in_ok-plain_served-in-len1-up.ensures.is) 0)
+          (rw c.in-Some.is at c.in_ok-plain_served-in-len1-up.ensures.is)
           ((rw c.in-Some-2.is at c.in_ok-plain_course-in-Some.ensures.plain).0 h),
       λ all. search rules,
     )
