@@ -198,7 +198,7 @@ fn a_fault_of_an_end_ends_the_run(rt: HostRuntime) -> Result<(), Fail> {
     let alloc = rt.alloc();
     let all = all_after(alloc)?;
     for (end, status, calls) in [
-        (0, Status::HostFault, 82),
+        (0, Status::HostFault, 103),
         (1, Status::InputFault, 2),
         (2, Status::InputFault, 15),
     ] {
