@@ -1,9 +1,9 @@
 -- The cuts of a part, a level at a time.
-use Rattle.std.proofs.Common.{◌≡◌, ℕ, zero, suc, max, ◌-◌, ◌+◌, ◌<◌, Option, Some, None, List, [], ◌∷◌, ◌++◌, refl, sym, ap, ◌∙◌, append_assoc, length, arith}
+use Rattle.std.proofs.Common.{◌≡◌, ℕ, zero, suc, max, ◌-◌, ◌+◌, ◌<◌, Some, None, List, [], ◌∷◌, ◌++◌, refl, sym, ap, ◌∙◌, append_assoc, length, arith}
 use Rattle.std.proofs.lemmas.List.FromFn.{length-range_with_len}
 use Rattle.ov_graph.specs.declared.nodes.Node.{Node}
 use Rattle.ov_graph.specs.Trees.{VersionTree, tree_of, vids}
-use Rattle.ov_graph.specs.Splits.{upper, lower, next_cut_of, Cuts, cuts_within, cuts_of, leaves, cut_vids, depth, split_of}
+use Rattle.ov_graph.specs.Splits.{upper, lower, next_cut_of, cuts_within, cuts_of, leaves, cut_vids, depth, split_of}
 use Rattle.ov_graph.specs.Splits.Cuts.{whole, cut}
 
 module _ (tree : VersionTree) (p q : ℕ) (part : List ℕ) where

@@ -1,5 +1,5 @@
 -- Data so small that each count of it fits the programs' numbers.
-use Rattle.std.specs.Prelude.{ℕ, ◌<◌, ◌≤◌, List, [], ◌∷◌, length}
+use Rattle.std.specs.Prelude.{◌<◌, ◌≤◌, List, [], ◌∷◌, length}
 use Rattle.ov_model.specs.Book.{Version, Cvd}
 use Rattle.ov_model.specs.World.{Part}
 
