@@ -1,7 +1,7 @@
 //! A call of the host that fails within a migration.
 
 use crate::made::{again, generated};
-use crate::opened::Opened;
+use crate::opened::{Opened, told};
 use crate::stops::{TWO, begin, ends_well};
 use ov_memhost::MemHost;
 use ov_store::{PlanErr, StepErr, Stepped};
@@ -45,7 +45,7 @@ fn a_failed_call_within_a_migration_changes_nothing(rt: HostRuntime) -> Result<(
     begin(&mut opened)??;
     opened.finish()?;
     let last = opened.host.calls();
-    let text = opened.text(alloc)?;
+    let text = told(alloc, &base)?;
     for call in first..last {
         let well = fails_at(alloc, &base, call, text.as_slice())?;
         assert!(rt; well, "call {call}");

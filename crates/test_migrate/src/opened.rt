@@ -1,11 +1,10 @@
 //! A store that is open on a host in memory, with its plans and steps, and what it has, as text.
 
 ghost use Rattle.std.specs.Prelude.{◌≡◌, true};
-ghost use Rattle.ov_fetch.specs.Extents.{Looked};
 ghost use Rattle.ov_memhost.specs.Host.{state_of};
 ghost use Rattle.ov_store.specs.Kept.{MayCall};
 
-use crate::made::NAME;
+use crate::made::{NAME, again};
 use ov_checkout::{Checkout, checkout_of};
 use ov_memhost::MemHost;
 use ov_store::{PlanErr, Report, StepErr, Stepped, Store, StoreErr};
@@ -24,14 +23,14 @@ pub struct Opened {
 }
 
 /// How many steps were taken, and how many of them were flips.
-#[derive(Clone, Copy, Debug, PartialEq, Eq)]
+#[derive(Debug, Drop, PartialEq, Eq)]
 pub struct Taken {
     pub steps: u64,
     pub flips: u64,
 }
 
 /// What stands of the dataset: its partitions, the records that they keep, and what its checkouts cost.
-#[derive(Clone, Copy, Debug, PartialEq, Eq)]
+#[derive(Debug, Drop, PartialEq, Eq)]
 pub struct Standing {
     pub partitions: u64,
     pub stored: u64,
@@ -94,32 +93,37 @@ impl Opened {
         let d = self.store.catalog().cvd(NAME).ok_or("a dataset")?;
         Ok(d.plan.is_some())
     }
-
-    /// The text of each version of the dataset.
-    pub fn text(&mut self, alloc: Global) -> Result<Vec<u8>, Fail> {
-        if !self.store.usable() {
-            return Err("it may be called".into());
-        }
-        let d = self.store.catalog().cvd(NAME).ok_or("a dataset")?;
-        let count = d.versions.len() as u64;
-        let mut text = Vec::new(alloc);
-        for vid in 1..=count {
-            let version = checkout(alloc, &self.store, &mut self.host, vid)?;
-            text.extend_from_slice(version.as_slice())?;
-        }
-        Ok(text)
-    }
 }
 
 // The text of a checkout of a version.
 fn checkout(alloc: Global, store: &Store, host: &mut MemHost, vid: u64) -> Result<Vec<u8>, StoreErr>
     requires { store.now.usable ≡ true }
-    ensures { Looked (state_of host.old) (state_of host.new) }
 {
     let scan = store.scan(host, NAME, &[vid])?;
     let Some(d) = store.catalog().cvd(NAME) else {
         return Err(StoreErr::NoCvd);
     };
     let Checkout { text, rows: _ } = checkout_of(alloc, &d.schema, &scan)?;
+    Ok(text)
+}
+
+// Writes the text of each version of the dataset.
+fn tell(alloc: Global, store: &Store, host: &mut MemHost, text: &mut Vec<u8>) -> Result<(), Fail>
+    requires { store.now.usable ≡ true }
+{
+    let d = store.catalog().cvd(NAME).ok_or("a dataset")?;
+    for vid in 1..=d.versions.len() as u64 {
+        let version = checkout(alloc, store, host, vid)?;
+        text.extend_from_slice(version.as_slice())?;
+    }
+    Ok(())
+}
+
+/// The text of each version of the dataset, once a host with the same bytes is opened.
+pub fn told(alloc: Global, host: &MemHost) -> Result<Vec<u8>, Fail> {
+    let mut host = again(alloc, host, Vec::new(alloc))?;
+    let store = Store::open(alloc, &mut host)?;
+    let mut text = Vec::new(alloc);
+    tell(alloc, &store, &mut host, &mut text)?;
     Ok(text)
 }

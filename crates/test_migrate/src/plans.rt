@@ -1,7 +1,7 @@
 //! Plans at several thresholds, to their end.
 
 use crate::made::{NAME, Size, generated};
-use crate::opened::{Opened, Standing, Taken};
+use crate::opened::{Opened, Standing, Taken, told};
 use ov_store::Report;
 use std::test::Fail;
 
@@ -66,7 +66,7 @@ fn a_plan_ends_as_it_told(rt: HostRuntime) -> Result<(), Fail> {
     let alloc = rt.alloc();
     for ((p, q), report) in PLANS {
         let mut opened = Opened::on(alloc, generated(alloc, SIX)?)?;
-        let before = opened.text(alloc)?;
+        let before = told(alloc, &opened.host)?;
         assert_eq!(rt; opened.optimize(NAME, p, q)?, Ok(report), "{p} / {q}");
         let told = Taken {
             steps: report.steps,
@@ -76,7 +76,7 @@ fn a_plan_ends_as_it_told(rt: HostRuntime) -> Result<(), Fail> {
         let mut opened = Opened::on(alloc, opened.host)?;
         assert_eq!(rt; opened.standing()?, promised(&report), "{p} / {q}");
         assert!(rt; !opened.plans()?);
-        assert!(rt; opened.text(alloc)?.as_slice() == before.as_slice());
+        assert!(rt; told(alloc, &opened.host)?.as_slice() == before.as_slice());
     }
     Ok(())
 }

@@ -1,7 +1,8 @@
 //! A stop within a migration, and the migration that goes on behind it.
 
 use crate::made::{NAME, Size, again, generated};
-use crate::opened::{Opened, Standing};
+use crate::opened::{Opened, Standing, told};
+use ov_host::Area;
 use ov_memhost::MemHost;
 use ov_store::{PlanErr, Report};
 use std::alloc::Global;
@@ -41,30 +42,59 @@ fn carry_on(opened: &mut Opened) -> Result<(), Fail> {
 
 /// Whether the migration ends as if nothing had been, once this host is opened again.
 pub fn ends_well(alloc: Global, host: MemHost, text: &[u8]) -> Result<bool, Fail> {
+    let before = told(alloc, &host)?;
     let mut opened = Opened::on(alloc, host)?;
-    let before = opened.text(alloc)?;
     carry_on(&mut opened)?;
-    let after = opened.text(alloc)?;
+    let after = told(alloc, &opened.host)?;
     Ok(before.as_slice() == text && after.as_slice() == text && opened.standing()? == END)
+}
+
+// Whether both have the same bytes.
+fn is_same(one: &MemHost, other: &MemHost) -> bool {
+    let pages = one.bytes(Area::Pages) == other.bytes(Area::Pages);
+    pages && one.bytes(Area::Journal) == other.bytes(Area::Journal)
+}
+
+// The first of a host's calls from this one on, within which a stop that leaves these bytes and lengths isn't as if nothing had
+// been. A stop that leaves what the one before left isn't tried again.
+fn off_at(
+    alloc: Global,
+    host: &MemHost,
+    first: u64,
+    pick: u8,
+    length: u64,
+    text: &[u8],
+) -> Result<Option<u64>, Fail> {
+    let mut last = MemHost::new(alloc, Vec::new(alloc), Vec::new(alloc), Vec::new(alloc));
+    for call in first..=host.calls() {
+        let left = host.crash_at(call.min(host.calls()), length, length, &[pick])?;
+        if is_same(&left, &last) {
+            continue;
+        }
+        if !ends_well(alloc, again(alloc, &left, Vec::new(alloc))?, text)? {
+            return Ok(Some(call));
+        }
+        last = left;
+    }
+    Ok(None)
 }
 
 #[test]
 fn a_stop_within_a_migration_changes_nothing(rt: HostRuntime) -> Result<(), Fail> {
     let alloc = rt.alloc();
-    let base = generated(alloc, TWO)?;
-    let mut opened = Opened::on(alloc, again(alloc, &base, Vec::new(alloc))?)?;
-    let text = opened.text(alloc)?;
+    let mut opened = Opened::on(
+        alloc,
+        again(alloc, &generated(alloc, TWO)?, Vec::new(alloc))?,
+    )?;
+    let text = told(alloc, &opened.host)?;
     let first = opened.host.calls();
     begin(&mut opened)??;
     opened.finish()?;
     let host = opened.host;
-    for call in first..=host.calls() {
-        for pick in PICKS {
-            for length in LENGTHS {
-                let left = host.crash_at(call.min(host.calls()), length, length, &[pick])?;
-                let well = ends_well(alloc, left, text.as_slice())?;
-                assert!(rt; well, "call {call}, pick {pick}, length {length}");
-            }
+    for pick in PICKS {
+        for length in LENGTHS {
+            let off = off_at(alloc, &host, first, pick, length, text.as_slice())?;
+            assert_eq!(rt; off, None, "pick {pick}, length {length}");
         }
     }
     Ok(())
