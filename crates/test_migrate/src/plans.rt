@@ -68,11 +68,11 @@ fn a_plan_ends_as_it_told(rt: HostRuntime) -> Result<(), Fail> {
         let mut opened = Opened::on(alloc, generated(alloc, SIX)?)?;
         let before = told(alloc, &opened.host)?;
         assert_eq!(rt; opened.optimize(NAME, p, q)?, Ok(report), "{p} / {q}");
-        let told = Taken {
+        let want = Taken {
             steps: report.steps,
             flips: u64::from(report.partitions),
         };
-        assert_eq!(rt; opened.finish()?, told, "{p} / {q}");
+        assert_eq!(rt; opened.finish()?, want, "{p} / {q}");
         let mut opened = Opened::on(alloc, opened.host)?;
         assert_eq!(rt; opened.standing()?, promised(&report), "{p} / {q}");
         assert!(rt; !opened.plans()?);
