@@ -1,0 +1,67 @@
+-- What holds of each live dataset wherever the events of a half lead, whichever they were: what a Whole asks. So a snapshot can say
+-- the dataset.
+--     IsWhole d      of one dataset
+--     AreWhole n      of all, and of their numbers and names
+--     IsBeside reach n      how far the half has come
+use Rattle.std.specs.Prelude.{◌≡◌, ◌≤◌, ◌<◌, ℕ, Bool, true, false, ◌&&◌, ◌==◌, nat_le, nat_lt, if◌then◌else◌, List, [], ◌∷◌, ◌++◌, length, map, Option, Some, None}
+use Rattle.std.specs.List.{list_all, list_any, AllByRecursion}
+use Rattle.ov_event.specs.declared.event.RawSchema.{RawSchema}
+use Rattle.ov_host.specs.declared.area.Extent.{Extent}
+use Rattle.ov_value.specs.Naming.{is_name}
+use Rattle.ov_value.specs.Shapes.{Shape}
+use Rattle.ov_catalog.specs.Applying.{Reach, AtStart, InSnapshot, Beyond}
+use Rattle.ov_catalog.specs.Numbers.{PlanNumbers, SetNumbers, Numbers}
+use Rattle.ov_catalog.specs.Planning.{ascend_from}
+use Rattle.ov_catalog.specs.Raw.{threshold_in}
+use Rattle.ov_catalog.specs.Testing.{is_named, is_schema}
+use Rattle.ov_catalog.specs.Wholes.{are_versions, are_records, are_parts, is_plan, is_threshold_for, are_placed}
+
+-- a schema's columns and the places of its key columns
+abbrev pub spelled : Shape → RawSchema
+spelled s = record { columns = s.columns; key = s.key }
+
+-- the numbers of a threshold, 0 for none
+abbrev pub p_of : Option (ℕ × ℕ) → ℕ
+p_of None = 0
+p_of (Some threshold) = threshold.0
+
+abbrev pub q_of : Option (ℕ × ℕ) → ℕ
+q_of None = 0
+q_of (Some threshold) = threshold.1
+
+-- a plan runs at the dataset's threshold
+abbrev pub RunsAt : {S : Type 0} → Option (ℕ × ℕ) → Option (PlanNumbers S) → Type 0
+RunsAt threshold None = Unit {0}
+RunsAt threshold (Some plan) = threshold ≡ Some (plan.p, plan.q)
+
+pub record IsWhole (d : SetNumbers Extent Extent) : Type 0 where
+  pub named : is_name d.name ≡ true
+  pub schema : is_schema (spelled d.schema) ≡ true
+  pub versions : are_versions d.versions ≡ true
+  pub messages : list_all (λ v. nat_le (length v.message) 1024) d.versions ≡ true
+  pub records : are_records d ≡ true
+  pub parts : are_parts d ≡ true
+  pub threshold : is_threshold_for (p_of d.threshold) (q_of d.threshold) d.plan ≡ true
+  pub said : threshold_in (p_of d.threshold) (q_of d.threshold) ≡ d.threshold
+  pub runs : RunsAt d.threshold d.plan
+  pub plan : is_plan d d.plan ≡ true
+  pub placed : are_placed d ≡ true
+
+-- no dataset has the name of one before it
+abbrev pub AreNamed : List (SetNumbers Extent Extent) → List (SetNumbers Extent Extent) → Type 0
+AreNamed before [] = Unit {0}
+AreNamed before (d ∷ sets) = (list_any (is_named d.name) before ≡ false) × AreNamed (before ++ d ∷ []) sets
+
+pub record AreWhole (n : Numbers Extent Extent) : Type 0 where
+  pub next : 1 ≤ n.next
+  pub few : length n.sets ≤ 1024
+  pub rise : ascend_from 1 (map (λ d. d.number) n.sets) ≡ true
+  pub below : list_all (λ d. nat_lt d.number n.next) n.sets ≡ true
+  pub names : AreNamed [] n.sets
+  pub each : AllByRecursion IsWhole n.sets
+
+-- within a snapshot the next dataset's number is the Base's, and no dataset has a greater number than the last Whole
+abbrev pub IsBeside : Reach → Numbers Extent Extent → Type 0
+IsBeside AtStart n = Unit {0}
+IsBeside (InSnapshot next last) n = (n.next ≡ next) × (list_all (λ d. nat_le d.number last) n.sets ≡ true)
+IsBeside Beyond n = Unit {0}

@@ -1,0 +1,10 @@
+//! Laws of snapshots: what the events of a half leave can be said by one Base and a Whole for each dataset, and an image whose
+//! journal says that stands for the World after a checkpoint.
+//!
+//! There is no code here. Each law is the contract of a function that does nothing, over the definitions of `ov_catalog` and
+//! `law_image`.
+#![tactic(auto)]
+
+mod laws;
+
+pub use laws::{a_checkpoint_stands, a_snapshot_follows, what_follows_is_whole};
