@@ -200,11 +200,13 @@ rise_left least p (d ∷ sets) rise =
 
 names_left : (few many : List (List ℕ)) (p : Set → Bool) (sets : List Set) → AreAmong few many → AreNew many (names_of sets) → AreNew few (names_of (filter p sets))
 names_left few many p [] among are = tt
-names_left few many p (d ∷ sets) among are = by (p d)
+names_left few many p (d ∷ sets) among are =
+    by (p d) (names_left (few ++ d.name ∷ []) (many ++ d.name ∷ []) p sets (among_both few many d.name among) are.1)
+    (names_left few (many ++ d.name ∷ []) p sets (among_more few many d.name among) are.1)
   where
-    by : (b : Bool) → AreNew few (names_of (cond b (d ∷ filter p sets) (filter p sets)))
-    by true = (among (λ other. bytes_eq other d.name) are.0, names_left (few ++ d.name ∷ []) (many ++ d.name ∷ []) p sets (among_both few many d.name among) are.1)
-    by false = names_left few (many ++ d.name ∷ []) p sets (among_more few many d.name among) are.1
+    by : (b : Bool) → AreNew (few ++ d.name ∷ []) (names_of (filter p sets)) → AreNew few (names_of (filter p sets)) → AreNew few (names_of (cond b (d ∷ filter p sets) (filter p sets)))
+    by true kept left = (among (λ other. bytes_eq other d.name) are.0, kept)
+    by false kept left = left
 
 sets_left : (p : Set → Bool) (n : Numbers Extent Extent) → AreWhole n → AreWhole (record { next = n.next; sets = filter p n.sets })
 sets_left p n is =
@@ -231,7 +233,7 @@ in_range p q is = by (p == 0) (q == 0) refl
     some : 1 ≤ p
     some = leb-true 1 p (and_parts (nat_le 1 p) (nat_le p q && nat_le q 1000000) is).0
 
-    by : (a b : Bool) → (p == 0) ≡ a → (if a && b then None else Some (p, q)) ≡ Some (p, q)
+    by : (a b : Bool) → (p == 0) ≡ a → (let t : Option (ℕ × ℕ) = (if a && b then None else Some (p, q)) in t) ≡ Some (p, q)
     by true b e = let zero = Rattle.std.proofs.lemmas.Bool.eqb-true p 0 e in absurd (omega (arith, zero, some))
     by false b e = refl
 
@@ -275,7 +277,7 @@ said_whole_is said n passes =
 
 -- ---- each event
 
-Carried : Stage → raw.Event → Numbers Extent Extent → Type 0
+abbrev pub Carried : Stage → raw.Event → Numbers Extent Extent → Type 0
 Carried stage e n = AreWhole (applied (event_in e) n) × IsBeside (stage_after e stage).reach (applied (event_in e) n)
 
 init_carried : (stage : Stage) (name : List ℕ) (schema : RawSchema) (rows : ℕ) (list segment : Extent) (n : Numbers Extent Extent) → AreWhole n

@@ -138,5 +138,5 @@ pub snapshot_follows : (format : ℕ) (n : Numbers Extent Extent) → AreWhole n
 snapshot_follows format n is =
     (
       passes_last (nat_le 1 n.next) off.Number (le-leb 1 n.next is.next),
-      wholes_follow format n.next 0 [] n.sets (record { few = is.few; rise = is.rise; below = is.below; names = is.names; each = is.each }),
+      wholes_follow format n.next 0 [] n.sets (record { few = (let few = is.few in omega (arith, few)); rise = is.rise; below = is.below; names = is.names; each = is.each }),
     )

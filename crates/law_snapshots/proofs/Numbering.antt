@@ -4,7 +4,6 @@ use Rattle.std.specs.Prelude.{nat_le, nat_lt}
 use Rattle.std.specs.List.{list_all, list_any}
 use Rattle.std.specs.Str.{bytes_eq}
 use Rattle.std.proofs.lemmas.Bool.{and_from, and_parts, leb-true, le-leb, lt-ltb, ltb-true, or_from, or_parts}
-use Rattle.std.proofs.lemmas.List.{append-assoc}
 use Rattle.ov_catalog.specs.Planning.{ascend_from}
 use Rattle.law_snapshots.specs.Whole.{AreNew}
 

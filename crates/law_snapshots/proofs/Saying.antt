@@ -107,11 +107,11 @@ whole_forth d = λ i. record {
   plan = plan_forth d.p d.q d.plan i;
 }
 
-next_of : Event Extent Extent → ℕ
+abbrev next_of : Event Extent Extent → ℕ
 next_of (Base next) = next
 next_of _ = 0
 
-whole_or : SetNumbers Extent Extent → Event Extent Extent → SetNumbers Extent Extent
+abbrev whole_or : SetNumbers Extent Extent → Event Extent Extent → SetNumbers Extent Extent
 whole_or other (Whole d) = d
 whole_or other _ = other
 
