@@ -1,4 +1,5 @@
 -- A dataset as an Init makes it is as a Whole may say it.
+--     init_whole      where the Init applies
 use Rattle.std.proofs.Common.{◌≡◌, ◌≤◌, ◌+◌, ◌^◌, ℕ, true, not, ◌&&◌, eqb, List, length, refl, arith}
 use Rattle.std.specs.Prelude.{None, nat_le, nat_lt}
 use Rattle.std.specs.List.{list_any}
@@ -52,11 +53,14 @@ module _ (number : ℕ) (name : List ℕ) (shape : Shape) (rows : ℕ) (list : E
       let itself = le-leb rows rows (omega arith) in
       and_from ((nat_le rows 1000000 && (nat_le rows (0 + rows) && nat_le rows rows)) && true) (eqb (0 + rows) rows && nat_le rows (2 ^ 31))
       (and_from (nat_le rows 1000000 && (nat_le rows (0 + rows) && nat_le rows rows)) true
-      (and_from (nat_le rows 1000000) (nat_le rows (0 + rows) && nat_le rows rows) (le-leb rows 1000000 few) (and_from (nat_le rows (0 + rows)) (nat_le rows rows) (le-leb rows (0 + rows) (omega arith)) itself)) refl)
+      (and_from (nat_le rows 1000000) (nat_le rows (0 + rows) && nat_le rows rows) (le-leb rows 1000000 few)
+      (and_from (nat_le rows (0 + rows)) (nat_le rows rows) (le-leb rows (0 + rows) (omega arith)) itself)) refl)
       (and_from (eqb (0 + rows) rows) (nat_le rows (2 ^ 31)) (eq-eqb (0 + rows) rows (omega arith)) (le-leb rows (2 ^ 31) (omega (arith, few))))
 
   first_parts : are_parts first ≡ true
-  first_parts = and_from (is_part 1 rows (own_part 1 1 rows segments) && true) true (and_from (is_part 1 rows (own_part 1 1 rows segments)) true (own_is_part 1 rows 1 1 rows segments (omega arith) (omega arith) (omega arith)) refl) refl
+  first_parts =
+      let own = own_part 1 1 rows segments in
+      and_from (is_part 1 rows own && true) true (and_from (is_part 1 rows own) true (own_is_part 1 rows 1 1 rows segments (omega arith) (omega arith) (omega arith)) refl) refl
 
   first_placed : is_list rows list ≡ true → are_segments rows segments ≡ true → are_placed first ≡ true
   first_placed list_is segments_are =

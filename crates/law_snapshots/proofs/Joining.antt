@@ -21,7 +21,8 @@ ids_of parts = map (λ part. part.id) parts
 
 -- ---- partitions by their numbers
 
-pub numbered_passes : (p : PartNumbers Extent → Bool) (parts : List (PartNumbers Extent)) (id : ℕ) (part : PartNumbers Extent) → list_all p parts ≡ true → part_numbered parts id ≡ Some part → p part ≡ true
+pub numbered_passes : (p : PartNumbers Extent → Bool) (parts : List (PartNumbers Extent)) (id : ℕ) (part : PartNumbers Extent) → list_all p parts ≡ true
+    → part_numbered parts id ≡ Some part → p part ≡ true
 numbered_passes p [] id part all found = absurd cc
 numbered_passes p (x ∷ parts) id part all found =
     let both = and_parts (p x) (list_all p parts) all in
@@ -51,7 +52,8 @@ serving_cons part parts vid = sum_by-cons (λ (x : PartNumbers Extent). cond (is
 serves_first : (x : PartNumbers Extent) (parts : List (PartNumbers Extent)) (vid least : ℕ) → least ≤ x.id → is_one x.versions vid ≡ true → Serves (x ∷ parts) vid least x
 serves_first x parts vid least low here = record { is = rw here refl; numbered = rw (eq-eqb x.id x.id refl) refl; has = here; low = low }
 
-serves_later : (x : PartNumbers Extent) (parts : List (PartNumbers Extent)) (vid least : ℕ) (part : PartNumbers Extent) → least ≤ x.id → is_one x.versions vid ≡ false → Serves parts vid (x.id + 1) part → Serves (x ∷ parts) vid least part
+serves_later : (x : PartNumbers Extent) (parts : List (PartNumbers Extent)) (vid least : ℕ) (part : PartNumbers Extent) → least ≤ x.id → is_one x.versions vid ≡ false
+    → Serves parts vid (x.id + 1) part → Serves (x ∷ parts) vid least part
 serves_later x parts vid least part low away is =
     let above = is.low in
     record { is = rw away is.is; numbered = rw (ne_eqb x.id part.id (λ same. omega (arith, same, above))) is.numbered; has = is.has; low = omega (arith, low, above) }
@@ -129,7 +131,9 @@ joined_is_part count records more all vid added segments part lt le few h =
     let long = length_push part.versions vid in
     part_test more all (with_joined vid added segments part) (record {
       some = not_from_false (eqb (length (part.versions ++ vid ∷ [])) 0) (ne_eqb (length (part.versions ++ vid ∷ [])) 0 (λ same. omega (arith, same, long)));
-      held = all_push (is_one (part.holds ++ vid ∷ [])) part.versions vid (all_more (is_one part.holds) (is_one (part.holds ++ vid ∷ [])) part.versions (λ v one. one_stays part.holds vid v one) is.held) (one_last part.holds vid);
+      held =
+          let holds = part.holds ++ vid ∷ [] in
+          all_push (is_one holds) part.versions vid (all_more (is_one part.holds) (is_one holds) part.versions (λ v one. one_stays part.holds vid v one) is.held) (one_last part.holds vid);
       rise = ascend_push 1 part.versions vid is.rise (are_below count vid part.versions lt (serves_there count records part is)) (omega (arith, lt));
       holds = ascend_push 1 part.holds vid is.holds (are_below count vid part.holds lt is.there) (omega (arith, lt));
       there = all_push (λ (v : ℕ). nat_le v more) part.holds vid (at_most count more part.holds (omega (arith, lt, le)) is.there) (le-leb vid more le);
@@ -149,7 +153,8 @@ none_serves count records (part ∷ parts) vid all lt =
     omega (arith, serving_cons part parts vid, own, rest)
 
 -- so it is, with a new version, where this one is in one and the others stay
-each_more : (count more : ℕ) (parts new : List (PartNumbers Extent)) → more ≡ count + 1 → ((vid : ℕ) → vid ≤ count → parts_serving new vid ≡ parts_serving parts vid) → parts_serving new (count + 1) ≡ 1
+each_more : (count more : ℕ) (parts new : List (PartNumbers Extent)) → more ≡ count + 1 → ((vid : ℕ) → vid ≤ count → parts_serving new vid ≡ parts_serving parts vid)
+    → parts_serving new (count + 1) ≡ 1
     → list_all (λ (vid : ℕ). eqb (parts_serving parts vid) 1) (counted 1 count) ≡ true → list_all (λ (vid : ℕ). eqb (parts_serving new vid) 1) (counted 1 more) ≡ true
 each_more count more parts new is stay last each =
     counted_all (λ (vid : ℕ). eqb (parts_serving new vid) 1) 1 more (λ vid some lt. eq-eqb (parts_serving new vid) 1 (at vid some (omega (arith, is, lt))))
@@ -167,7 +172,8 @@ each_more count more parts new is stay last each =
 serving_push : (parts : List (PartNumbers Extent)) (part : PartNumbers Extent) (vid : ℕ) → parts_serving (parts ++ part ∷ []) vid ≡ parts_serving parts vid + cond (is_one part.versions vid) 1 0
 serving_push parts part vid = sum_by_push (λ (x : PartNumbers Extent). cond (is_one x.versions vid) 1 0) parts part
 
-own_others : (next new added : ℕ) (segments : List Extent) (parts : List (PartNumbers Extent)) (vid : ℕ) → vid < new → parts_serving (parts ++ own_part next new added segments ∷ []) vid ≡ parts_serving parts vid
+own_others : (next new added : ℕ) (segments : List Extent) (parts : List (PartNumbers Extent)) (vid : ℕ) → vid < new
+    → parts_serving (parts ++ own_part next new added segments ∷ []) vid ≡ parts_serving parts vid
 own_others next new added segments parts vid lt =
     let away = or_from (eqb new vid) false (ne_eqb new vid (λ same. omega (arith, same, lt))) refl in
     let none = cond-false {A = ℕ} (is_one (new ∷ []) vid) 1 0 away in
@@ -191,7 +197,8 @@ join_others id new added segments (part ∷ parts) vid lt =
           rw e (omega (arith, before, after, rest))
     ]
 
-join_new : (id new added : ℕ) (segments : List Extent) (parts : List (PartNumbers Extent)) (part : PartNumbers Extent) → part_numbered parts id ≡ Some part → parts_serving parts new ≡ 0 → parts_serving (join_at id new added segments parts) new ≡ 1
+join_new : (id new added : ℕ) (segments : List Extent) (parts : List (PartNumbers Extent)) (part : PartNumbers Extent) → part_numbered parts id ≡ Some part
+    → parts_serving parts new ≡ 0 → parts_serving (join_at id new added segments parts) new ≡ 1
 join_new id new added segments [] part found none = absurd cc
 join_new id new added segments (x ∷ parts) part found none =
     let before = serving_cons x parts new in
@@ -210,7 +217,8 @@ join_new id new added segments (x ∷ parts) part found none =
 
 -- what all partitions pass, where one is joined
 pub all_joined : (p q : PartNumbers Extent → Bool) (id vid added : ℕ) (segments : List Extent) (parts : List (PartNumbers Extent)) → ((part : PartNumbers Extent) → p part ≡ true → q part ≡ true)
-    → ((part : PartNumbers Extent) → part_numbered parts id ≡ Some part → p part ≡ true → q (with_joined vid added segments part) ≡ true) → list_all p parts ≡ true → list_all q (join_at id vid added segments parts) ≡ true
+    → ((part : PartNumbers Extent) → part_numbered parts id ≡ Some part → p part ≡ true → q (with_joined vid added segments part) ≡ true) → list_all p parts ≡ true
+    → list_all q (join_at id vid added segments parts) ≡ true
 all_joined p q id vid added segments [] stay new all = refl
 all_joined p q id vid added segments (part ∷ parts) stay new all =
     let both = and_parts (p part) (list_all p parts) all in
@@ -227,7 +235,7 @@ join_ids id vid added segments (part ∷ parts) =
       | inr e ↦ rw e (ap (λ (ids : List ℕ). part.id ∷ ids) (join_ids id vid added segments parts))
     ]
 
--- what is asked of partitions, where so many versions and records are there, and the next partition's number is this
+-- What is asked of partitions, where so many versions and records are there, and the next partition's number is this.
 pub record AreParted (count records next : ℕ) (parts : List (PartNumbers Extent)) : Type 0 where
   pub rise : ascend_from 1 (ids_of parts) ≡ true
   pub below : list_all (λ part. nat_lt part.id next) parts ≡ true
@@ -237,7 +245,8 @@ pub record AreParted (count records next : ℕ) (parts : List (PartNumbers Exten
 abbrev room_in : SetNumbers Extent Extent → ℕ
 room_in d = d.next_part + length (targets_left d.plan) + (65535 - length d.versions)
 
-pub parted_facts : (d : SetNumbers Extent Extent) → are_parts d ≡ true → AreParted (length d.versions) d.records d.next_part d.parts × (d.next_part + length (targets_left d.plan) + (65535 - length d.versions) < 2 ^ 32)
+pub parted_facts : (d : SetNumbers Extent Extent) → are_parts d ≡ true
+    → AreParted (length d.versions) d.records d.next_part d.parts × (d.next_part + length (targets_left d.plan) + (65535 - length d.versions) < 2 ^ 32)
 parted_facts d h =
     let halves = and_parts (ascend_from 1 (ids_of d.parts) && list_all (λ (part : PartNumbers Extent). nat_lt part.id d.next_part) d.parts) _ h in
     let ids = and_parts (ascend_from 1 (ids_of d.parts)) (list_all (λ (part : PartNumbers Extent). nat_lt part.id d.next_part) d.parts) halves.0 in
@@ -245,7 +254,8 @@ parted_facts d h =
     let each = and_parts (list_all (λ (vid : ℕ). eqb (parts_serving d.parts vid) 1) (counted 1 (length d.versions))) (list_all (is_part (length d.versions) d.records) d.parts) rest.0 in
     (record { rise = ids.0; below = ids.1; each = each.0; all = each.1 }, ltb-true (room_in d) (2 ^ 32) rest.1)
 
-pub parted_test : (d : SetNumbers Extent Extent) → AreParted (length d.versions) d.records d.next_part d.parts → d.next_part + length (targets_left d.plan) + (65535 - length d.versions) < 2 ^ 32 → are_parts d ≡ true
+pub parted_test : (d : SetNumbers Extent Extent) → AreParted (length d.versions) d.records d.next_part d.parts
+    → d.next_part + length (targets_left d.plan) + (65535 - length d.versions) < 2 ^ 32 → are_parts d ≡ true
 parted_test d are room =
     and_from (ascend_from 1 (ids_of d.parts) && list_all (λ (part : PartNumbers Extent). nat_lt part.id d.next_part) d.parts) _
     (and_from (ascend_from 1 (ids_of d.parts)) (list_all (λ (part : PartNumbers Extent). nat_lt part.id d.next_part) d.parts) are.rise are.below)
@@ -253,7 +263,8 @@ parted_test d are room =
     (and_from (list_all (λ (vid : ℕ). eqb (parts_serving d.parts vid) 1) (counted 1 (length d.versions))) (list_all (is_part (length d.versions) d.records) d.parts) are.each are.all)
     (lt-ltb (room_in d) (2 ^ 32) room))
 
-pub own_parted : (count more records all next added : ℕ) (segments : List Extent) (parts : List (PartNumbers Extent)) → AreParted count records next parts → more ≡ count + 1 → records ≤ all → added ≤ all → 1 ≤ next
+pub own_parted : (count more records all next added : ℕ) (segments : List Extent) (parts : List (PartNumbers Extent)) → AreParted count records next parts → more ≡ count + 1
+    → records ≤ all → added ≤ all → 1 ≤ next
     → AreParted more all (next + 1) (parts ++ own_part next (count + 1) added segments ∷ [])
 own_parted count more records all next added segments parts are is few some first = record {
   rise =
@@ -274,7 +285,8 @@ own_parted count more records all next added segments parts are is few some firs
       (own_is_part more all next (count + 1) added segments (omega arith) (omega (arith, is)) some);
 }
 
-pub join_parted : (count more records all next id added : ℕ) (segments : List Extent) (parts : List (PartNumbers Extent)) (part : PartNumbers Extent) → AreParted count records next parts → more ≡ count + 1 → records ≤ all
+pub join_parted : (count more records all next id added : ℕ) (segments : List Extent) (parts : List (PartNumbers Extent)) (part : PartNumbers Extent)
+    → AreParted count records next parts → more ≡ count + 1 → records ≤ all
     → part_numbered parts id ≡ Some part → part.records + added ≤ all → AreParted more all next (join_at id (count + 1) added segments parts)
 join_parted count more records all next id added segments parts part are is few found some = record {
   rise = subst (λ (ns : List ℕ). ascend_from 1 ns ≡ true) (join_ids id (count + 1) added segments parts) are.rise;

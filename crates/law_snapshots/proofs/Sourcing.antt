@@ -49,7 +49,8 @@ source_own own parts t later h =
     let more = find-append (λ (part : PartNumbers Extent). eqb part.id t.source) parts (own ∷ []) in
     elim (cases_Bool (eqb t.source 0)) [
       | inl e ↦ rw e (rw e at h)
-      | inr e ↦ rw e (subst (λ (o : Option (PartNumbers Extent)). is_kept t later o ≡ true) (sym more) (kept_there t later (part_numbered parts t.source) (part_numbered (own ∷ []) t.source) (rw e at h)))
+      | inr e ↦
+          rw e (subst (λ (o : Option (PartNumbers Extent)). is_kept t later o ≡ true) (sym more) (kept_there t later (part_numbered parts t.source) (part_numbered (own ∷ []) t.source) (rw e at h)))
     ]
 
 -- a source has a number below the next one
@@ -80,12 +81,14 @@ sources_own next vid added segments parts vids (t ∷ ts) first low h =
     let lt = source_below next t later parts first low here.0 in
     let apart = or_left (not (eqb next t.source)) (list_all (is_one vids) (vid ∷ [])) (not_from_false (eqb next t.source) (ne_eqb next t.source (λ same. omega (arith, same, lt)))) in
     and_from (is_source (parts ++ own ∷ []) t later && list_all (serves_only t.source vids) (parts ++ own ∷ [])) (are_sources (parts ++ own ∷ []) vids ts)
-    (and_from (is_source (parts ++ own ∷ []) t later) (list_all (serves_only t.source vids) (parts ++ own ∷ [])) (source_own own parts t later here.0) (all_push (serves_only t.source vids) parts own here.1 apart))
+    (and_from (is_source (parts ++ own ∷ []) t later) (list_all (serves_only t.source vids) (parts ++ own ∷ [])) (source_own own parts t later here.0)
+    (all_push (serves_only t.source vids) parts own here.1 apart))
     (sources_own next vid added segments parts vids ts first low both.1)
 
 -- ---- a partition that is joined
 
-join_numbered : (id vid added : ℕ) (segments : List Extent) (parts : List (PartNumbers Extent)) (other : ℕ) → eqb id other ≡ false → part_numbered parts other ≡ part_numbered (join_at id vid added segments parts) other
+join_numbered : (id vid added : ℕ) (segments : List Extent) (parts : List (PartNumbers Extent)) (other : ℕ) → eqb id other ≡ false
+    → part_numbered parts other ≡ part_numbered (join_at id vid added segments parts) other
 join_numbered id vid added segments [] other apart = refl
 join_numbered id vid added segments (part ∷ parts) other apart =
     elim (cases_Bool (eqb part.id id)) [
@@ -99,7 +102,8 @@ source_joined id vid added segments parts t later apart h =
     subst (λ (o : Option (PartNumbers Extent)). (if eqb t.source 0 then eqb (length t.kept) 0 && eqb t.kept_records 0 else is_kept t later o) ≡ true) (join_numbered id vid added segments parts t.source apart) h
 
 -- a partition that serves another version than these isn't the one that serves only these
-other_source : (source : ℕ) (vids : List ℕ) (part : PartNumbers Extent) (vid : ℕ) → serves_only source vids part ≡ true → is_one part.versions vid ≡ true → is_one vids vid ≡ false → eqb part.id source ≡ false
+other_source : (source : ℕ) (vids : List ℕ) (part : PartNumbers Extent) (vid : ℕ) → serves_only source vids part ≡ true → is_one part.versions vid ≡ true → is_one vids vid ≡ false
+    → eqb part.id source ≡ false
 other_source source vids part vid h serves away =
     elim (cases_Bool (eqb part.id source)) [
       | inl e ↦ let all : list_all (is_one vids) part.versions ≡ true = rw e at h in let there = one_passes (is_one vids) part.versions vid all serves in absurd cc
@@ -107,7 +111,8 @@ other_source source vids part vid h serves away =
     ]
 
 pub sources_joined : (id new added : ℕ) (segments : List Extent) (parts : List (PartNumbers Extent)) (vids : List ℕ) (part : PartNumbers Extent) (vid : ℕ) (ts : List TargetNumbers)
-    → part_numbered parts id ≡ Some part → is_one part.versions vid ≡ true → is_one vids vid ≡ false → are_sources parts vids ts ≡ true → are_sources (join_at id new added segments parts) vids ts ≡ true
+    → part_numbered parts id ≡ Some part → is_one part.versions vid ≡ true → is_one vids vid ≡ false → are_sources parts vids ts ≡ true
+    → are_sources (join_at id new added segments parts) vids ts ≡ true
 sources_joined id new added segments parts vids part vid [] found serves away h = refl
 sources_joined id new added segments parts vids part vid (t ∷ ts) found serves away h =
     let later = map (λ (u : TargetNumbers). u.versions) ts in
@@ -119,7 +124,8 @@ sources_joined id new added segments parts vids part vid (t ∷ ts) found serves
     and_from (is_source new_parts t later && list_all (serves_only t.source vids) new_parts) (are_sources new_parts vids ts)
     (and_from (is_source new_parts t later) (list_all (serves_only t.source vids) new_parts) (source_joined id new added segments parts t later other here.0)
     (all_joined (serves_only t.source vids) (serves_only t.source vids) id new added segments parts (λ x same. same)
-    (λ x there same. or_left (not (eqb x.id t.source)) (list_all (is_one vids) (x.versions ++ new ∷ [])) (not_from_false (eqb x.id t.source) (ap (λ (n : ℕ). eqb n t.source) (numbered_id parts id x there) ∙ other))) here.1))
+    (λ x there same. or_left (not (eqb x.id t.source)) (list_all (is_one vids) (x.versions ++ new ∷ []))
+    (not_from_false (eqb x.id t.source) (ap (λ (n : ℕ). eqb n t.source) (numbered_id parts id x there) ∙ other))) here.1))
     (sources_joined id new added segments parts vids part vid ts found serves away both.1)
 
 -- ---- the plan
@@ -131,12 +137,15 @@ pub unmoved_one : (ts : List TargetNumbers) (vid : ℕ) → is_one (vids_of ts) 
 unmoved_one [] vid = refl
 unmoved_one (t ∷ ts) vid = list_any-append (λ (v : ℕ). eqb v vid) t.versions (vids_of ts) ∙ ap (λ (b : Bool). is_one t.versions vid || b) (unmoved_one ts vid)
 
+abbrev pub left_of : PlanNumbers Extent → List TargetNumbers
+left_of plan = targets_from plan.at plan.targets
+
 -- it stays a plan where the sources stay
 pub plan_with : (d new : SetNumbers Extent Extent) (plan : PlanNumbers Extent) → length d.versions ≤ length new.versions → d.records ≤ new.records
-    → (are_sources d.parts (vids_of (targets_from plan.at plan.targets)) (targets_from plan.at plan.targets) ≡ true → are_sources new.parts (vids_of (targets_from plan.at plan.targets)) (targets_from plan.at plan.targets) ≡ true)
+    → (are_sources d.parts (vids_of (left_of plan)) (left_of plan) ≡ true → are_sources new.parts (vids_of (left_of plan)) (left_of plan) ≡ true)
     → is_plan d (Some plan) ≡ true → is_plan new (Some plan) ≡ true
 plan_with d new plan le few stay h =
-    let left = targets_from plan.at plan.targets in
+    let left = left_of plan in
     let now = nat_lt plan.at (length plan.targets) && nat_le (plan.copied + (current plan).kept_records) (current plan).size in
     let halves = and_parts now (are_targets (length d.versions) d.records plan.targets && are_sources d.parts (vids_of left) left) h in
     let rest = and_parts (are_targets (length d.versions) d.records plan.targets) (are_sources d.parts (vids_of left) left) halves.1 in

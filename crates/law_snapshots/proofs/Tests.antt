@@ -103,7 +103,8 @@ is_same_by false true e = absurd cc
 is_same_by false false e = refl
 
 -- the segment that comes with so many records, or none where there are none
-of_extents : (b : Bool) (records : ℕ) (segment : Extent) → eqb segment.bytes 0 ≡ b → is_same b (eqb records 0) ≡ true → is_extent segment ≡ true → are_segments records (if b then [] else segment ∷ []) ≡ true
+of_extents : (b : Bool) (records : ℕ) (segment : Extent) → eqb segment.bytes 0 ≡ b → is_same b (eqb records 0) ≡ true → is_extent segment ≡ true
+    → are_segments records (if b then [] else segment ∷ []) ≡ true
 of_extents true records segment e same is = same
 of_extents false records segment e same is =
     and_from ((not (eqb segment.bytes 0) && is_extent segment) && true) (not (eqb records 0))

@@ -1,4 +1,5 @@
 -- A schema with columns added, where they are accepted, is a schema.
+--     wide_schema_is      by the test of a schema
 use Rattle.std.proofs.Common.{◌≡◌, ℕ, Bool, true, false, eqb, List, [], ◌∷◌, ◌++◌, length, map, refl, sym, ap, subst, ◌∙◌, inl, inr, arith}
 use Rattle.std.specs.Prelude.{Option, Some, None, is_ok, nat_eq, nat_lt, if◌then◌else◌}
 use Rattle.std.specs.Option.{option_or}
@@ -89,7 +90,8 @@ wide_is_schema columns added key accepts h =
     let before = option_or (column_refusal columns) (key_refusal columns (map (name_at columns) key)) in
     let made = none_refused before (record { columns = columns; key = map (place_of columns) (map (name_at columns) key) }) both.1 in
     let keys = (neither (column_refusal columns) (key_refusal columns (map (name_at columns) key)) made).1 in
-    let named : key_refusal wide (map (name_at wide) key) ≡ None = subst (λ (ns : List (List ℕ)). key_refusal wide ns ≡ None) (names_wide columns added key both.0) (key_wide columns added (map (name_at columns) key) keys) in
+    let named : key_refusal wide (map (name_at wide) key) ≡ None =
+    subst (λ (ns : List (List ℕ)). key_refusal wide ns ≡ None) (names_wide columns added key both.0) (key_wide columns added (map (name_at columns) key) keys) in
     and_from (are_places wide key) (is_ok (schema_of wide (map (name_at wide) key))) (places_wide columns added key both.0)
     (not_refused (option_or (column_refusal wide) (key_refusal wide (map (name_at wide) key))) (record { columns = wide; key = map (place_of wide) (map (name_at wide) key) })
     (ap (λ (o : Option SchemaErr). option_or o (key_refusal wide (map (name_at wide) key))) accepts ∙ named))
@@ -99,4 +101,5 @@ wide_schema_is s added ok h =
     let wide : Shape = record { columns = s.columns ++ added; key = s.key } in
     let refusal = if eqb (length added) 0 then Some NoColumns else column_refusal (s.columns ++ added) in
     let none = none_refused refusal wide ok in
-    subst (λ (x : Shape). is_schema (spelled x) ≡ true) (sym (accepted refusal s wide none)) (wide_is_schema s.columns added s.key (not_first (eqb (length added) 0) (column_refusal (s.columns ++ added)) none) h)
+    subst (λ (x : Shape). is_schema (spelled x) ≡ true) (sym (accepted refusal s wide none))
+    (wide_is_schema s.columns added s.key (not_first (eqb (length added) 0) (column_refusal (s.columns ++ added)) none) h)
