@@ -1,6 +1,12 @@
 pub mod Again
+pub mod Beginning
 pub mod Carrying
 pub mod Checkpointed
+pub mod Committing
 pub mod Followed
+pub mod Joining
 pub mod Numbering
 pub mod Saying
+pub mod Sourcing
+pub mod Tests
+pub mod Widening
