@@ -4,7 +4,7 @@ use Rattle.std.specs.Prelude.{cond, filter, find, nat_le, nat_lt, not, Option, S
 use Rattle.std.specs.List.{list_all, list_any, AllByRecursion}
 use Rattle.std.specs.Option.{option_or}
 use Rattle.std.specs.Str.{bytes_eq}
-use Rattle.std.proofs.lemmas.Bool.{and_from, and_parts, leb-true, le-leb, lt-ltb, ltb-true}
+use Rattle.std.proofs.lemmas.Bool.{and_from, and_parts, eqb-true, leb-true, le-leb, lt-ltb, ltb-true}
 use Rattle.ov_event.specs.declared.event.Event as raw
 use Rattle.ov_event.specs.declared.event.Event.TheVariants as says
 use Rattle.ov_event.specs.declared.event.RawSchema.{RawSchema}
@@ -17,7 +17,7 @@ use Rattle.ov_value.specs.Naming.{is_name}
 use Rattle.ov_catalog.specs.declared.field.Field.{Field}
 use Rattle.ov_catalog.specs.declared.field.Field.TheVariants as off
 use Rattle.ov_catalog.specs.Applying.{AllFollow, AtStart, Beyond, InSnapshot, Reach, Stage, base_off, format_off, number_off, of_live, off_at, stage_after, start_of}
-use Rattle.ov_catalog.specs.Events.{Event, applied, change, copied_more, flipped, new_set, numbered, planned, replayed, version_of, with_columns, with_version}
+use Rattle.ov_catalog.specs.Events.{Event, applied, change, copied_more, flipped, flipped_by, new_set, numbered, planned, replayed, version_of, with_columns, with_version}
 use Rattle.ov_catalog.specs.Numbers.{PlanNumbers, SetNumbers, Numbers, nothing_yet}
 use Rattle.ov_catalog.specs.Planning.{ascend_from, copy_off, flip_off, is_threshold, of_running, plan_off}
 use Rattle.ov_catalog.specs.Raw.{event_in, numbers_in, place_in, raw_plan, shape_in, threshold_in, whole_in}
@@ -27,9 +27,10 @@ use Rattle.law_snapshots.proofs.Beginning.{init_whole}
 use Rattle.law_snapshots.proofs.Committing.{commit_whole, wide_whole}
 use Rattle.law_snapshots.proofs.Copied.{copy_whole}
 use Rattle.law_snapshots.proofs.Flipped.{flip_whole}
-use Rattle.law_snapshots.proofs.Numbering.{AreAmong, all_more, all_weaker, among_both, among_more, below_more, below_up_to, new_more, rise_lower, rise_more, up_to_below}
+use Rattle.law_snapshots.proofs.Numbering.{AreAmong, among_both, among_more, below_more, below_up_to, new_more, rise_lower, rise_more, up_to_below}
 use Rattle.law_snapshots.proofs.Planned.{plan_whole}
 use Rattle.law_snapshots.proofs.Saying.{p_back, q_back}
+use Rattle.law_snapshots.proofs.Tests.{all_push}
 use Rattle.law_snapshots.specs.Whole.{AreNew, AreWhole, IsBeside, IsWhole, RunsAt, names_of, numbers_of, p_of, q_of, spelled}
 
 abbrev Set : Type 0
@@ -103,14 +104,14 @@ module _ (f : Set → Set) (number_kept : (d : Set) → (f d).number ≡ d.numbe
 flip_number : (d : Set) → (flipped d).number ≡ d.number
 flip_number d = by d.plan
   where
-    by : (plan : Option (PlanNumbers Extent)) → (Rattle.ov_catalog.specs.Events.flipped_by plan d).number ≡ d.number
+    by : (plan : Option (PlanNumbers Extent)) → (flipped_by plan d).number ≡ d.number
     by None = refl
     by (Some plan) = refl
 
 flip_name : (d : Set) → (flipped d).name ≡ d.name
 flip_name d = by d.plan
   where
-    by : (plan : Option (PlanNumbers Extent)) → (Rattle.ov_catalog.specs.Events.flipped_by plan d).name ≡ d.name
+    by : (plan : Option (PlanNumbers Extent)) → (flipped_by plan d).name ≡ d.name
     by None = refl
     by (Some plan) = refl
 
@@ -155,7 +156,7 @@ set_more next n d is whole new some one less above =
       few = omega (arith, few, long);
       rise = subst (λ ns. ascend_from 1 ns ≡ true) (sym (numbers_more n.sets d)) (rise_more 1 (numbers_of n.sets) d.number one above is.rise);
       below = subst (λ ns. list_all (λ number. nat_lt number next) ns ≡ true) (sym (numbers_more n.sets d))
-          (all_more (λ number. nat_lt number next) (numbers_of n.sets) d.number (below_more d.number next less (numbers_of n.sets) above) (lt-ltb d.number next less));
+          (all_push (λ number. nat_lt number next) (numbers_of n.sets) d.number (below_more d.number next less (numbers_of n.sets) above) (lt-ltb d.number next less));
       names = subst (λ ns. AreNew [] ns) (sym (names_more n.sets d)) (new_more [] (names_of n.sets) d.name is.names (any_named d.name n.sets ∙ new.new));
       each = each_more n.sets d is.each whole;
     }
@@ -234,7 +235,7 @@ in_range p q is = by (p == 0) (q == 0) refl
     some = leb-true 1 p (and_parts (nat_le 1 p) (nat_le p q && nat_le q 1000000) is).0
 
     by : (a b : Bool) → (p == 0) ≡ a → (let t : Option (ℕ × ℕ) = (if a && b then None else Some (p, q)) in t) ≡ Some (p, q)
-    by true b e = let zero = Rattle.std.proofs.lemmas.Bool.eqb-true p 0 e in absurd (omega (arith, zero, some))
+    by true b e = let zero = eqb-true p 0 e in absurd (omega (arith, zero, some))
     by false b e = refl
 
 runs_at : (p q : ℕ) (plan : Option RawPlan) → is_threshold_for p q (raw_plan p q plan) ≡ true → RunsAt (threshold_in p q) (raw_plan p q plan)
@@ -312,7 +313,7 @@ whole_carried format (InSnapshot next last) said n is beside passes =
       (
         base,
         subst (λ ns. list_all (λ number. nat_le number said.number) ns ≡ true) (sym (numbers_more n.sets (whole_in said)))
-        (all_more (λ number. nat_le number said.number) (numbers_of n.sets) said.number (below_up_to said.number (numbers_of n.sets) above) (le-leb said.number said.number (omega arith))),
+        (all_push (λ number. nat_le number said.number) (numbers_of n.sets) said.number (below_up_to said.number (numbers_of n.sets) above) (le-leb said.number said.number (omega arith))),
       ),
     )
 

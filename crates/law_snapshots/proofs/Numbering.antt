@@ -5,30 +5,19 @@ use Rattle.std.specs.List.{list_all, list_any}
 use Rattle.std.specs.Str.{bytes_eq}
 use Rattle.std.proofs.lemmas.Bool.{and_from, and_parts, leb-true, le-leb, lt-ltb, ltb-true, or_from, or_parts}
 use Rattle.ov_catalog.specs.Planning.{ascend_from}
+use Rattle.law_snapshots.proofs.Tests.{all_more}
 use Rattle.law_snapshots.specs.Whole.{AreNew}
 
 -- ---- numbers
 
-pub all_weaker : (p q : ℕ → Bool) → ((n : ℕ) → p n ≡ true → q n ≡ true) → (ns : List ℕ) → list_all p ns ≡ true → list_all q ns ≡ true
-all_weaker p q weaker [] all = refl
-all_weaker p q weaker (n ∷ ns) all =
-    let both = and_parts (p n) (list_all p ns) all
-    in and_from (q n) (list_all q ns) (weaker n both.0) (all_weaker p q weaker ns both.1)
-
-pub all_more : (p : ℕ → Bool) (ns : List ℕ) (m : ℕ) → list_all p ns ≡ true → p m ≡ true → list_all p (ns ++ m ∷ []) ≡ true
-all_more p [] m all last = and_from (p m) true last refl
-all_more p (n ∷ ns) m all last =
-    let both = and_parts (p n) (list_all p ns) all
-    in and_from (p n) (list_all p (ns ++ m ∷ [])) both.0 (all_more p ns m both.1 last)
-
 pub below_more : (m next : ℕ) → m < next → (ns : List ℕ) → list_all (λ n. nat_lt n m) ns ≡ true → list_all (λ n. nat_lt n next) ns ≡ true
-below_more m next less ns all = all_weaker (λ n. nat_lt n m) (λ n. nat_lt n next) (λ n low. let lt = ltb-true n m low in lt-ltb n next (omega (arith, lt, less))) ns all
+below_more m next less ns all = all_more (λ n. nat_lt n m) (λ n. nat_lt n next) ns (λ n low. let lt = ltb-true n m low in lt-ltb n next (omega (arith, lt, less))) all
 
 pub up_to_below : (last m : ℕ) → last < m → (ns : List ℕ) → list_all (λ n. nat_le n last) ns ≡ true → list_all (λ n. nat_lt n m) ns ≡ true
-up_to_below last m less ns all = all_weaker (λ n. nat_le n last) (λ n. nat_lt n m) (λ n low. let le = leb-true n last low in lt-ltb n m (omega (arith, le, less))) ns all
+up_to_below last m less ns all = all_more (λ n. nat_le n last) (λ n. nat_lt n m) ns (λ n low. let le = leb-true n last low in lt-ltb n m (omega (arith, le, less))) all
 
 pub below_up_to : (m : ℕ) (ns : List ℕ) → list_all (λ n. nat_lt n m) ns ≡ true → list_all (λ n. nat_le n m) ns ≡ true
-below_up_to m ns all = all_weaker (λ n. nat_lt n m) (λ n. nat_le n m) (λ n low. let lt = ltb-true n m low in le-leb n m (omega (arith, lt))) ns all
+below_up_to m ns all = all_more (λ n. nat_lt n m) (λ n. nat_le n m) ns (λ n low. let lt = ltb-true n m low in le-leb n m (omega (arith, lt))) all
 
 pub rise_lower : (low least : ℕ) (ns : List ℕ) → low ≤ least → ascend_from least ns ≡ true → ascend_from low ns ≡ true
 rise_lower low least [] le rise = refl
