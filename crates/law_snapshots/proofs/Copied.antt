@@ -1,7 +1,6 @@
 -- A Copy leaves a dataset as a Whole may say it.
-use Rattle.std.proofs.Common.{◌≡◌, ◌≤◌, ℕ, ◌+◌, ◌-◌, Bool, true, ◌&&◌, List, ◌++◌, length, min, refl, subst, arith}
-use Rattle.std.specs.Prelude.{nat_le, nat_lt, ◌==◌, not, Option, Some, None}
-use Rattle.std.specs.List.{list_all, flat_map}
+use Rattle.std.proofs.Common.{◌≡◌, ◌≤◌, ℕ, ◌+◌, true, ◌&&◌, ◌++◌, length, min, refl, subst, arith}
+use Rattle.std.specs.Prelude.{nat_le, nat_lt, ◌==◌, Option, Some, None}
 use Rattle.std.proofs.lemmas.Bool.{and_parts, and_from, eqb-true, leb-true, le-leb}
 use Rattle.ov_host.specs.declared.area.Extent.{Extent}
 use Rattle.ov_layout.specs.Changes.{extents_of}
@@ -9,7 +8,7 @@ use Rattle.ov_catalog.specs.declared.field.Field.TheVariants as off
 use Rattle.ov_catalog.specs.Events.{with_plan, copied_for, copied_more, current}
 use Rattle.ov_catalog.specs.Numbers.{PlanNumbers, SetNumbers}
 use Rattle.ov_catalog.specs.Planning.{of_running, copy_off, missing}
-use Rattle.ov_catalog.specs.Testing.{off_unless, is_extent}
+use Rattle.ov_catalog.specs.Testing.{off_unless}
 use Rattle.ov_catalog.specs.Wholes.{are_parts, are_placed, is_plan, is_threshold_for}
 use Rattle.ov_catalog.proofs.CommitLemmas.{off-none, off-true}
 use Rattle.law_snapshots.specs.Whole.{IsWhole, RunsAt, p_of, q_of}

@@ -1,15 +1,15 @@
 -- A Flip leaves a dataset as a Whole may say it.
-use Rattle.std.proofs.Common.{◌≡◌, ◌≤◌, ◌<◌, ℕ, zero, suc, ◌+◌, ◌-◌, ◌^◌, Bool, true, false, not, ◌&&◌, ◌||◌, ◌==◌, List, [], ◌∷◌, ◌++◌, length, map, refl, sym, ◌∙◌, ap, subst, inl, inr, arith}
+use Rattle.std.proofs.Common.{◌≡◌, ◌≤◌, ◌<◌, ℕ, zero, suc, ◌+◌, ◌-◌, ◌^◌, Bool, true, false, not, ◌&&◌, ◌==◌, List, [], ◌∷◌, ◌++◌, length, map, refl, sym, ◌∙◌, ap, subst, inl, inr, arith}
 use Rattle.std.specs.Prelude.{nat_le, nat_lt, if◌then◌else◌, is_none, Option, Some, None}
 use Rattle.std.specs.List.{list_all, list_any, flat_map}
-use Rattle.std.proofs.lemmas.Bool.{cases_Bool, and_parts, and_from, or_left, or_cases, eq-eqb, eqb-true, leb-true, le-leb, ltb-true, ltb-false, lt-ltb}
-use Rattle.std.proofs.lemmas.List.{length-append, map-append}
+use Rattle.std.proofs.lemmas.Bool.{cases_Bool, and_parts, and_from, or_left, or_cases, eq-eqb, eqb-true, leb-true, le-leb, ltb-true, lt-ltb}
+use Rattle.std.proofs.lemmas.List.{map-append}
 use Rattle.std.proofs.lemmas.List.Folds.{list_all-map}
 use Rattle.std.proofs.lemmas.List.Sums.{sum_by_push}
-use borrow.Author.Tests.{not-true, both_ways}
+use borrow.Author.Tests.{not-true}
 use Rattle.ov_host.specs.declared.area.Extent.{Extent}
 use Rattle.ov_catalog.specs.declared.field.Field.TheVariants as off
-use Rattle.ov_catalog.specs.Events.{current, chosen, flipped, flipped_by, is_empty, is_one, leaving, left_parts, next_target, no_target, segments_at, target_part}
+use Rattle.ov_catalog.specs.Events.{current, chosen, flipped, flipped_by, is_one, left_parts, next_target, segments_at, target_part}
 use Rattle.ov_catalog.specs.Numbers.{PartNumbers, PlanNumbers, SetNumbers, TargetNumbers, VersionNumbers}
 use Rattle.ov_catalog.specs.Planning.{ascend_from, are_below, empties, is_kept, is_source, is_threshold, meets, of_running, flip_off}
 use Rattle.ov_catalog.specs.Testing.{is_same, part_numbered, targets_from}
@@ -18,8 +18,8 @@ use Rattle.ov_catalog.proofs.CommitLemmas.{off-true}
 use Rattle.ov_model.specs.Records.{counted}
 use Rattle.law_snapshots.specs.Whole.{IsWhole, RunsAt, p_of, q_of}
 use Rattle.law_snapshots.proofs.PartTests.{HasParts, all_both, all_by, all_more, ascend_last, is_filled, one_if, parts_are, parts_test, same_out, segments_are, segments_both, segments_of}
-use Rattle.law_snapshots.proofs.LeftParts.{all_left, chosen_filled, chosen_long, found_filled, gone_serving, ids_left, left_serving, numbered_below, part_left, segments_found}
-use Rattle.law_snapshots.proofs.SourcesLeft.{from_next, from_past, first_within, sources_left, targets_on}
+use Rattle.law_snapshots.proofs.LeftParts.{all_left, chosen_filled, chosen_long, found_filled, gone_serving, ids_left, left_serving, part_left, segments_found}
+use Rattle.law_snapshots.proofs.SourcesLeft.{from_next, first_within, sources_left, targets_on}
 
 -- ---- what the target keeps of its source
 

@@ -1,6 +1,6 @@
 -- A Plan leaves a dataset as a Whole may say it.
-use Rattle.std.proofs.Common.{◌≡◌, ◌≤◌, ◌<◌, ℕ, zero, suc, ◌+◌, ◌-◌, ◌^◌, Bool, true, false, not, ◌&&◌, ◌||◌, ◌==◌, List, [], ◌∷◌, ◌++◌, length, map, refl, sym, ◌∙◌, ap, subst, inl, inr, arith}
-use Rattle.std.specs.Prelude.{nat_le, nat_lt, is_none, Option, Some, None}
+use Rattle.std.proofs.Common.{◌≡◌, ◌≤◌, ◌<◌, ℕ, zero, suc, ◌+◌, Bool, true, false, not, ◌&&◌, ◌||◌, ◌==◌, List, [], ◌∷◌, length, map, refl, sym, ◌∙◌, ap, subst, inl, inr, arith}
+use Rattle.std.specs.Prelude.{nat_le, is_none, Some, None}
 use Rattle.std.specs.List.{All, flat_map, list_all, list_any}
 use Rattle.std.proofs.lemmas.Bool.{cases_Bool, and_parts, and_from, or_left, or_right, or_from, ne_eqb, eqb-true, leb-true, le-leb, lt-ltb}
 use Rattle.std.proofs.lemmas.List.{length-map}
@@ -9,19 +9,18 @@ use Rattle.ov_event.specs.declared.event.PlanTarget.{PlanTarget}
 use Rattle.ov_graph.specs.Versions as graph
 use Rattle.ov_host.specs.declared.area.Extent.{Extent}
 use Rattle.ov_catalog.specs.declared.field.Field.TheVariants as off
-use Rattle.ov_catalog.specs.Events.{current, graph_of, is_one, no_target, parts_at, planned, target_of, targets_of}
+use Rattle.ov_catalog.specs.Events.{current, graph_of, is_one, parts_at, planned, target_of, targets_of}
 use Rattle.ov_catalog.specs.Numbers.{PartNumbers, PlanNumbers, SetNumbers, TargetNumbers, VersionNumbers}
 use Rattle.ov_catalog.specs.Planning.{are_targets as may_be_targets, ascend_from, is_size, is_source, is_threshold, meets, plan_off}
 use Rattle.ov_catalog.specs.Raw.{threshold_in}
-use Rattle.ov_catalog.specs.Splitting.{IsListed, IsSplitOf}
+use Rattle.ov_catalog.specs.Splitting.{IsListed}
 use Rattle.ov_catalog.specs.Testing.{off_unless, rows_at, targets_from}
-use Rattle.ov_catalog.specs.Wholes.{are_parts, are_placed, are_sources, are_targets, are_there, are_versions, is_part, is_plan, is_target, parents_follow, serves_only, targets_left}
+use Rattle.ov_catalog.specs.Wholes.{are_parts, are_placed, are_sources, are_targets, are_there, are_versions, is_part, is_plan, parents_follow, serves_only}
 use Rattle.ov_catalog.proofs.CommitLemmas.{off-none, off-true}
 use Rattle.ov_catalog.proofs.SplitLemmas.{parts-few}
 use Rattle.ov_catalog.proofs.TargetLemmas.{ascend-in, versions-of}
-use Rattle.ov_layout.specs.Parts.{Ascend, has}
 use Rattle.law_snapshots.specs.Whole.{IsWhole}
-use Rattle.law_snapshots.proofs.PartTests.{HasParts, all_at, all_by, all_more, one_both, one_if, parts_are, parts_test, some_one}
+use Rattle.law_snapshots.proofs.PartTests.{all_at, all_by, all_more, one_both, one_if, parts_are, parts_test, some_one}
 use Rattle.law_snapshots.proofs.SourcesLeft.{first_within, from_first, from_next}
 use Rattle.law_snapshots.proofs.SplitParts.{AreSplit, is_some, lists_with, split_parts, with_cons}
 

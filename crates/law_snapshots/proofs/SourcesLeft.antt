@@ -1,9 +1,9 @@
 -- The targets of a plan behind its current one, and their sources once that one is flipped.
 use Rattle.std.proofs.Common.{◌≡◌, ◌≤◌, ◌<◌, ℕ, zero, suc, ◌+◌, ◌-◌, Bool, true, false, not, ◌&&◌, ◌||◌, ◌==◌, List, [], ◌∷◌, ◌++◌, length, get_or, map, refl, sym, ◌∙◌, ap, subst, inl, inr, arith}
-use Rattle.std.specs.Prelude.{nat_le, nat_lt, if◌then◌else◌, Option, Some, None}
+use Rattle.std.specs.Prelude.{nat_le, nat_lt, Option, Some, None}
 use Rattle.std.specs.List.{list_all, list_any}
-use Rattle.std.proofs.lemmas.Bool.{cases_Bool, and_parts, and_from, or_left, or_right, or_parts, or_from, or_cases, ne_eqb, eqb-true, eq-eqb, leb-true}
-use borrow.Author.Tests.{not-true, both_ways}
+use Rattle.std.proofs.lemmas.Bool.{cases_Bool, and_parts, and_from, or_left, or_right, or_parts, or_from, or_cases, ne_eqb, eqb-true, leb-true}
+use borrow.Author.Tests.{not-true}
 use Rattle.ov_catalog.specs.Events.{leaving, is_empty, left_parts, is_one, no_target}
 use Rattle.ov_catalog.specs.Numbers.{PartNumbers, TargetNumbers}
 use Rattle.ov_catalog.specs.Planning.{ascend_from, are_below, meets, empties, is_kept, is_source}
@@ -28,14 +28,6 @@ from_next (suc at) (t ∷ ts) low =
     in let down : suc at - 1 ≡ at = omega arith
     in let back : suc at + 1 - 1 ≡ at + 1 = omega arith
     in rw (ne, down, next, back) (from_next at ts (omega (arith, low)))
-
-pub from_past : (at : ℕ) (ts : List TargetNumbers) → length ts ≤ at → targets_from at ts ≡ []
-from_past at [] past = refl
-from_past zero (t ∷ ts) past = absurd (omega (arith, past))
-from_past (suc at) (t ∷ ts) past =
-    let ne : (suc at == 0) ≡ false = ne_eqb (suc at) 0 (λ same. absurd (omega (arith, same)))
-    in let down : suc at - 1 ≡ at = omega arith
-    in rw (ne, down) (from_past at ts (omega (arith, past)))
 
 pub targets_on : (count records at : ℕ) (ts : List TargetNumbers) → are_targets count records ts ≡ true → are_targets count records (targets_from at ts) ≡ true
 targets_on count records at [] are = refl
@@ -132,8 +124,8 @@ module _ {S : Type 0} (gone vids : List ℕ) (parts : List (PartNumbers S)) (new
       elim (or_cases (not (part.id == id)) (list_all (is_one (gone ++ vids)) part.versions) only) [
         | inl other ↦ or_left (not (part.id == id)) (list_all (is_one vids) (without gone part.versions)) other
         | inr all ↦ or_right (not (part.id == id)) (list_all (is_one vids) (without gone part.versions))
-          (all_by (is_one vids) (without gone part.versions) (λ n there.
-          let was = was_one gone part.versions n there in in_rest n (all_at (is_one (gone ++ vids)) part.versions n all was.0) was.1))
+            (all_by (is_one vids) (without gone part.versions) (λ n there.
+            let was = was_one gone part.versions n there in in_rest n (all_at (is_one (gone ++ vids)) part.versions n all was.0) was.1))
       ]
 
   only_new : (id : ℕ) → id < new.id → serves_only id vids new ≡ true

@@ -1,10 +1,9 @@
 -- The parts of a split of versions: some versions each, which ascend, and each version is in one of them. Cuts only divide lists,
 -- so this holds of any nodes.
-use Rattle.std.proofs.Common.{◌≡◌, ◌≤◌, ◌<◌, ℕ, zero, suc, ◌+◌, Bool, true, false, not, ◌&&◌, ◌==◌, List, [], ◌∷◌, ◌++◌, length, filter, map, refl, sym, ◌∙◌, ap, subst, inl, inr, arith}
-use Rattle.std.specs.Prelude.{nat_le, if◌then◌else◌, Some, None}
-use Rattle.std.specs.List.{flat_map, list_all, range_with_len, sum_by}
-use Rattle.std.proofs.lemmas.Bool.{cases_Bool, and_parts, and_from, eq-eqb, ne_eqb, eqb-true, leb-true, le-leb}
-use Rattle.std.proofs.lemmas.List.{length-map}
+use Rattle.std.proofs.Common.{◌≡◌, ◌≤◌, ◌<◌, ℕ, zero, suc, ◌+◌, Bool, true, false, not, ◌&&◌, ◌==◌, List, [], ◌∷◌, ◌++◌, length, filter, refl, ◌∙◌, ap, inl, inr, arith}
+use Rattle.std.specs.Prelude.{nat_le, Some, None}
+use Rattle.std.specs.List.{list_all, range_with_len, sum_by}
+use Rattle.std.proofs.lemmas.Bool.{cases_Bool, and_parts, and_from, ne_eqb, eqb-true, leb-true, le-leb}
 use Rattle.std.proofs.lemmas.List.Sums.{sum_by-cons, sum_by-append}
 use Rattle.ov_graph.specs.declared.nodes.Node.{Node}
 use Rattle.ov_graph.specs.Splits.{Cuts, whole, cut, cuts_within, cuts_of, leaves, next_cut_of, upper, lower, in_order, first_of, is_under, parts_of}
@@ -68,8 +67,8 @@ module _ (tree : VersionTree) (p q : ℕ) where
       ])) ≡ true) [
         | None ↦ and_from (test part) true is refl
         | Some at ↦ all_both test (leaves (cuts_within levels tree p q (upper tree at part))) (leaves (cuts_within levels tree p q (lower tree at part)))
-          (leaves_pass test on levels (upper tree at part) (on (λ version. not (is_under tree at version)) part is))
-          (leaves_pass test on levels (lower tree at part) (on (λ version. is_under tree at version) part is))
+            (leaves_pass test on levels (upper tree at part) (on (λ version. not (is_under tree at version)) part is))
+            (leaves_pass test on levels (lower tree at part) (on (λ version. is_under tree at version) part is))
       ]
 
 -- ---- in the order of their first versions, without the empty ones
