@@ -3,10 +3,17 @@ pub mod Beginning
 pub mod Carrying
 pub mod Checkpointed
 pub mod Committing
+pub mod Copied
+pub mod Flipped
 pub mod Followed
 pub mod Joining
+pub mod LeftParts
 pub mod Numbering
+pub mod PartTests
+pub mod Planned
 pub mod Saying
+pub mod SourcesLeft
 pub mod Sourcing
+pub mod SplitParts
 pub mod Tests
 pub mod Widening
