@@ -1,5 +1,5 @@
 -- Worlds that moves reach, with a checkpoint: the same moves reach a World of format 2, and one move more is one more.
-use Rattle.std.proofs.Common.{◌≡◌, ◌<◌, ◌-◌, ◌^◌, ℕ, List, [], ◌∷◌, ◌++◌, refl, sym, ap, subst, ◌∙◌, inl, inr}
+use Rattle.std.proofs.Common.{◌≡◌, ◌<◌, ◌-◌, ◌^◌, ℕ, List, [], ◌∷◌, ◌++◌, refl, sym, ap, subst, inr}
 use Rattle.std.specs.Prelude.{Option, Some, None}
 use Rattle.ov_model.specs.Moves.{Move, Init, Commit, BeginPlan, Copy, Flip, Drop, Checkpoint, moved, numbered, version_of, wide}
 use Rattle.ov_model.specs.Book.{Row, Version}

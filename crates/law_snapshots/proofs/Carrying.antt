@@ -1,6 +1,6 @@
 -- Each event that applies leaves datasets that a Whole may say, whose numbers ascend and whose names differ.
 use Rattle.std.proofs.Common.{◌≡◌, ◌≤◌, ◌<◌, ℕ, ◌+◌, Bool, true, false, ◌&&◌, ◌||◌, ◌==◌, List, [], ◌∷◌, ◌++◌, length, map, refl, sym, ap, subst, ◌∙◌, arith, length-append}
-use Rattle.std.specs.Prelude.{cond, filter, find, nat_le, nat_lt, not, Option, Some, None, is_none, if◌then◌else◌}
+use Rattle.std.specs.Prelude.{cond, filter, find, nat_le, nat_lt, not, Option, Some, None, if◌then◌else◌}
 use Rattle.std.specs.List.{list_all, list_any, AllByRecursion}
 use Rattle.std.specs.Option.{option_or}
 use Rattle.std.specs.Str.{bytes_eq}
@@ -12,12 +12,11 @@ use Rattle.ov_event.specs.declared.whole.Whole as raw_whole
 use Rattle.ov_event.specs.declared.whole.RawPlan.{RawPlan}
 use Rattle.ov_host.specs.declared.area.Extent.{Extent}
 use Rattle.ov_layout.specs.Changes.{extents_of}
-use Rattle.ov_place.specs.declared.place_facts.Place.{Place}
 use Rattle.ov_value.specs.Naming.{is_name}
 use Rattle.ov_catalog.specs.declared.field.Field.{Field}
 use Rattle.ov_catalog.specs.declared.field.Field.TheVariants as off
 use Rattle.ov_catalog.specs.Applying.{AllFollow, AtStart, Beyond, InSnapshot, Reach, Stage, base_off, format_off, number_off, of_live, off_at, stage_after, start_of}
-use Rattle.ov_catalog.specs.Events.{Event, applied, change, copied_more, flipped, flipped_by, new_set, numbered, planned, replayed, version_of, with_columns, with_version}
+use Rattle.ov_catalog.specs.Events.{applied, change, copied_more, flipped, flipped_by, new_set, numbered, planned, replayed, version_of, with_columns, with_version}
 use Rattle.ov_catalog.specs.Numbers.{PlanNumbers, SetNumbers, Numbers, nothing_yet}
 use Rattle.ov_catalog.specs.Planning.{ascend_from, copy_off, flip_off, is_threshold, of_running, plan_off}
 use Rattle.ov_catalog.specs.Raw.{event_in, numbers_in, place_in, raw_plan, shape_in, threshold_in, whole_in}
@@ -31,7 +30,7 @@ use Rattle.law_snapshots.proofs.Numbering.{AreAmong, among_both, among_more, bel
 use Rattle.law_snapshots.proofs.Planned.{plan_whole}
 use Rattle.law_snapshots.proofs.Saying.{p_back, q_back}
 use Rattle.law_snapshots.proofs.Tests.{all_push}
-use Rattle.law_snapshots.specs.Whole.{AreNew, AreWhole, IsBeside, IsWhole, RunsAt, names_of, numbers_of, p_of, q_of, spelled}
+use Rattle.law_snapshots.specs.Whole.{AreNew, AreWhole, IsBeside, IsWhole, RunsAt, names_of, numbers_of, p_of, q_of}
 
 abbrev Set : Type 0
 Set = SetNumbers Extent Extent

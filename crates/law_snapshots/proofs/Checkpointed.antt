@@ -1,5 +1,5 @@
 -- An image whose journal says the snapshot stands for the World after a checkpoint.
-use Rattle.std.proofs.Common.{◌≡◌, ◌/◌, ◌<◌, ◌≤◌, ◌+◌, ◌*◌, ◌-◌, ◌^◌, ◌==◌, inl, inr, ℕ, zero, suc, slice_index, true, if◌then◌else◌, List, [], ◌∷◌, ◌++◌, length, take, drop, map, None, refl, sym, ◌∙◌, ap, subst, arith}
+use Rattle.std.proofs.Common.{◌≡◌, ◌/◌, ◌<◌, ◌≤◌, ◌+◌, ◌*◌, ◌-◌, ◌^◌, ◌==◌, inl, inr, ℕ, zero, suc, if◌then◌else◌, List, [], ◌∷◌, ◌++◌, length, take, drop, map, None, refl, sym, ◌∙◌, ap, subst, arith}
 use Rattle.std.specs.Prelude.{Option, Some}
 use Rattle.std.specs.List.{flat_map}
 use Rattle.std.proofs.lemmas.List.{length-map}
@@ -17,7 +17,7 @@ use Rattle.ov_catalog.specs.Events as says
 use Rattle.ov_catalog.specs.Extents.{AreApart, covers, live, of_plan, of_set}
 use Rattle.ov_catalog.specs.Numbers.{VersionNumbers, PartNumbers, PlanNumbers, SetNumbers, Numbers, each_version, each_part, each_plan, each_set, nothing_yet}
 use Rattle.ov_catalog.specs.Raw.{event_in, numbers_in}
-use Rattle.ov_catalog.specs.Shown.{shown, shown_set}
+use Rattle.ov_catalog.specs.Shown.{shown_set}
 use Rattle.ov_catalog.specs.Snapshots.{IsSnapshot, events_of}
 use Rattle.ov_catalog.specs.Stands.{Readings, ReadSame, asked, seen}
 use Rattle.ov_catalog.proofs.Moving.{snapshot_numbers}
@@ -31,7 +31,6 @@ use Rattle.law_snapshots.proofs.Carrying.{all_whole}
 use Rattle.law_snapshots.proofs.Followed.{snapshot_follows}
 use Rattle.law_snapshots.proofs.Saying.{one_snapshot}
 use Rattle.law_snapshots.specs.Said.{snapshot_in}
-use Rattle.law_snapshots.specs.Whole.{AreWhole}
 
 -- ---- what is read of the same bytes
 

@@ -1,21 +1,19 @@
 -- A half may begin with the snapshot of numbers whose datasets are as a Whole says them.
-use Rattle.std.proofs.Common.{◌≡◌, ◌≤◌, ◌<◌, ℕ, suc, ◌+◌, Bool, true, false, ◌&&◌, ◌||◌, List, [], ◌∷◌, ◌++◌, length, map, refl, sym, ap, subst, ◌∙◌, arith, length-append}
+use Rattle.std.proofs.Common.{◌≡◌, ◌≤◌, ◌<◌, ℕ, ◌+◌, Bool, true, false, ◌&&◌, ◌||◌, List, [], ◌∷◌, ◌++◌, length, map, refl, sym, ap, subst, ◌∙◌, arith, length-append}
 use Rattle.std.specs.Prelude.{nat_le, nat_lt, not, Option, Some, None}
 use Rattle.std.specs.List.{list_all, list_any, AllByRecursion}
 use Rattle.std.specs.Option.{option_or}
 use Rattle.std.specs.Str.{bytes_eq}
 use Rattle.std.proofs.lemmas.Bool.{and_from, and_parts, leb-true, le-leb, lt-ltb, ltb-true}
-use Rattle.ov_event.specs.declared.event.Event as raw
 use Rattle.ov_event.specs.declared.event.Event.TheVariants as says
 use Rattle.ov_host.specs.declared.area.Extent.{Extent}
 use Rattle.ov_value.specs.Naming.{is_name}
 use Rattle.ov_catalog.specs.declared.field.Field.{Field}
 use Rattle.ov_catalog.specs.declared.field.Field.TheVariants as off
-use Rattle.ov_catalog.specs.Applying.{AllFollow, AtStart, InSnapshot, Stage, number_off, off_at, start_of}
-use Rattle.ov_catalog.specs.Events.{Whole, applied}
+use Rattle.ov_catalog.specs.Applying.{AllFollow, InSnapshot, Stage, number_off, off_at, start_of}
 use Rattle.ov_catalog.specs.Numbers.{SetNumbers, Numbers, nothing_yet}
 use Rattle.ov_catalog.specs.Planning.{ascend_from}
-use Rattle.ov_catalog.specs.Raw.{event_in, whole_in}
+use Rattle.ov_catalog.specs.Raw.{whole_in}
 use Rattle.ov_catalog.specs.Testing.{is_named, is_schema, name_off, off_unless}
 use Rattle.ov_catalog.specs.Wholes.{are_versions, are_records, are_parts, is_plan, is_threshold_for, are_placed, whole_off}
 use Rattle.law_snapshots.proofs.Saying.{whole_back}
