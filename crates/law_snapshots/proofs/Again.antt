@@ -68,11 +68,10 @@ within_in_two Checkpoint w = refl
 
 leads_in_two : (ms : List Move) (v w : World) → LeadsByAll v ms w → LeadsByAll (in_two v) ms (in_two w)
 leads_in_two [] v w same = ap in_two same
-leads_in_two (m ∷ ms) v w leads =
-    (
-      suits_in_two m v leads.0,
-      subst (λ u. LeadsByAll u ms (in_two w)) (sym (within_in_two m v)) (leads_in_two ms (moved_within m v) w leads.1),
-    )
+leads_in_two (m ∷ ms) v w leads = (
+  suits_in_two m v leads.0,
+  subst (λ u. LeadsByAll u ms (in_two w)) (sym (within_in_two m v)) (leads_in_two ms (moved_within m v) w leads.1),
+)
 
 leads_on : (ms : List Move) (v w : World) (m : Move) → LeadsByAll v ms w → Suits m w → LeadsByAll v (ms ++ m ∷ []) (moved_within m w)
 leads_on [] v w m same suits = (subst (λ u. Suits m u) (sym same) suits, ap (moved_within m) same)

@@ -312,50 +312,46 @@ whole_carried format (InSnapshot next last) said n is beside passes =
       (
         base,
         subst (λ ns. list_all (λ number. nat_le number said.number) ns ≡ true) (sym (numbers_more n.sets (whole_in said)))
-        (all_push (λ number. nat_le number said.number) (numbers_of n.sets) said.number (below_up_to said.number (numbers_of n.sets) above) (le-leb said.number said.number (omega arith))),
+            (all_push (λ number. nat_le number said.number) (numbers_of n.sets) said.number (below_up_to said.number (numbers_of n.sets) above) (le-leb said.number said.number (omega arith))),
       ),
     )
 
 base_carried : (format : ℕ) (reach : Reach) (next : ℕ) (n : Numbers Extent Extent) → base_off next reach ≡ None → Carried (record { format = format; reach = reach }) (says.Base next) n
-base_carried format AtStart next n passes =
-    (
-      record { next = leb-true 1 next (holds (nat_le 1 next) off.Number passes); few = omega arith; rise = refl; below = refl; names = tt; each = tt },
-      (refl, refl),
-    )
+base_carried format AtStart next n passes = (
+  record { next = leb-true 1 next (holds (nat_le 1 next) off.Number passes); few = omega arith; rise = refl; below = refl; names = tt; each = tt },
+  (refl, refl),
+)
 base_carried format (InSnapshot base last) next n passes = absurd cc
 base_carried format Beyond next n passes = absurd cc
 
 pub one_carried : (stage : Stage) (e : raw.Event) (n : Numbers Extent Extent) → AreWhole n → IsBeside stage.reach n → off_at stage e n ≡ None → Carried stage e n
 one_carried stage (says.Init name schema rows list segment) n is beside passes = init_carried stage name schema rows list segment n is passes
-one_carried stage (says.Commit cvd vid message parents rows fresh place added list segment) n is beside passes =
-    (
-      changed_whole (λ d. with_version (version_of parents message rows fresh list) (place_in place) added (extents_of segment) d) (λ d. refl) (λ d. refl)
+one_carried stage (says.Commit cvd vid message parents rows fresh place added list segment) n is beside passes = (
+  changed_whole (λ d. with_version (version_of parents message rows fresh list) (place_in place) added (extents_of segment) d) (λ d. refl) (λ d. refl)
       (commit_off vid message parents rows fresh (place_in place) added list segment)
       (λ d whole here. commit_whole vid message parents rows fresh (place_in place) added list segment d whole here)
       cvd n is passes,
-      tt,
-    )
+  tt,
+)
 one_carried stage (says.Plan cvd p q targets) n is beside passes =
     (changed_whole (planned p q targets) (λ d. refl) (λ d. refl) (plan_off p q targets) (λ d whole here. plan_whole p q targets d whole here) cvd n is passes, tt)
-one_carried stage (says.Copy cvd count segment) n is beside passes =
-    (
-      changed_whole (copied_more count (extents_of segment)) (λ d. refl) (λ d. refl) (λ d. of_running (copy_off count segment) d.plan)
+one_carried stage (says.Copy cvd count segment) n is beside passes = (
+  changed_whole (copied_more count (extents_of segment)) (λ d. refl) (λ d. refl) (λ d. of_running (copy_off count segment) d.plan)
       (λ d whole here. copy_whole count segment d whole here) cvd n is passes,
-      tt,
-    )
+  tt,
+)
 one_carried stage (says.Flip cvd) n is beside passes =
     (changed_whole flipped flip_number flip_name (λ d. of_running flip_off d.plan) (λ d whole here. flip_whole d whole here) cvd n is passes, tt)
 one_carried stage (says.Drop cvd) n is beside passes = (sets_left (λ d. not (numbered cvd d)) n is, tt)
 one_carried stage (says.Base next) n is beside passes = base_carried stage.format stage.reach next n passes
 one_carried stage (says.Whole said) n is beside passes = whole_carried stage.format stage.reach said n is beside passes
-one_carried stage (says.Wide cvd vid message columns parents rows fresh place added list segment) n is beside passes =
-    (
-      changed_whole (λ d. with_version (version_of parents message rows fresh list) (place_in place) added (extents_of segment) (with_columns columns d)) (λ d. refl) (λ d. refl)
+one_carried stage (says.Wide cvd vid message columns parents rows fresh place added list segment) n is beside passes = (
+  changed_whole (λ d. with_version (version_of parents message rows fresh list) (place_in place) added (extents_of segment) (with_columns columns d)) (λ d. refl) (λ d. refl)
       (wide_off vid message columns parents rows fresh (place_in place) added list segment)
       (λ d whole here. wide_whole vid message columns parents rows fresh (place_in place) added list segment d whole here)
       cvd n is (both_none (format_off stage.format) _ passes).1,
-      tt,
-    )
+  tt,
+)
 
 pub nothing_whole : AreWhole nothing_yet
 nothing_whole = record { next = omega arith; few = omega arith; rise = refl; below = refl; names = tt; each = tt }

@@ -62,12 +62,12 @@ whole_passes d n is name =
   where
     rest : Option Field
     rest = option_or (off_unless (is_schema (spelled d.schema)) off.Schema)
-      (option_or (off_unless (are_versions d.versions) off.Parent)
-      (option_or (off_unless (list_all (λ v. nat_le (length v.message) 1024) d.versions) off.Message)
-      (option_or (off_unless (are_records d) off.Rows)
-      (option_or (off_unless (are_parts d) off.Placing)
-      (option_or (off_unless (is_threshold_for (p_of d.threshold) (q_of d.threshold) d.plan && is_plan d d.plan) off.Plan)
-      (off_unless (are_placed d) off.Place))))))
+        (option_or (off_unless (are_versions d.versions) off.Parent)
+        (option_or (off_unless (list_all (λ v. nat_le (length v.message) 1024) d.versions) off.Message)
+        (option_or (off_unless (are_records d) off.Rows)
+        (option_or (off_unless (are_parts d) off.Placing)
+        (option_or (off_unless (is_threshold_for (p_of d.threshold) (q_of d.threshold) d.plan && is_plan d d.plan) off.Plan)
+        (off_unless (are_placed d) off.Place))))))
 
 -- ---- all of them
 
@@ -125,16 +125,14 @@ one_less next last done d sets left =
 wholes_follow : (format next last : ℕ) (done sets : List Set) → AreLeft next last done sets
     → AllFollow (within format next last) (map (λ d. says.Whole (said_whole d)) sets) (with_done next done)
 wholes_follow format next last done [] left = tt
-wholes_follow format next last done (d ∷ sets) left =
-    (
-      one_passes format next last done d sets left,
-      subst (λ x. AllFollow (within format next d.number) (map (λ y. says.Whole (said_whole y)) sets) (with_done next (done ++ x ∷ []))) (sym (whole_back d left.each.0))
+wholes_follow format next last done (d ∷ sets) left = (
+  one_passes format next last done d sets left,
+  subst (λ x. AllFollow (within format next d.number) (map (λ y. says.Whole (said_whole y)) sets) (with_done next (done ++ x ∷ []))) (sym (whole_back d left.each.0))
       (wholes_follow format next d.number (done ++ d ∷ []) sets (one_less next last done d sets left)),
-    )
+)
 
 pub snapshot_follows : (format : ℕ) (n : Numbers Extent Extent) → AreWhole n → AllFollow (start_of format) (snapshot_in n) nothing_yet
-snapshot_follows format n is =
-    (
-      passes_last (nat_le 1 n.next) off.Number (le-leb 1 n.next is.next),
-      wholes_follow format n.next 0 [] n.sets (record { few = (let few = is.few in omega (arith, few)); rise = is.rise; below = is.below; names = is.names; each = is.each }),
-    )
+snapshot_follows format n is = (
+  passes_last (nat_le 1 n.next) off.Number (le-leb 1 n.next is.next),
+  wholes_follow format n.next 0 [] n.sets (record { few = (let few = is.few in omega (arith, few)); rise = is.rise; below = is.below; names = is.names; each = is.each }),
+)
