@@ -26,6 +26,7 @@ use Rattle.law_snapshots.proofs.Beginning.{init_whole}
 use Rattle.law_snapshots.proofs.Committing.{commit_whole, wide_whole}
 use Rattle.law_snapshots.proofs.Copied.{copy_whole}
 use Rattle.law_snapshots.proofs.Flipped.{flip_whole}
+use Rattle.law_snapshots.proofs.Followed.{any_named, names_more}
 use Rattle.law_snapshots.proofs.Numbering.{AreAmong, among_both, among_more, below_more, below_up_to, new_more, rise_lower, rise_more, up_to_below}
 use Rattle.law_snapshots.proofs.Planned.{plan_whole}
 use Rattle.law_snapshots.proofs.Saying.{p_back, q_back}
@@ -120,17 +121,9 @@ numbers_more : (sets : List Set) (d : Set) → numbers_of (sets ++ d ∷ []) ≡
 numbers_more [] d = refl
 numbers_more (x ∷ sets) d = ap (λ ns. x.number ∷ ns) (numbers_more sets d)
 
-names_more : (sets : List Set) (d : Set) → names_of (sets ++ d ∷ []) ≡ names_of sets ++ d.name ∷ []
-names_more [] d = refl
-names_more (x ∷ sets) d = ap (λ ns. x.name ∷ ns) (names_more sets d)
-
 each_more : (sets : List Set) (d : Set) → AllByRecursion IsWhole sets → IsWhole d → AllByRecursion IsWhole (sets ++ d ∷ [])
 each_more [] d all is = (is, tt)
 each_more (x ∷ sets) d all is = (all.0, each_more sets d all.1 is)
-
-any_named : (name : List ℕ) (sets : List Set) → list_any (λ other. bytes_eq other name) (names_of sets) ≡ list_any (is_named name) sets
-any_named name [] = refl
-any_named name (d ∷ sets) = ap (λ b. bytes_eq d.name name || b) (any_named name sets)
 
 -- what a name's test says
 record IsNewName (name : List ℕ) (sets : List Set) : Type 0 where
@@ -156,7 +149,7 @@ set_more next n d is whole new some one less above =
       rise = subst (λ ns. ascend_from 1 ns ≡ true) (sym (numbers_more n.sets d)) (rise_more 1 (numbers_of n.sets) d.number one above is.rise);
       below = subst (λ ns. list_all (λ number. nat_lt number next) ns ≡ true) (sym (numbers_more n.sets d))
           (all_push (λ number. nat_lt number next) (numbers_of n.sets) d.number (below_more d.number next less (numbers_of n.sets) above) (lt-ltb d.number next less));
-      names = subst (λ ns. AreNew [] ns) (sym (names_more n.sets d)) (new_more [] (names_of n.sets) d.name is.names (any_named d.name n.sets ∙ new.new));
+      names = subst (λ ns. AreNew [] ns) (sym (names_more n.sets d)) (new_more [] (names_of n.sets) d.name is.names (sym (any_named d.name n.sets) ∙ new.new));
       each = each_more n.sets d is.each whole;
     }
 

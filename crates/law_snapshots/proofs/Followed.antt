@@ -85,11 +85,11 @@ record AreLeft (next last : ℕ) (done sets : List Set) : Type 0 where
   names : AreNew (names_of done) (names_of sets)
   each : AllByRecursion IsWhole sets
 
-any_named : (name : List ℕ) (sets : List Set) → list_any (is_named name) sets ≡ list_any (λ other. bytes_eq other name) (names_of sets)
+pub any_named : (name : List ℕ) (sets : List Set) → list_any (is_named name) sets ≡ list_any (λ other. bytes_eq other name) (names_of sets)
 any_named name [] = refl
 any_named name (d ∷ sets) = ap (λ b. bytes_eq d.name name || b) (any_named name sets)
 
-names_more : (done : List Set) (d : Set) → names_of (done ++ d ∷ []) ≡ names_of done ++ d.name ∷ []
+pub names_more : (done : List Set) (d : Set) → names_of (done ++ d ∷ []) ≡ names_of done ++ d.name ∷ []
 names_more [] d = refl
 names_more (x ∷ done) d = ap (λ names. x.name ∷ names) (names_more done d)
 

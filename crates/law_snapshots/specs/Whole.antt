@@ -2,7 +2,7 @@
 -- the dataset.
 --     IsWhole d      of one dataset
 --     AreWhole n      of all, and of their numbers and names
---     IsBeside reach n      how far the half has come
+--     IsBeside reach n      what the numbers are where the half has come so far
 use Rattle.std.specs.Prelude.{◌≡◌, ◌≤◌, ℕ, true, false, nat_le, nat_lt, List, [], ◌∷◌, ◌++◌, length, map, Option, Some, None}
 use Rattle.std.specs.List.{list_all, list_any, AllByRecursion}
 use Rattle.std.specs.Str.{bytes_eq}
