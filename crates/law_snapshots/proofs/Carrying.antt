@@ -27,7 +27,8 @@ use Rattle.law_snapshots.proofs.Committing.{commit_whole, wide_whole}
 use Rattle.law_snapshots.proofs.Copied.{copy_whole}
 use Rattle.law_snapshots.proofs.Flipped.{flip_whole}
 use Rattle.law_snapshots.proofs.Followed.{any_named, names_more}
-use Rattle.law_snapshots.proofs.Numbering.{AreAmong, among_both, among_more, below_more, below_up_to, new_more, rise_lower, rise_more, up_to_below}
+use Rattle.law_snapshots.proofs.Numbering.{AreAmong, among_both, among_more, below_more, below_up_to, new_more, up_to_below}
+use Rattle.law_snapshots.proofs.PartTests.{ascend_last, ascend_lower}
 use Rattle.law_snapshots.proofs.Planned.{plan_whole}
 use Rattle.law_snapshots.proofs.Saying.{p_back, q_back}
 use Rattle.law_snapshots.proofs.Tests.{all_push}
@@ -146,7 +147,7 @@ set_more next n d is whole new some one less above =
     in record {
       next = some;
       few = omega (arith, few, long);
-      rise = subst (λ ns. ascend_from 1 ns ≡ true) (sym (numbers_more n.sets d)) (rise_more 1 (numbers_of n.sets) d.number one above is.rise);
+      rise = subst (λ ns. ascend_from 1 ns ≡ true) (sym (numbers_more n.sets d)) (ascend_last 1 d.number (numbers_of n.sets) is.rise above one);
       below = subst (λ ns. list_all (λ number. nat_lt number next) ns ≡ true) (sym (numbers_more n.sets d))
           (all_push (λ number. nat_lt number next) (numbers_of n.sets) d.number (below_more d.number next less (numbers_of n.sets) above) (lt-ltb d.number next less));
       names = subst (λ ns. AreNew [] ns) (sym (names_more n.sets d)) (new_more [] (names_of n.sets) d.name is.names (sym (any_named d.name n.sets) ∙ new.new));
@@ -189,7 +190,7 @@ rise_left least p (d ∷ sets) rise =
   where
     by : (b : Bool) → nat_le least d.number ≡ true → ascend_from (d.number + 1) (numbers_of (filter p sets)) ≡ true → ascend_from least (numbers_of (cond b (d ∷ filter p sets) (filter p sets))) ≡ true
     by true own rest = and_from (nat_le least d.number) (ascend_from (d.number + 1) (numbers_of (filter p sets))) own rest
-    by false own rest = let up = leb-true least d.number own in rise_lower least (d.number + 1) (numbers_of (filter p sets)) (omega (arith, up)) rest
+    by false own rest = let up = leb-true least d.number own in ascend_lower least (d.number + 1) (numbers_of (filter p sets)) (omega (arith, up)) rest
 
 names_left : (few many : List (List ℕ)) (p : Set → Bool) (sets : List Set) → AreAmong few many → AreNew many (names_of sets) → AreNew few (names_of (filter p sets))
 names_left few many p [] among are = tt

@@ -14,7 +14,8 @@ use Rattle.ov_catalog.specs.Numbers.{PartNumbers, SetNumbers}
 use Rattle.ov_catalog.specs.Planning.{ascend_from}
 use Rattle.ov_catalog.specs.Testing.{part_serving, part_numbered, id_in}
 use Rattle.ov_catalog.specs.Wholes.{are_there, are_parts, is_part, parts_serving, targets_left}
-use Rattle.law_snapshots.proofs.Tests.{all_more, all_push, at_most, are_below, counted_at, counted_all, one_passes, none_above, one_stays, one_last, one_other, ascend_push}
+use Rattle.law_snapshots.proofs.Tests.{all_more, all_push, at_most, are_below, counted_at, counted_all, none_above, one_stays, one_last, one_other}
+use Rattle.law_snapshots.proofs.PartTests.{all_at, ascend_last}
 
 abbrev pub ids_of : List (PartNumbers Extent) → List ℕ
 ids_of parts = map (λ part. part.id) parts
@@ -103,7 +104,7 @@ part_test count records part is =
 -- the versions that it serves are there, since it holds them
 serves_there : (count records : ℕ) (part : PartNumbers Extent) → IsPart count records part → list_all (λ (vid : ℕ). nat_le vid count) part.versions ≡ true
 serves_there count records part is =
-    all_more (is_one part.holds) (λ (vid : ℕ). nat_le vid count) part.versions (λ vid one. one_passes (λ (v : ℕ). nat_le v count) part.holds vid is.there one) is.held
+    all_more (is_one part.holds) (λ (vid : ℕ). nat_le vid count) part.versions (λ vid one. all_at (λ (v : ℕ). nat_le v count) part.holds vid is.there one) is.held
 
 -- with more versions and records there
 part_more : (count more records all : ℕ) (part : PartNumbers Extent) → count ≤ more → records ≤ all → is_part count records part ≡ true → is_part more all part ≡ true
@@ -134,8 +135,8 @@ joined_is_part count records more all vid added segments part lt le few h =
       held =
           let holds = part.holds ++ vid ∷ [] in
           all_push (is_one holds) part.versions vid (all_more (is_one part.holds) (is_one holds) part.versions (λ v one. one_stays part.holds vid v one) is.held) (one_last part.holds vid);
-      rise = ascend_push 1 part.versions vid is.rise (are_below count vid part.versions lt (serves_there count records part is)) (omega (arith, lt));
-      holds = ascend_push 1 part.holds vid is.holds (are_below count vid part.holds lt is.there) (omega (arith, lt));
+      rise = ascend_last 1 vid part.versions is.rise (are_below count vid part.versions lt (serves_there count records part is)) (omega (arith, lt));
+      holds = ascend_last 1 vid part.holds is.holds (are_below count vid part.holds lt is.there) (omega (arith, lt));
       there = all_push (λ (v : ℕ). nat_le v more) part.holds vid (at_most count more part.holds (omega (arith, lt, le)) is.there) (le-leb vid more le);
       few = few;
     })
@@ -270,7 +271,7 @@ own_parted count more records all next added segments parts are is few some firs
   rise =
       let ids = map_push (λ (part : PartNumbers Extent). part.id) parts (own_part next (count + 1) added segments) in
       let low = list_all-map (λ (n : ℕ). nat_lt n next) (λ (part : PartNumbers Extent). part.id) parts ∙ are.below in
-      subst (λ (ns : List ℕ). ascend_from 1 ns ≡ true) (sym ids) (ascend_push 1 (ids_of parts) next are.rise low first);
+      subst (λ (ns : List ℕ). ascend_from 1 ns ≡ true) (sym ids) (ascend_last 1 next (ids_of parts) are.rise low first);
   below =
       all_push (λ (part : PartNumbers Extent). nat_lt part.id (next + 1)) parts (own_part next (count + 1) added segments)
       (all_more (λ (part : PartNumbers Extent). nat_lt part.id next) (λ (part : PartNumbers Extent). nat_lt part.id (next + 1)) parts

@@ -1,10 +1,9 @@
 -- Lists of numbers that ascend and of names that differ: one more at the end, and some left out.
-use Rattle.std.proofs.Common.{◌≡◌, ◌≤◌, ◌<◌, ℕ, ◌+◌, Bool, true, false, List, [], ◌∷◌, ◌++◌, refl, ap, subst, arith}
+use Rattle.std.proofs.Common.{◌≡◌, ◌<◌, ℕ, Bool, true, false, List, [], ◌∷◌, ◌++◌, refl, ap, subst, arith}
 use Rattle.std.specs.Prelude.{nat_le, nat_lt}
 use Rattle.std.specs.List.{list_all, list_any}
 use Rattle.std.specs.Str.{bytes_eq}
-use Rattle.std.proofs.lemmas.Bool.{and_from, and_parts, leb-true, le-leb, lt-ltb, ltb-true, or_from, or_parts}
-use Rattle.ov_catalog.specs.Planning.{ascend_from}
+use Rattle.std.proofs.lemmas.Bool.{leb-true, le-leb, lt-ltb, ltb-true, or_from, or_parts}
 use Rattle.law_snapshots.proofs.Tests.{all_more}
 use Rattle.law_snapshots.specs.Whole.{AreNew}
 
@@ -18,21 +17,6 @@ up_to_below last m less ns all = all_more (λ n. nat_le n last) (λ n. nat_lt n 
 
 pub below_up_to : (m : ℕ) (ns : List ℕ) → list_all (λ n. nat_lt n m) ns ≡ true → list_all (λ n. nat_le n m) ns ≡ true
 below_up_to m ns all = all_more (λ n. nat_lt n m) (λ n. nat_le n m) ns (λ n low. let lt = ltb-true n m low in le-leb n m (omega (arith, lt))) all
-
-pub rise_lower : (low least : ℕ) (ns : List ℕ) → low ≤ least → ascend_from least ns ≡ true → ascend_from low ns ≡ true
-rise_lower low least [] le rise = refl
-rise_lower low least (n ∷ ns) le rise =
-    let both = and_parts (nat_le least n) (ascend_from (n + 1) ns) rise
-    in let up = leb-true least n both.0
-    in and_from (nat_le low n) (ascend_from (n + 1) ns) (le-leb low n (omega (arith, le, up))) both.1
-
-pub rise_more : (least : ℕ) (ns : List ℕ) (m : ℕ) → least ≤ m → list_all (λ n. nat_lt n m) ns ≡ true → ascend_from least ns ≡ true → ascend_from least (ns ++ m ∷ []) ≡ true
-rise_more least [] m le all rise = and_from (nat_le least m) true (le-leb least m le) refl
-rise_more least (n ∷ ns) m le all rise =
-    let both = and_parts (nat_le least n) (ascend_from (n + 1) ns) rise
-    in let low = and_parts (nat_lt n m) (list_all (λ k. nat_lt k m) ns) all
-    in let less = ltb-true n m low.0
-    in and_from (nat_le least n) (ascend_from (n + 1) (ns ++ m ∷ [])) both.0 (rise_more (n + 1) ns m (omega (arith, less)) low.1 both.1)
 
 -- ---- names
 

@@ -14,7 +14,8 @@ use Rattle.ov_catalog.specs.Numbers.{PartNumbers, TargetNumbers, PlanNumbers, Se
 use Rattle.ov_catalog.specs.Planning.{ascend_from, meets, is_kept, is_source}
 use Rattle.ov_catalog.specs.Testing.{part_numbered, targets_from}
 use Rattle.ov_catalog.specs.Wholes.{are_there, is_target, are_targets, serves_only, are_sources, is_plan}
-use Rattle.law_snapshots.proofs.Tests.{all_push, at_most, one_passes}
+use Rattle.law_snapshots.proofs.Tests.{all_push, at_most}
+use Rattle.law_snapshots.proofs.PartTests.{all_at}
 use Rattle.law_snapshots.proofs.Joining.{numbered_passes, numbered_id, all_joined}
 
 -- ---- targets, with more versions and records there
@@ -106,7 +107,7 @@ other_source : (source : ℕ) (vids : List ℕ) (part : PartNumbers Extent) (vid
     → eqb part.id source ≡ false
 other_source source vids part vid h serves away =
     elim (cases_Bool (eqb part.id source)) [
-      | inl e ↦ let all : list_all (is_one vids) part.versions ≡ true = rw e at h in let there = one_passes (is_one vids) part.versions vid all serves in absurd cc
+      | inl e ↦ let all : list_all (is_one vids) part.versions ≡ true = rw e at h in let there = all_at (is_one vids) part.versions vid all serves in absurd cc
       | inr e ↦ e
     ]
 

@@ -2,14 +2,13 @@
 use Rattle.std.proofs.Common.{◌≡◌, ◌<◌, ◌≤◌, ◌+◌, ℕ, zero, suc, Bool, true, false, not, ◌&&◌, ◌||◌, eqb, List, [], ◌∷◌, ◌++◌, length, refl, sym, ap, subst, ◌∙◌, inl, inr, arith}
 use Rattle.std.specs.Prelude.{nat_le, nat_lt, if◌then◌else◌}
 use Rattle.std.specs.List.{list_all}
-use Rattle.std.proofs.lemmas.Bool.{cases_Bool, cases_lt, and_from, and_parts, or_from, or_left, or_right, not_from_false, eq-eqb, ne_eqb, eqb-true, le-leb, leb-true, lt-ltb, ltb-true}
+use Rattle.std.proofs.lemmas.Bool.{cases_lt, and_from, and_parts, or_from, or_left, or_right, not_from_false, eq-eqb, ne_eqb, le-leb, leb-true, lt-ltb}
 use Rattle.std.proofs.lemmas.List.{length-append}
 use Rattle.std.proofs.lemmas.List.Folds.{list_all-append, list_any-append}
 use Rattle.ov_host.specs.declared.area.Extent.{Extent}
 use Rattle.ov_layout.specs.Changes.{extents_of}
 use Rattle.ov_model.specs.Records.{counted}
 use Rattle.ov_catalog.specs.Events.{is_one}
-use Rattle.ov_catalog.specs.Planning.{ascend_from}
 use Rattle.ov_catalog.specs.Testing.{is_same, is_extent, is_segment}
 use Rattle.ov_catalog.specs.Wholes.{are_segments}
 
@@ -42,15 +41,6 @@ counted_all p from (suc count) each =
 
 -- ---- lists of versions
 
-pub one_passes : (p : ℕ → Bool) (ns : List ℕ) (n : ℕ) → list_all p ns ≡ true → is_one ns n ≡ true → p n ≡ true
-one_passes p [] n all there = absurd cc
-one_passes p (m ∷ ns) n all there =
-    let both = and_parts (p m) (list_all p ns) all in
-    elim (cases_Bool (eqb m n)) [
-      | inl e ↦ subst (λ (k : ℕ). p k ≡ true) (eqb-true m n e) both.0
-      | inr e ↦ one_passes p ns n both.1 (rw e at there)
-    ]
-
 pub none_above : (limit : ℕ) (ns : List ℕ) (n : ℕ) → list_all (λ (m : ℕ). nat_le m limit) ns ≡ true → limit < n → is_one ns n ≡ false
 none_above limit [] n all lt = refl
 none_above limit (m ∷ ns) n all lt =
@@ -81,14 +71,6 @@ or_none false = refl
 
 pub one_other : (ns : List ℕ) (m n : ℕ) → eqb m n ≡ false → is_one (ns ++ m ∷ []) n ≡ is_one ns n
 one_other ns m n other = one_push ns m n ∙ ap (λ (b : Bool). is_one ns n || (b || false)) other ∙ or_none (is_one ns n)
-
-pub ascend_push : (least : ℕ) (ns : List ℕ) (n : ℕ) → ascend_from least ns ≡ true → list_all (λ (m : ℕ). nat_lt m n) ns ≡ true → least ≤ n → ascend_from least (ns ++ n ∷ []) ≡ true
-ascend_push least [] n rise low le = and_from (nat_le least n) true (le-leb least n le) refl
-ascend_push least (m ∷ ns) n rise low le =
-    let both = and_parts (nat_le least m) (ascend_from (m + 1) ns) rise in
-    let below = and_parts (nat_lt m n) (list_all (λ (k : ℕ). nat_lt k n) ns) low in
-    let lt = ltb-true m n below.0 in
-    and_from (nat_le least m) (ascend_from (m + 1) (ns ++ n ∷ [])) both.0 (ascend_push (m + 1) ns n both.1 below.1 (omega (arith, lt)))
 
 -- ---- segments
 
