@@ -1,9 +1,9 @@
 //! Commits in bytes.
 
 ghost use Rattle.std.specs.Prelude.{◌≡◌, ◌++◌, ◌<◌, ◌^◌, length, OnOk, ◌∷◌, []};
-ghost use Rattle.ov_event.specs.Fields.{fields, u8, u32, text, extent};
+ghost use Rattle.ov_event.specs.Fields.{fields, u8, u32, text, extent, IsU32, IsText, IsExtent};
 ghost use Rattle.ov_event.specs.Fitting.{Few};
-ghost use Rattle.ov_event.specs.Spelling.{place, parents as parents_bytes};
+ghost use Rattle.ov_event.specs.Spelling.{place, parents as parents_bytes, IsPlaced, AreParents};
 ghost use Rattle.ov_event.specs.Reading.{Gives};
 ghost use Rattle.ov_event.specs.Records.{place_at};
 ghost use Rattle.ov_event.specs.Events.{tail_at, commit_at, wide_at};
@@ -45,7 +45,8 @@ fn place_of(alloc: Global, bytes: &[u8]) -> Result<(Placed, &[u8]), Stop>
 
 #[tactic(auto, unfolding(crate::specs::Spelling::place))]
 fn write_place(placed: Placed, out: &mut Vec<u8>) -> Result<(), AllocError>
-    ensures { OnOk result (out.new.items ≡ out.old.items ++ place placed) }
+    ensures written { OnOk result (out.new.items ≡ out.old.items ++ place placed) }
+    ensures sound { OnOk result (IsPlaced placed) }
 {
     match placed {
         Placed::Own => 0u8.write(out),
@@ -135,7 +136,8 @@ pub(crate) fn write_head(
     out: &mut Vec<u8>,
 ) -> Result<(), AllocError>
     requires { Few 32 message.now }
-    ensures { OnOk result (out.new.items ≡ out.old.items ++ fields (u32 cvd ∷ u32 vid ∷ text message.now ∷ [])) }
+    ensures written { OnOk result (out.new.items ≡ out.old.items ++ fields (u32 cvd ∷ u32 vid ∷ text message.now ∷ [])) }
+    ensures sound { OnOk result (IsU32 cvd × IsU32 vid × IsText message.now) }
 {
     cvd.write(out)?;
     vid.write(out)?;
@@ -150,7 +152,8 @@ pub(crate) fn write_rows(
     out: &mut Vec<u8>,
 ) -> Result<(), AllocError>
     requires { Few 16 parents.now }
-    ensures { OnOk result (out.new.items ≡ out.old.items ++ fields (parents_bytes parents.now ∷ u32 rows ∷ u32 fresh ∷ [])) }
+    ensures written { OnOk result (out.new.items ≡ out.old.items ++ fields (parents_bytes parents.now ∷ u32 rows ∷ u32 fresh ∷ [])) }
+    ensures sound { OnOk result (AreParents parents.now × IsU32 rows × IsU32 fresh) }
 {
     write_parents(parents.as_slice(), out)?;
     rows.write(out)?;
@@ -165,7 +168,8 @@ pub(crate) fn write_placed(
     segment: &Extent,
     out: &mut Vec<u8>,
 ) -> Result<(), AllocError>
-    ensures { OnOk result (out.new.items ≡ out.old.items ++ fields (place placed ∷ u32 added ∷ extent list.now ∷ extent segment.now ∷ [])) }
+    ensures written { OnOk result (out.new.items ≡ out.old.items ++ fields (place placed ∷ u32 added ∷ extent list.now ∷ extent segment.now ∷ [])) }
+    ensures sound { OnOk result (IsPlaced placed × IsU32 added × IsExtent list.now × IsExtent segment.now) }
 {
     write_place(placed, out)?;
     added.write(out)?;

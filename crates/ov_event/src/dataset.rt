@@ -1,7 +1,7 @@
 //! Datasets as they stand, in bytes.
 
 ghost use Rattle.std.specs.Prelude.{◌≡◌, ◌++◌, OnOk};
-ghost use Rattle.ov_event.specs.Spelling.{version, part, dataset};
+ghost use Rattle.ov_event.specs.Spelling.{version, part, dataset, IsVersion, IsPart, IsDataset};
 ghost use Rattle.ov_event.specs.Fitting.{VersionFits, PartFits, DatasetFits};
 ghost use Rattle.ov_event.specs.Reading.{Gives};
 ghost use Rattle.ov_event.specs.Records.{version_at, part_at, dataset_at};
@@ -23,6 +23,8 @@ impl Field for RawVersion {
     ghost spelled = { version };
 
     ghost fits = { VersionFits };
+
+    ghost is = { IsVersion };
 
     #[tactic(auto, unfolding(crate::specs::Records::version_at))]
     fn read(alloc: Global, bytes: &[u8]) -> Result<(RawVersion, &[u8]), Stop> {
@@ -58,6 +60,8 @@ impl Field for RawPart {
 
     ghost fits = { PartFits };
 
+    ghost is = { IsPart };
+
     #[tactic(auto, unfolding(crate::specs::Records::part_at))]
     fn read(alloc: Global, bytes: &[u8]) -> Result<(RawPart, &[u8]), Stop> {
         let (id, rest) = u32::read(alloc, bytes)?;
@@ -91,6 +95,8 @@ impl Field for Whole {
     ghost spelled = { dataset };
 
     ghost fits = { DatasetFits };
+
+    ghost is = { IsDataset };
 
     #[tactic(auto, unfolding(crate::specs::Records::dataset_at))]
     fn read(alloc: Global, bytes: &[u8]) -> Result<(Whole, &[u8]), Stop> {

@@ -2,7 +2,7 @@
 
 ghost use Rattle.std.specs.Prelude.{◌≡◌, ◌++◌, ℕ, ◌<◌, ◌^◌, List, Option, length, OnOk};
 ghost use Rattle.std.specs.Int.{w32};
-ghost use Rattle.ov_event.specs.Fields.{u8, u16, u32, text, extent};
+ghost use Rattle.ov_event.specs.Fields.{u8, u16, u32, text, extent, IsU8, IsU32, IsText, IsExtent};
 ghost use Rattle.ov_event.specs.Spelling.{parent};
 ghost use Rattle.ov_event.specs.Records.{parent_at};
 ghost use Rattle.ov_event.specs.Reading.{Gives, u8_at, u16_at, u32_at, text_at, front_at, extent_at};
@@ -24,6 +24,9 @@ pub(crate) trait Field: Drop {
     /// Its lengths and numbers of items fit their fields.
     ghost fits: { Self → Type 0 };
 
+    /// It has a spelling: its numbers fit too, and its texts are UTF-8.
+    ghost is: { Self → Type 0 };
+
     /// The value at the front of the bytes, and the bytes after it.
     fn read(alloc: Global, bytes: &[u8]) -> Result<(Self, &[u8]), Stop>
         ensures { Gives (λ x. (x.0, x.1.now)) result (at bytes.now) };
@@ -31,7 +34,8 @@ pub(crate) trait Field: Drop {
     /// Writes it at the end.
     fn write(&self, out: &mut Vec<u8>) -> Result<(), AllocError>
         requires { fits self.now }
-        ensures { OnOk result (out.new.items ≡ out.old.items ++ spelled self.now) };
+        ensures written { OnOk result (out.new.items ≡ out.old.items ++ spelled self.now) }
+        ensures sound { OnOk result (is self.now) };
 }
 
 impl Field for u8 {
@@ -40,6 +44,8 @@ impl Field for u8 {
     ghost spelled = { u8 };
 
     ghost fits = { λ _. Unit };
+
+    ghost is = { IsU8 };
 
     fn read(alloc: Global, bytes: &[u8]) -> Result<(u8, &[u8]), Stop> {
         match bytes {
@@ -60,6 +66,8 @@ impl Field for u32 {
     ghost spelled = { u32 };
 
     ghost fits = { λ _. Unit };
+
+    ghost is = { IsU32 };
 
     #[tactic(auto, unfolding(crate::specs::Reading::u32_at))]
     fn read(alloc: Global, bytes: &[u8]) -> Result<(u32, &[u8]), Stop> {
@@ -84,6 +92,8 @@ impl Field for Extent {
 
     ghost fits = { λ _. Unit };
 
+    ghost is = { IsExtent };
+
     #[tactic(auto, unfolding(crate::specs::Reading::extent_at))]
     fn read(alloc: Global, bytes: &[u8]) -> Result<(Extent, &[u8]), Stop> {
         let (page, rest) = u32::read(alloc, bytes)?;
@@ -104,6 +114,8 @@ impl Field for Txt {
     ghost spelled = { text };
 
     ghost fits = { λ t. length t < 2 ^ 32 };
+
+    ghost is = { IsText };
 
     #[tactic(auto, unfolding(crate::specs::Reading::text_at))]
     fn read(alloc: Global, bytes: &[u8]) -> Result<(Txt, &[u8]), Stop> {
@@ -129,6 +141,8 @@ impl Field for (u32, u32) {
     ghost spelled = { parent };
 
     ghost fits = { λ _. Unit };
+
+    ghost is = { λ p. IsU32 p.0 × IsU32 p.1 };
 
     #[tactic(auto, unfolding(crate::specs::Records::parent_at))]
     fn read(alloc: Global, bytes: &[u8]) -> Result<((u32, u32), &[u8]), Stop> {

@@ -5,6 +5,7 @@ mod commit;
 mod dataset;
 mod event;
 mod field;
+mod fitting;
 mod laws;
 mod list;
 mod plan;
@@ -15,6 +16,7 @@ mod whole;
 mod writing;
 
 pub use event::{Event, Placed, PlanTarget, RawSchema};
+pub use fitting::whole_fits;
 pub use laws::one_event;
 pub use ov_items::Items;
 pub use reading::read_event;

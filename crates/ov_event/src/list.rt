@@ -2,10 +2,10 @@
 
 ghost use Rattle.std.specs.Prelude.{◌≡◌, ◌++◌, ◌<◌, ◌^◌, length, OnOk};
 ghost use Rattle.std.specs.Int.{w16};
-ghost use Rattle.ov_event.specs.Spelling.{parents};
+ghost use Rattle.ov_event.specs.Spelling.{parents, AreParents};
 ghost use Rattle.ov_event.specs.Records.{parents_at};
-ghost use Rattle.std.specs.List.{flat_map, All};
-ghost use Rattle.ov_event.specs.Fields.{u8, u16, u32, counted};
+ghost use Rattle.std.specs.List.{flat_map, All, AllByRecursion};
+ghost use Rattle.ov_event.specs.Fields.{u8, u16, u32, counted, AreFew};
 ghost use Rattle.ov_event.specs.Reading.{Gives, items_at, counted_at, u8_at, u16_at, u32_at};
 
 use crate::field::Field;
@@ -29,7 +29,8 @@ fn items_of<T: Field>(alloc: Global, count: usize, bytes: &[u8]) -> Result<(Item
 
 fn write_items<T: Field>(items: &[T], out: &mut Vec<u8>) -> Result<(), AllocError>
     requires { All T.fits items.now }
-    ensures { OnOk result (out.new.items ≡ out.old.items ++ flat_map T.spelled items.now) }
+    ensures written { OnOk result (out.new.items ≡ out.old.items ++ flat_map T.spelled items.now) }
+    ensures sound { OnOk result (AllByRecursion T.is items.now) }
 {
     for item in items {
         item.write(out)?;
@@ -43,6 +44,8 @@ impl<T: Field> Field for Items<T> {
     ghost spelled = { counted u32 T.spelled };
 
     ghost fits = { λ xs. (length xs < 2 ^ 32) × All T.fits xs };
+
+    ghost is = { AreFew 32 T.is };
 
     #[tactic(auto, unfolding(crate::specs::Reading::counted_at))]
     fn read(alloc: Global, bytes: &[u8]) -> Result<(Items<T>, &[u8]), Stop> {
@@ -70,7 +73,8 @@ pub(crate) fn few_of<T: Field>(alloc: Global, bytes: &[u8]) -> Result<(Items<T>,
 pub(crate) fn write_few<T: Field>(items: &[T], out: &mut Vec<u8>) -> Result<(), AllocError>
     requires few { length items.now < 2 ^ 8 }
     requires each { All T.fits items.now }
-    ensures { OnOk result (out.new.items ≡ out.old.items ++ counted u8 T.spelled items.now) }
+    ensures written { OnOk result (out.new.items ≡ out.old.items ++ counted u8 T.spelled items.now) }
+    ensures sound { OnOk result (AreFew 8 T.is items.now) }
 {
     (items.len() as u8).write(out)?;
     write_items(items, out)
@@ -99,7 +103,8 @@ pub(crate) fn parents_of(alloc: Global, bytes: &[u8]) -> Result<(Items<(u32, u32
 #[tactic(auto, unfolding(crate::specs::Fields::counted, crate::specs::Fields::u16))]
 pub(crate) fn write_parents(items: &[(u32, u32)], out: &mut Vec<u8>) -> Result<(), AllocError>
     requires { length items.now < 2 ^ 16 }
-    ensures { OnOk result (out.new.items ≡ out.old.items ++ parents items.now) }
+    ensures written { OnOk result (out.new.items ≡ out.old.items ++ parents items.now) }
+    ensures sound { OnOk result (AreParents items.now) }
 {
     out.extend_from_slice(&(items.len() as u16).to_be_bytes())?;
     write_items(items, out)

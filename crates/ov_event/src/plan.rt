@@ -1,7 +1,7 @@
 //! The targets of plans, and migrations, in bytes.
 
 ghost use Rattle.std.specs.Prelude.{◌≡◌, ◌++◌, OnOk};
-ghost use Rattle.ov_event.specs.Spelling.{target, raw_target, raw_plan, maybe_plan};
+ghost use Rattle.ov_event.specs.Spelling.{target, raw_target, raw_plan, maybe_plan, IsTarget, IsRawTarget, IsRawPlan, IsMaybePlan};
 ghost use Rattle.ov_event.specs.Fitting.{TargetFits, RawTargetFits, RawPlanFits, MaybePlanFits};
 ghost use Rattle.ov_event.specs.Reading.{Gives};
 ghost use Rattle.ov_event.specs.Records.{target_at, raw_target_at, raw_plan_at, maybe_plan_at};
@@ -19,6 +19,8 @@ impl Field for PlanTarget {
     ghost spelled = { target };
 
     ghost fits = { TargetFits };
+
+    ghost is = { IsTarget };
 
     #[tactic(auto, unfolding(crate::specs::Records::target_at))]
     fn read(alloc: Global, bytes: &[u8]) -> Result<(PlanTarget, &[u8]), Stop> {
@@ -50,6 +52,8 @@ impl Field for RawTarget {
     ghost spelled = { raw_target };
 
     ghost fits = { RawTargetFits };
+
+    ghost is = { IsRawTarget };
 
     #[tactic(auto, unfolding(crate::specs::Records::raw_target_at))]
     fn read(alloc: Global, bytes: &[u8]) -> Result<(RawTarget, &[u8]), Stop> {
@@ -84,6 +88,8 @@ impl Field for RawPlan {
     ghost spelled = { raw_plan };
 
     ghost fits = { RawPlanFits };
+
+    ghost is = { IsRawPlan };
 
     #[tactic(auto, unfolding(crate::specs::Records::raw_plan_at))]
     fn read(alloc: Global, bytes: &[u8]) -> Result<(RawPlan, &[u8]), Stop> {
@@ -127,7 +133,8 @@ pub(crate) fn maybe_plan_of(alloc: Global, bytes: &[u8]) -> Result<(Option<RawPl
 #[tactic(auto, unfolding(crate::specs::Spelling::maybe_plan))]
 pub(crate) fn write_maybe_plan(plan: &Option<RawPlan>, out: &mut Vec<u8>) -> Result<(), AllocError>
     requires { MaybePlanFits plan.now }
-    ensures { OnOk result (out.new.items ≡ out.old.items ++ maybe_plan plan.now) }
+    ensures written { OnOk result (out.new.items ≡ out.old.items ++ maybe_plan plan.now) }
+    ensures sound { OnOk result (IsMaybePlan plan.now) }
 {
     match plan {
         None => 0u8.write(out),

@@ -2,7 +2,7 @@
 
 ghost use Rattle.std.specs.Prelude.{◌≡◌, ◌++◌, length, OnOk};
 ghost use Rattle.ov_event.specs.Fields.{u8};
-ghost use Rattle.ov_event.specs.Spelling.{column, schema, kind_code};
+ghost use Rattle.ov_event.specs.Spelling.{column, schema, kind_code, IsColumn, IsSchema};
 ghost use Rattle.ov_event.specs.Fitting.{ColumnFits, SchemaFits};
 ghost use Rattle.ov_event.specs.Reading.{Gives};
 ghost use Rattle.ov_event.specs.Records.{column_at, kind_at, schema_at};
@@ -43,6 +43,8 @@ impl Field for Column {
 
     ghost fits = { ColumnFits };
 
+    ghost is = { IsColumn };
+
     #[tactic(auto, unfolding(crate::specs::Records::column_at))]
     fn read(alloc: Global, bytes: &[u8]) -> Result<(Column, &[u8]), Stop> {
         let (name, rest) = Txt::read(alloc, bytes)?;
@@ -63,6 +65,8 @@ impl Field for RawSchema {
     ghost spelled = { schema };
 
     ghost fits = { SchemaFits };
+
+    ghost is = { IsSchema };
 
     #[tactic(auto, unfolding(crate::specs::Records::schema_at))]
     fn read(alloc: Global, bytes: &[u8]) -> Result<(RawSchema, &[u8]), Stop> {

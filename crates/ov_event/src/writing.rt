@@ -1,9 +1,9 @@
 //! From an event to its bytes.
 
 ghost use Rattle.std.specs.Prelude.{◌≡◌, ◌++◌, IfOk, OnOk, ◌∷◌, []};
-ghost use Rattle.ov_event.specs.Fields.{fields, u8, u32, text, extent};
+ghost use Rattle.ov_event.specs.Fields.{fields, u8, u32, text, extent, IsU32, IsText, IsExtent};
 ghost use Rattle.ov_event.specs.Fitting.{Fits, Few, SchemaFits, ColumnsFit};
-ghost use Rattle.ov_event.specs.Spelling.{spelling, schema as schema_bytes};
+ghost use Rattle.ov_event.specs.Spelling.{spelling, schema as schema_bytes, IsSchema, IsEvent};
 
 use crate::commit::{write_head, write_placed, write_rows};
 use crate::event::{Event, RawSchema};
@@ -14,20 +14,23 @@ use ov_items::Items;
 use ov_value::Txt;
 use std::alloc::{AllocError, Global};
 
-/// The one spelling of an event, of which each length and number of items fits its field.
+/// The one spelling of an event, of which each length and number of items fits its field. Its numbers fit and its
+/// texts are UTF-8 by their types: so it is an event.
 pub fn bytes_of(alloc: Global, event: &Event) -> Result<Items<u8>, AllocError>
     requires { Fits event.now }
-    ensures { IfOk result (λ bytes. bytes ≡ spelling event.now) }
+    ensures written { IfOk result (λ bytes. bytes ≡ spelling event.now) }
+    ensures event { OnOk result (IsEvent event.now) }
 {
     let mut out = Vec::new(alloc);
     write_event(event, &mut out)?;
     Ok(Items::new(out))
 }
 
-#[tactic(auto, unfolding(crate::specs::Spelling::spelling))]
+#[tactic(auto, unfolding(crate::specs::Spelling::spelling, crate::specs::Spelling::IsEvent))]
 fn write_event(event: &Event, out: &mut Vec<u8>) -> Result<(), AllocError>
     requires { Fits event.now }
-    ensures { OnOk result (out.new.items ≡ out.old.items ++ spelling event.now) }
+    ensures written { OnOk result (out.new.items ≡ out.old.items ++ spelling event.now) }
+    ensures sound { OnOk result (IsEvent event.now) }
 {
     match event {
         Event::Init {
@@ -104,7 +107,8 @@ fn write_event(event: &Event, out: &mut Vec<u8>) -> Result<(), AllocError>
 }
 
 fn write_number(tag: u8, number: u32, out: &mut Vec<u8>) -> Result<(), AllocError>
-    ensures { OnOk result (out.new.items ≡ out.old.items ++ fields (u8 tag ∷ u32 number ∷ [])) }
+    ensures written { OnOk result (out.new.items ≡ out.old.items ++ fields (u8 tag ∷ u32 number ∷ [])) }
+    ensures sound { OnOk result (IsU32 number) }
 {
     tag.write(out)?;
     number.write(out)
@@ -120,8 +124,9 @@ fn write_init(
 ) -> Result<(), AllocError>
     requires name { Few 32 name.now }
     requires schema { SchemaFits schema.now }
-    ensures { OnOk result (out.new.items ≡ out.old.items
+    ensures written { OnOk result (out.new.items ≡ out.old.items
         ++ fields (text name.now ∷ schema_bytes schema.now ∷ u32 rows ∷ extent list.now ∷ extent segment.now ∷ [])) }
+    ensures sound { OnOk result (IsText name.now × IsSchema schema.now × IsU32 rows × IsExtent list.now × IsExtent segment.now) }
 {
     name.write(out)?;
     schema.write(out)?;
