@@ -162,7 +162,7 @@ built_are = (
                   cvd_is (codes "drop") asks.DropCvd (λ cvd. tt),
                   (
                     alone_is (codes "ls") asks.Ls tt,
-                    (generate_is, tt),
+                    (alone_is (codes "checkpoint") asks.Checkpoint tt, (generate_is, tt)),
                   ),
                 ),
               ),

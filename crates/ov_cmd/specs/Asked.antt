@@ -4,7 +4,7 @@
 use Rattle.std.specs.Prelude.{◌≡◌, ◌≢◌, ◌≤◌, ◌+◌, [], length, Option, Some, None, IsTrue}
 use Rattle.ov_value.specs.Naming.{is_name}
 use Rattle.ov_model.specs.declared.command.Command.{Command}
-use Rattle.ov_model.specs.declared.command.Command.TheVariants.{Init, Checkout, Commit, Run, Layout, Log, Ls, DropCvd, Generate, Optimize, Migrate}
+use Rattle.ov_model.specs.declared.command.Command.TheVariants.{Init, Checkout, Commit, Run, Layout, Log, Ls, DropCvd, Checkpoint, Generate, Optimize, Migrate}
 
 abbrev pub IsAsked : Command → Type 0
 IsAsked (Init cvd schema file) = IsTrue (is_name cvd)
@@ -15,6 +15,7 @@ IsAsked (Layout cvd) = Unit {0}
 IsAsked (Log cvd) = Unit {0}
 IsAsked Ls = Unit {0}
 IsAsked (DropCvd cvd) = Unit {0}
+IsAsked Checkpoint = Unit {0}
 IsAsked (Generate cvd seed rows versions) =
     IsTrue (is_name cvd) × (1 ≤ rows) × (1 ≤ versions) × (versions ≤ 65535) × (rows + versions ≤ 1000000)
 IsAsked (Optimize cvd p q) = Unit {0}

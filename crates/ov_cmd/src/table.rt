@@ -314,7 +314,7 @@ static ALL: [Form; 19] = [
 ];
 
 /// The commands that the program has so far.
-static BUILT: [Form; 11] = [
+static BUILT: [Form; 12] = [
     Form {
         name: "init",
         second: None,
@@ -397,6 +397,14 @@ static BUILT: [Form; 11] = [
         params: &[],
         choices: &[],
         maker: Maker::Ls,
+    },
+    Form {
+        name: "checkpoint",
+        second: None,
+        whole: false,
+        params: &[],
+        choices: &[],
+        maker: Maker::Checkpoint,
     },
     Form {
         name: "generate",

@@ -271,4 +271,5 @@ abbrev pub built_forms : List Form
 built_forms =
     init_form ∷ checkout_form (may_have (codes "-f") FileName ∷ []) ∷ commit_form [] ∷ run_form
     ∷ optimize_form (needs (codes "-d") TwoNumbers ∷ []) ∷ migrate_form ∷ of_cvd (codes "layout") asks.Layout
-    ∷ of_cvd (codes "log") asks.Log ∷ of_cvd (codes "drop") asks.DropCvd ∷ alone (codes "ls") asks.Ls ∷ generate_form ∷ []
+    ∷ of_cvd (codes "log") asks.Log ∷ of_cvd (codes "drop") asks.DropCvd ∷ alone (codes "ls") asks.Ls
+    ∷ alone (codes "checkpoint") asks.Checkpoint ∷ generate_form ∷ []
