@@ -29,6 +29,7 @@ use Rattle.ov_graph.specs.Versions.{IsGraph}
 use Rattle.ov_catalog.specs.declared.cvd.Plan.{Plan}
 use Rattle.ov_catalog.specs.Events.{graph_of}
 use Rattle.ov_catalog.specs.Running.{IsPlanned, is_in_target, left_of, targets_left}
+use Rattle.ov_catalog.specs.Thresholds.{IsSaid}
 use Rattle.ov_catalog.proofs.PartLemmas.{numbered-records, serving-has, serving-there}
 use Rattle.ov_catalog.proofs.RunLemmas.{targets-now}
 use Rattle.ov_catalog.proofs.TargetLemmas.{unmoved-in}
@@ -201,9 +202,9 @@ next-little (Join id) n = omega arith
 -- a dataset with one version more
 pub set-more : (d new : Cvd) (vid : ℕ) (p : Place) → IsSet d → vid ≡ length d.versions.items + 1 → vid ≤ 65535 → length new.versions.items ≡ length d.versions.items + 1
     → IsNew (vid + 1) new.layout.parts → ((v : ℕ) → is_placed d.layout.parts v ≡ true → is_placed new.layout.parts v ≡ true) → is_placed new.layout.parts vid ≡ true
-    → new.layout.next ≡ next_with p d.layout.next → new.plan ≡ d.plan → IsGraph (graph_of (map version_in new.versions.items)) → is_placed new.layout.parts 0 ≡ false
+    → new.layout.next ≡ next_with p d.layout.next → new.plan ≡ d.plan → new.threshold ≡ d.threshold → IsGraph (graph_of (map version_in new.versions.items)) → is_placed new.layout.parts 0 ≡ false
     → IsPlanned (length d.versions.items + 1) new.layout.parts new.plan → new.records < 2 ^ 32 → IsSet new
-set-more d new vid p is own few size above stay there next same graph none planned records =
+set-more d new vid p is own few size above stay there next same at graph none planned records =
     let one : vid ≡ length new.versions.items = own ∙ sym size in
     let little = next-little p d.layout.next in
     let was = is.next in
@@ -223,4 +224,5 @@ set-more d new vid p is own few size above stay there next same graph none plann
       records = records;
       next = omega (arith, next, little, was, size, left);
       plan = subst (λ (n : ℕ). IsPlanned n new.layout.parts new.plan) (sym size) planned;
+      threshold = subst (λ (t : Option (ℕ × ℕ)). IsSaid t (plan_in new.plan)) (sym at) (subst (λ (plan : Option Plan). IsSaid d.threshold (plan_in plan)) (sym same) is.threshold);
     }

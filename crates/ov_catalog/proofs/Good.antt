@@ -265,7 +265,7 @@ fits_may (BeginPlan cvd p q) w fits is = record { parents = tt; rows = tt; copy 
 fits_may (Copy cvd) w fits is = record { parents = tt; rows = tt; copy = copy_may w is.distinct cvd fits; flip = tt }
 fits_may (Flip cvd) w fits is = record { parents = tt; rows = tt; copy = tt; flip = flip_may w is.distinct cvd fits }
 fits_may (Drop cvd) w fits is = record { parents = tt; rows = tt; copy = tt; flip = tt }
-fits_may Checkpoint w fits is = absurd fits
+fits_may Checkpoint w fits is = record { parents = tt; rows = tt; copy = tt; flip = tt }
 
 fits_begins : (m : Move) (w : World) → Fits m w → IsGood w → MayBegin m w
 fits_begins (BeginPlan cvd p q) w fits is = plan_begins w is.distinct cvd p q fits

@@ -6,6 +6,7 @@ pub mod Migrating
 pub mod Moving
 pub mod Covering
 pub mod Emptying
+pub mod Following
 pub mod Standing
 pub mod Members
 pub mod Rising
@@ -16,7 +17,6 @@ pub mod PartLemmas
 pub mod CommitLemmas
 pub mod SchemaLemmas
 pub mod RoomLemmas
-pub mod Following
 pub mod WorkedLemmas
 pub mod Ascending
 pub mod WorkedChains
@@ -25,9 +25,17 @@ pub mod FlipLemmas
 pub mod RunLemmas
 pub mod GraphLemmas
 pub mod TargetLemmas
+pub mod ThresholdLemmas
 pub mod SplitLemmas
 pub mod TurnLemmas
 pub mod KeptLemmas
 pub mod SeenLemmas
+pub mod WholeTests
 pub mod Serving
 pub mod Weighing
+pub mod DraftLemmas
+pub mod WholeParts
+pub mod WholePlans
+pub mod WholeVersions
+pub mod WholeLemmas
+pub mod WholeMarks

@@ -159,7 +159,7 @@ events_are_moves (moves.Flip cvd) w fits is e said =
 events_are_moves (moves.Drop cvd) w fits is e said =
     subst (λ x. shown (moved (moves.Drop cvd) w) ≡ applied x (shown w)) (some_same (events.Drop cvd) e said)
     (λ i. record { next = w.next; sets = dropped_shown cvd w.sets i })
-events_are_moves moves.Checkpoint w fits is e said = absurd fits
+events_are_moves moves.Checkpoint w fits is e said = absurd cc
 
 -- a move that suits has one event, but for a checkpoint
 commit_some : (cvd : ℕ) (v : Version) (found : Option Dataset) (P : Dataset → Type 0) → IfThere P found → is_some (commit_in cvd v found) ≡ true

@@ -1,24 +1,37 @@
 -- Room in one dataset of many.
-use Rattle.std.proofs.Common.{◌≡◌, ℕ, zero, suc, ◌+◌, ◌<◌, ◌≤◌, eqb, List, [], ◌∷◌, ◌++◌, length, get_or, set, sym, ap, subst, ◌∙◌, inl, inr, arith}
-use Rattle.std.specs.Prelude.{All, Bool, not, ◌&&◌, nat_lt, None, filter, Result, Ok, Err, OnOk, IfOk}
+use Rattle.std.proofs.Common.{◌≡◌, ℕ, zero, suc, ◌+◌, ◌<◌, ◌≤◌, eqb, List, [], ◌∷◌, ◌++◌, length, get_or, set, refl, sym, ap, subst, ◌∙◌, inl, inr, arith}
+use Rattle.std.specs.Prelude.{All, Vec, vec_capacity, Bool, Option, Some, not, ◌&&◌, nat_lt, None, filter, Result, Ok, Err, OnOk, IfOk}
+use Rattle.std.specs.declared.alloc.Global.{Global}
 use Rattle.std.specs.List.{list_any}
+use Rattle.std.specs.Option.{option_or}
 use Rattle.ov_layout.specs.Parts.{Ascend}
-use Rattle.std.proofs.lemmas.Bool.{cases_Bool, ltb-true}
+use Rattle.std.proofs.lemmas.Bool.{cases_Bool, leb-true, ltb-true}
 use Rattle.std.proofs.lemmas.List.{length-append, length-map}
 use Rattle.std.proofs.lemmas.List.Elements.{All-push, All-cons}
 use Rattle.ov_layout.specs.Changes.{IsAbove}
 use Rattle.ov_layout.proofs.JoinLemmas.{ascend-push}
-use Rattle.ov_layout.proofs.NewLemmas.{above-push}
+use Rattle.ov_layout.proofs.NewLemmas.{above-later, above-push}
 use Rattle.ov_layout.proofs.VidLemmas.{keys-strict}
 use Rattle.ov_place.specs.declared.place_facts.Place.{Place}
 use Rattle.ov_value.specs.Shapes.{Shape}
 use Rattle.ov_catalog.specs.declared.cvd.Cvd.{Cvd}
-use Rattle.ov_catalog.specs.Ready.{FitsVersion, FitsNumbered, IsSet, AreSets, ForInit}
+use Rattle.ov_catalog.specs.declared.room.Room.{Room}
+use Rattle.ov_catalog.specs.declared.room.Room.TheVariants as kept_for
+use Rattle.ov_catalog.specs.Raw.{place_in}
+use Rattle.ov_catalog.specs.declared.reach.Reach.{Reach}
+use Rattle.ov_catalog.specs.declared.reach.Reach.TheVariants.{AtStart, InSnapshot, Beyond}
+use Rattle.ov_catalog.specs.Ready.{CanBeginIn, FitsVersion, FitsNumbered, HasSegmentIn, HasSpace, MayFlipIn, IsSet, AreSets, AreUpTo, ForInit, reach_in}
 use Rattle.ov_catalog.specs.Sets.{numbers_of, stays}
+use Rattle.ov_catalog.specs.declared.error.ApplyErr.{ApplyErr}
+use Rattle.ov_catalog.specs.declared.field.Field.{Field}
 use Rattle.ov_catalog.specs.declared.field.Field.TheVariants as off
-use Rattle.ov_catalog.specs.Applying.{init_off, is_named}
-use Rattle.ov_catalog.specs.Numbers.{Numbers}
-use Rattle.ov_catalog.proofs.CommitLemmas.{and-both, off-none}
+use Rattle.ov_catalog.specs.Answers.{IsWhy}
+use Rattle.ov_catalog.specs.Applying.{base_off, init_off, is_named, number_off, reach_with}
+use Rattle.ov_catalog.specs.Applying as applying
+use Rattle.ov_catalog.specs.Numbers.{Numbers, SetNumbers}
+use Rattle.ov_catalog.specs.Wholes.{whole_off}
+use Rattle.ov_event.specs.declared.whole.Whole as raw
+use Rattle.ov_catalog.proofs.CommitLemmas.{and-both, off-none, off-true}
 use Rattle.ov_event.specs.declared.event.RawSchema.{RawSchema}
 use Rattle.ov_host.specs.declared.area.Extent.{Extent}
 use Rattle.ov_value.specs.Naming.{is_name}
@@ -68,6 +81,46 @@ pub if-ok : {T E : Type 0} (r : Result T E) (P Q : T → Type 0) → ((v : T) �
 if-ok (Ok v) P Q f h = f v h
 if-ok (Err e) P Q f h = tt
 
+-- what an event of a snapshot asks of how far the half has come
+pub base-room : (n next : ℕ) (reach : Reach) → base_off next (reach_in n reach) ≡ None → 1 ≤ next
+base-room n next AtStart h = leb-true 1 next (off-true _ _ h)
+base-room n next (InSnapshot last) h = absurd cc
+base-room n next Beyond h = absurd cc
+
+-- the number of a dataset in it is behind those before it, and below the next one
+pub record IsNumber (next number : ℕ) (reach : Reach) (numbers : List ℕ) : Type 0 where
+  pub above : IsAbove number numbers
+  pub low : number < next
+  pub goes_on : reach_with number (reach_in next reach) ≡ applying.InSnapshot next number
+
+pub number-is : (next number : ℕ) (reach : Reach) (numbers : List ℕ) → number_off number (reach_in next reach) ≡ None → AreUpTo reach numbers → IsNumber next number reach numbers
+number-is next number AtStart numbers h up = absurd cc
+number-is next number (InSnapshot last) numbers h up =
+    let both = and-both (nat_lt last number) (nat_lt number next) (off-true _ _ h) in
+    let behind = ltb-true last number both.0 in
+    record { above = above-later (last + 1) number numbers up (omega (arith, behind)); low = ltb-true number next both.1; goes_on = refl }
+number-is next number Beyond numbers h up = absurd cc
+
+pub up-to-same : (reach : Reach) (old new : List Cvd) → numbers_of new ≡ numbers_of old → AreUpTo reach (numbers_of old) → AreUpTo reach (numbers_of new)
+up-to-same reach old new e up = subst (AreUpTo reach) (sym e) up
+
+pub up-to-push : (number : ℕ) (sets : List Cvd) (d : Cvd) → IsAbove number (numbers_of sets) → d.number ≡ number → IsAbove (number + 1) (numbers_of (sets ++ d ∷ []))
+up-to-push number sets d above own =
+    subst (IsAbove (number + 1)) (sym (push-numbers sets d ∙ ap (λ (n : ℕ). numbers_of sets ++ n ∷ []) own)) (above-push number number (numbers_of sets) above (omega arith))
+
+-- more capacity leaves the room that there was
+pub space-stays : (room : Room) (old new : Vec Cvd Global) → new.items ≡ old.items → vec_capacity old ≤ vec_capacity new → HasSpace room old → HasSpace room new
+space-stays kept_for.Nothing old new same more h = tt
+space-stays (kept_for.Init spare) old new same more h =
+    let long = ap (λ (ds : List Cvd). length ds) same in
+    let fits = h.1 in
+    let few = h.2 in
+    (h.0, omega (arith, long, more, fits), omega (arith, long, few))
+space-stays (kept_for.Commit cvd place) old new same more h = subst (λ (ds : List Cvd). All (FitsNumbered cvd (place_in place)) ds) (sym same) h
+space-stays (kept_for.Plan cvd plan) old new same more h = subst (λ (ds : List Cvd). All (CanBeginIn cvd plan) ds) (sym same) h
+space-stays (kept_for.Copy cvd) old new same more h = subst (λ (ds : List Cvd). All (HasSegmentIn cvd) ds) (sym same) h
+space-stays (kept_for.Flip cvd versions) old new same more h = subst (λ (ds : List Cvd). All (MayFlipIn cvd versions.items) ds) (sym same) h
+
 -- the datasets after a change
 pub are-same : (next : ℕ) (old new : List Cvd) → numbers_of new ≡ numbers_of old → All IsSet new → AreSets next old → AreSets next new
 are-same next old new e sound h =
@@ -75,16 +128,26 @@ are-same next old new e sound h =
     let few = h.few in
     record { few = omega (arith, long, few); ascend = subst (Ascend 0) (sym e) h.ascend; below = subst (IsAbove next) (sym e) h.below; sound = sound }
 
-pub sets-push : (next : ℕ) (sets : List Cvd) (d : Cvd) → AreSets next sets → length sets < 1024 → d.number ≡ next → IsSet d → AreSets (next + 1) (sets ++ d ∷ [])
-sets-push next sets d h few own is =
+-- those of a snapshot, where a dataset comes behind them
+pub sets-more : (next : ℕ) (sets : List Cvd) (d : Cvd) → AreSets next sets → length sets < 1024 → IsAbove d.number (numbers_of sets) → d.number < next → IsSet d → AreSets next (sets ++ d ∷ [])
+sets-more next sets d h few above low is =
     let long = length-append sets (d ∷ []) in
-    let below : IsAbove d.number (numbers_of sets) = subst (λ (n : ℕ). IsAbove n (numbers_of sets)) (sym own) h.below in
     record {
       few = omega (arith, long, few);
-      ascend = subst (Ascend 0) (sym (push-numbers sets d)) (ascend-push 0 d.number (numbers_of sets) h.ascend (omega arith) below);
-      below = subst (λ (n : ℕ). IsAbove (n + 1) (numbers_of (sets ++ d ∷ []))) own (subst (IsAbove (d.number + 1)) (sym (push-numbers sets d)) (above-push d.number d.number (numbers_of sets) below (omega arith)));
+      ascend = subst (Ascend 0) (sym (push-numbers sets d)) (ascend-push 0 d.number (numbers_of sets) h.ascend (omega arith) above);
+      below = above-later (d.number + 1) next (numbers_of (sets ++ d ∷ [])) (up-to-push d.number sets d above refl) (omega (arith, low));
       sound = All-push IsSet sets d h.sound is;
     }
+
+-- and where it gets the next number
+pub sets-push : (next : ℕ) (sets : List Cvd) (d : Cvd) → AreSets next sets → length sets < 1024 → d.number ≡ next → IsSet d → AreSets (next + 1) (sets ++ d ∷ [])
+sets-push next sets d h few own is =
+    let wide : AreSets (next + 1) sets = record { few = h.few; ascend = h.ascend; below = above-later next (next + 1) (numbers_of sets) h.below (omega arith); sound = h.sound } in
+    let above : IsAbove d.number (numbers_of sets) = subst (λ (n : ℕ). IsAbove n (numbers_of sets)) (sym own) h.below in
+    sets-more (next + 1) sets d wide few above (omega (arith, own)) is
+
+pub no-sets : (next : ℕ) → AreSets next []
+no-sets next = record { few = omega arith; ascend = tt; below = tt; sound = λ k d lt. absurd (omega arith) }
 
 sound-stay : (n : ℕ) (sets : List Cvd) → All IsSet sets → All IsSet (filter (stays n) sets)
 sound-stay n [] h = λ k d lt. absurd (omega arith)
@@ -122,3 +185,20 @@ init-few name schema rows list segment n h =
     let named = off-none tests off.Name _ first.1 in
     let both = and-both (is_name name) _ named.0 in
     ltb-true _ _ (and-both (not (list_any (is_named name) n.sets)) _ both.1).1
+
+-- and where a Whole says one
+pub whole-few : (said : raw.Whole) (d : SetNumbers Extent Extent) (n : Numbers Extent Extent) → whole_off said d n ≡ None → length n.sets < 1024
+whole-few said d n h =
+    let tests : Bool = is_name said.name && (not (list_any (is_named said.name) n.sets) && nat_lt (length n.sets) 1024) in
+    let named = off-none tests off.Name _ h in
+    let both = and-both (is_name said.name) _ named.0 in
+    ltb-true _ _ (and-both (not (list_any (is_named said.name) n.sets)) _ both.1).1
+
+-- two tests one after another
+pub none-both : (first second : Option Field) → first ≡ None → second ≡ None → option_or first second ≡ None
+none-both None second a b = b
+none-both (Some field) second a b = absurd cc
+
+pub why-second : (why : ApplyErr) (first second : Option Field) → first ≡ None → IsWhy why second → IsWhy why (option_or first second)
+why-second why None second a b = b
+why-second why (Some field) second a b = absurd cc

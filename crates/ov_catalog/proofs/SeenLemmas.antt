@@ -1,25 +1,26 @@
 -- Targets of a plan gone through from the last one on, with marks at the versions of later ones.
-use Rattle.std.proofs.Common.{◌≡◌, ℕ, zero, suc, ◌+◌, ◌-◌, ◌<◌, ◌≤◌, Bool, true, false, not, ◌||◌, ◌&&◌, eqb, List, [], ◌∷◌, ◌++◌, length, get_or, set, take, drop, map, refl, sym, ap, subst, ◌∙◌, inl, inr, arith}
+use Rattle.std.proofs.Common.{◌≡◌, ℕ, zero, suc, ◌+◌, ◌-◌, ◌<◌, ◌≤◌, Bool, true, false, ◌||◌, ◌&&◌, eqb, List, [], ◌∷◌, length, get_or, set, take, drop, map, refl, sym, ap, subst, ◌∙◌, inl, inr, arith}
 use Rattle.std.specs.Prelude.{Option, Some, None, nat_le}
 use Rattle.std.specs.List.{list_all, list_any}
-use Rattle.std.proofs.lemmas.Bool.{cases_Bool, eq-eqb, ne_eqb, eqb-true, le-leb, leb-true}
+use Rattle.std.proofs.lemmas.Bool.{cases_Bool, or_left, or_right, eq-eqb, ne_eqb, eqb-true, le-leb, leb-true}
 use Rattle.std.proofs.lemmas.List.{drop_more, get_or-set_same, get_or-set_other}
 use Rattle.ov_host.specs.declared.area.Extent.{Extent}
 use Rattle.ov_layout.specs.declared.part.Part.{Part}
-use Rattle.ov_layout.specs.Parts.{has, part_numbered}
-use Rattle.ov_layout.proofs.VidLemmas.{has-more}
-use Rattle.ov_catalog.specs.declared.cvd.Cvd.{Cvd}
+use Rattle.ov_layout.specs.Changes.{IsNew}
+use Rattle.ov_layout.specs.Index.{numbers_of}
+use Rattle.ov_layout.specs.Parts.{ArePartsFrom, has, is_placed, part_numbered, serves}
+use Rattle.ov_layout.proofs.PlacedLemmas.{ids-ascend, versions-ascend}
+use Rattle.ov_layout.proofs.VidLemmas.{Ascend-weaker, has-more}
 use Rattle.ov_catalog.specs.declared.cvd.Target.{Target}
 use Rattle.ov_catalog.specs.declared.cvd.Version.{Version}
 use Rattle.ov_catalog.specs.Applying.{rows_at, part_numbered as number_in}
-use Rattle.ov_catalog.specs.Events.{is_one}
 use Rattle.ov_catalog.specs.Numbers.{PartNumbers, SetNumbers, TargetNumbers}
 use Rattle.ov_catalog.specs.Planning.{are_targets, is_kept, is_size, is_source, meets}
 use Rattle.ov_catalog.specs.Running.{is_in_target}
-use Rattle.ov_catalog.specs.Seen.{is_kept_by, is_source_by}
-use Rattle.ov_catalog.specs.Sets.{part_in, set_in, target_in, version_in}
+use Rattle.ov_catalog.specs.Seen.{AscendWithin, is_kept_by, is_source_by}
+use Rattle.ov_catalog.specs.Sets.{part_in, target_in, version_in}
 use Rattle.ov_catalog.proofs.CommitLemmas.{rows-in}
-use Rattle.ov_catalog.proofs.TargetLemmas.{numbered-in}
+use Rattle.ov_catalog.proofs.TargetLemmas.{above-one, numbered-in}
 
 -- ---- one version of many
 
@@ -121,6 +122,28 @@ kept-same f t rest (Some part) same =
 pub source-same : (f : ℕ → Bool) (parts : List (PartNumbers Extent)) (t : TargetNumbers) (rest : List Target) → ((vid : ℕ) → f vid ≡ is_in_target rest vid)
     → is_source_by f parts t ≡ is_source parts t (map (λ (u : TargetNumbers). u.versions) (map target_in rest))
 source-same f parts t rest same = rw (kept-same f t rest (number_in parts t.source) same) refl
+
+-- ---- partitions whose versions can be marked
+
+pub placed-at : (parts : List Part) (at vid : ℕ) (d : Part) → at < length parts → has (get_or parts at d).versions vid ≡ true → is_placed parts vid ≡ true
+placed-at [] at vid d lt there = absurd (omega arith)
+placed-at (part ∷ parts) zero vid d lt there = or_left (serves vid part) (is_placed parts vid) there
+placed-at (part ∷ parts) (suc at) vid d lt there = or_right (serves vid part) (is_placed parts vid) (placed-at parts at vid d (omega arith) there)
+
+placed-below : (limit least next : ℕ) (parts : List Part) → ArePartsFrom least next parts → IsNew limit parts → (vid : ℕ) → is_placed parts vid ≡ true → vid < limit
+placed-below limit least next [] sound new vid there = absurd cc
+placed-below limit least next (part ∷ parts) sound new vid there =
+    elim (cases_Bool (serves vid part)) [
+      | inl e ↦ above-one limit part.holds vid new.0 (sound.1.held vid e)
+      | inr e ↦ placed-below limit (suc part.id) next parts sound.2 new.1 vid (rw e at there)
+    ]
+
+pub set-within : (limit next : ℕ) (parts : List Part) → ArePartsFrom 1 next parts → IsNew limit parts → AscendWithin limit parts
+set-within limit next parts sound new = record {
+  numbers = Ascend-weaker 0 1 (numbers_of parts) (omega arith) (ids-ascend 1 next parts sound);
+  versions = versions-ascend 1 next parts sound;
+  below = placed-below limit 1 next parts sound new;
+}
 
 -- ---- a source by its number
 

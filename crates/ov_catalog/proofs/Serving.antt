@@ -1,28 +1,34 @@
 -- Each version of numbers that events lead to is in a partition, and so is the place of a commit that applies.
-use Rattle.std.proofs.Common.{◌≡◌, ◌⊎◌, inl, inr, ℕ, ◌+◌, ◌≤◌, ◌^◌, Bool, true, false, ◌&&◌, ◌||◌, ◌==◌, List, [], ◌∷◌, ◌++◌, length, map, refl, sym, ap, subst, arith, length-append}
-use Rattle.std.specs.Prelude.{Option, Some, None, not, nat_le, if◌then◌else◌, filter, find, cond}
+use Rattle.std.proofs.Common.{◌≡◌, ◌⊎◌, inl, inr, ℕ, zero, suc, ◌+◌, ◌-◌, ◌<◌, ◌≤◌, ◌^◌, ◌∙◌, Bool, true, false, ◌&&◌, ◌||◌, ◌==◌, List, [], ◌∷◌, ◌++◌, length, map, refl, sym, ap, subst, arith, length-append}
+use Rattle.std.specs.Prelude.{Option, Some, None, not, nat_le, nat_lt, if◌then◌else◌, filter, find, cond}
 use Rattle.std.specs.List.{list_any, list_all}
 use Rattle.std.specs.Option.{option_or}
 use Rattle.std.proofs.lemmas.Bool.{cases_Bool, eqb-true, leb-true, ne_eqb, cases_lt}
 use Rattle.std.proofs.lemmas.Bool.Decides.{Decides-eqb}
+use Rattle.std.proofs.lemmas.List.Sums.{sum_by-cons}
 use Rattle.ov_host.specs.declared.area.Extent.{Extent}
 use Rattle.ov_event.specs.declared.event.Event as raw
 use Rattle.ov_event.specs.declared.event.Event.TheVariants as says
+use Rattle.ov_event.specs.declared.whole.Whole.{Whole}
 use Rattle.ov_graph.specs.Versions.{heaviest}
 use Rattle.ov_place.specs.Placement.{placed, is_budgeted}
 use Rattle.ov_place.specs.declared.place_facts.Place.{Place}
 use Rattle.ov_place.specs.declared.place_facts.Place.TheVariants.{Own, Join}
 use Rattle.ov_layout.specs.Changes.{extents_of}
+use Rattle.ov_model.specs.Records.{counted}
 use Rattle.ov_model.proofs.Counting.{listed, stays_times}
 use Rattle.law_partitions.proofs.PieceFlip.{is_listed}
 use Rattle.ov_catalog.specs.declared.field.Field.{Field}
 use Rattle.ov_catalog.specs.declared.field.Field.TheVariants as off
 use Rattle.ov_catalog.specs.Numbers.{VersionNumbers, PartNumbers, PlanNumbers, SetNumbers, Numbers, nothing_yet}
 use Rattle.ov_catalog.specs.Events.{own_part, with_joined, join_at, parts_with, version_of, with_version, planned, copied_more, is_one, leaving, is_empty, left_parts, current, target_part, flipped_by, flipped, numbered, change, applied, replayed}
-use Rattle.ov_catalog.specs.Applying.{AllApply, first_off, off_unless, commit_off, of_live, are_distinct, are_parents, is_count, is_list, is_parent, is_segment, facts_of, is_place, part_serving, rows_at, id_in, set_numbered}
-use Rattle.ov_catalog.specs.Planning.{plan_off, of_running, copy_off, flip_off}
-use Rattle.ov_catalog.specs.Raw.{event_in, place_in, numbers_in}
+use Rattle.ov_catalog.specs.Applying.{AllApply, AtStart, Reach, first_off, next_off, off_unless, commit_off, of_live, are_distinct, are_parents, is_count, is_list, is_parent, is_segment, facts_of, is_place, part_serving, rows_at, id_in, set_numbered}
+use Rattle.ov_catalog.specs.Planning.{ascend_from, plan_off, of_running, copy_off, flip_off}
+use Rattle.ov_catalog.specs.Raw.{event_in, place_in, numbers_in, whole_in}
+use Rattle.ov_catalog.specs.Wholes.{are_parts, is_part, parts_serving, targets_left, whole_off}
 use Rattle.ov_catalog.proofs.CommitLemmas.{heaviest-passes}
+use Rattle.ov_catalog.proofs.Following.{along, apply_more, by_next}
+use Rattle.ov_catalog.proofs.WholeTests.{passes}
 
 pub and_both : (a b : Bool) → (a && b) ≡ true → (a ≡ true) × (b ≡ true)
 and_both true b h = (refl, h)
@@ -276,25 +282,55 @@ served_more_by (says.Base next) n h all = absurd cc
 served_more_by (says.Whole set) n h all = absurd cc
 served_more_by (says.Wide cvd vid message columns parents rows fresh place added list segment) n h all = absurd cc
 
-all_served_by : (es : List raw.Event) (n : Numbers Extent Extent) → AllApply es n → AllServed n.sets → AllServed (replayed (map event_in es) n).sets
-all_served_by [] n apply all = all
-all_served_by (e ∷ es) n apply all = all_served_by es (applied (event_in e) n) apply.1 (served_more_by e n apply.0 all)
+-- each version of a dataset that a Whole says is in one of its partitions
+one_serves : (parts : List (PartNumbers Extent)) (vid : ℕ) → parts_serving parts vid ≡ 1 → IsServed parts vid
+one_serves [] vid is = absurd (omega (arith, is))
+one_serves (part ∷ parts) vid is =
+    by (is_one part.versions vid) refl (one_serves parts vid) (sym (sum_by-cons (λ (p : PartNumbers Extent). if is_one p.versions vid then 1 else 0) part parts) ∙ is)
+  where
+    by : (b : Bool) → is_one part.versions vid ≡ b → (parts_serving parts vid ≡ 1 → IsServed parts vid) → (if b then 1 else 0) + parts_serving parts vid ≡ 1 → IsServed (part ∷ parts) vid
+    by true here rest counts = inl here
+    by false none rest counts = inr (rest (omega (arith, counts)))
 
-pub all_served : (es : List raw.Event) → AllApply es nothing_yet → AllServed (numbers_in es).sets
-all_served es apply = all_served_by es nothing_yet apply tt
+counted_all : (test : ℕ → Bool) (first count : ℕ) → list_all test (counted first count) ≡ true → (vid : ℕ) → first ≤ vid → vid < first + count → test vid ≡ true
+counted_all test first zero all vid low high = absurd (omega (arith, low, high))
+counted_all test first (suc count) all vid low high =
+    let both = and_both (test first) (list_all test (counted (first + 1) count)) all in
+    elim (cases_lt first vid) [
+      | inl less ↦ counted_all test (first + 1) count both.1 vid (omega (arith, less)) (omega (arith, high))
+      | inr more ↦ let same : first ≡ vid = omega (arith, low, more) in subst (λ (v : ℕ). test v ≡ true) same both.0
+    ]
+
+-- numbers are left for the targets to come and for a partition of each later version
+abbrev numbers_left : Set → Bool
+numbers_left d = nat_lt (d.next_part + length (targets_left d.plan) + (65535 - length d.versions)) (2 ^ 32)
+
+whole_served : (said : Whole) (n : Numbers Extent Extent) → whole_off said (whole_in said) n ≡ None → AreServed (whole_in said)
+whole_served said n applies vid some within =
+    let d : Set = whole_in said in
+    let parts : are_parts d ≡ true = (passes said n applies).parts in
+    let numbers : Bool = ascend_from 1 (map (λ part. part.id) d.parts) && list_all (λ part. nat_lt part.id d.next_part) d.parts in
+    let each : list_all (λ v. parts_serving d.parts v == 1) (counted 1 (length d.versions)) ≡ true =
+    (and_both (list_all (λ v. parts_serving d.parts v == 1) (counted 1 (length d.versions))) (list_all (is_part (length d.versions) d.records) d.parts)
+    (and_both (list_all (λ v. parts_serving d.parts v == 1) (counted 1 (length d.versions)) && list_all (is_part (length d.versions) d.records) d.parts) (numbers_left d) (and_both numbers ((list_all (λ v. parts_serving d.parts v == 1) (counted 1 (length d.versions)) && list_all (is_part (length d.versions) d.records) d.parts) && numbers_left d) parts).1).0).0 in
+    one_serves d.parts vid (eqb-true (parts_serving d.parts vid) 1 (counted_all (λ v. parts_serving d.parts v == 1) 1 (length d.versions) each vid some (omega (arith, within))))
+
+next_served : (reach : Reach) (e : raw.Event) (n : Numbers Extent Extent) → next_off reach e n ≡ None → AllServed n.sets → AllServed (applied (event_in e) n).sets
+next_served reach e n applies all =
+    by_next (λ x. AllServed (applied (event_in x) n).sets) reach e n applies (λ next. tt)
+    (λ said is. all_append n.sets (whole_in said) all (whole_served said n is)) (λ is. served_more_by e n is all)
+
+pub all_served : (es : List raw.Event) → AllApply AtStart es nothing_yet → AllServed (numbers_in es).sets
+all_served es apply = along (λ n. AllServed n.sets) next_served AtStart es nothing_yet apply tt
 
 -- ---- one event more
-
-apply_more : (es : List raw.Event) (e : raw.Event) (n : Numbers Extent Extent) → AllApply es n → first_off e (replayed (map event_in es) n) ≡ None → AllApply (es ++ e ∷ []) n
-apply_more [] e n apply is = (is, tt)
-apply_more (x ∷ es) e n apply is = (apply.0, apply_more es e (applied (event_in x) n) apply.1 is)
 
 replay_more : (es : List raw.Event) (e : raw.Event) (n : Numbers Extent Extent) → replayed (map event_in (es ++ e ∷ [])) n ≡ applied (event_in e) (replayed (map event_in es) n)
 replay_more [] e n = refl
 replay_more (x ∷ es) e n = replay_more es e (applied (event_in x) n)
 
-pub all_apply : (es : List raw.Event) (e : raw.Event) → AllApply es nothing_yet → first_off e (numbers_in es) ≡ None → AllApply (es ++ e ∷ []) nothing_yet
-all_apply es e apply is = apply_more es e nothing_yet apply is
+pub all_apply : (es : List raw.Event) (e : raw.Event) → AllApply AtStart es nothing_yet → first_off e (numbers_in es) ≡ None → AllApply AtStart (es ++ e ∷ []) nothing_yet
+all_apply es e apply is = apply_more AtStart es e nothing_yet apply is
 
 pub numbers_more : (es : List raw.Event) (e : raw.Event) → numbers_in (es ++ e ∷ []) ≡ applied (event_in e) (numbers_in es)
 numbers_more es e = replay_more es e nothing_yet

@@ -1,15 +1,13 @@
 -- The targets that a plan has of a split can become partitions, one after another.
-use Rattle.std.proofs.Common.{◌≡◌, ℕ, zero, suc, ◌+◌, ◌-◌, ◌^◌, ◌<◌, ◌≤◌, Bool, true, false, not, ◌||◌, ◌&&◌, eqb, cond, List, [], ◌∷◌, ◌++◌, length, drop, get_or, take, map, Vec, Global, refl, sym, ap, subst, ◌∙◌, inl, inr, arith}
+use Rattle.std.proofs.Common.{◌≡◌, ℕ, zero, suc, ◌+◌, ◌^◌, ◌<◌, ◌≤◌, Bool, true, false, not, ◌||◌, ◌&&◌, eqb, cond, List, [], ◌∷◌, ◌++◌, length, drop, get_or, take, map, Vec, Global, refl, sym, ap, subst, ◌∙◌, inl, inr, arith}
 use Rattle.std.specs.Prelude.{Option, Some, None, nat_le, is_none, All}
 use Rattle.std.specs.List.{list_all, list_any, count_by, range_with_len, sum_by}
-use Rattle.std.proofs.lemmas.Bool.{cases_Bool, cases_lt, cond-true, cond-false, eq-eqb, ne_eqb, eqb-true, leb-true}
+use Rattle.std.proofs.lemmas.Bool.{cases_Bool, cases_lt, cond-true, cond-false, eq-eqb, eqb-true, leb-true}
 use Rattle.std.proofs.lemmas.List.{length-map, length-take-le, take_more}
-use Rattle.std.proofs.lemmas.List.FromFn.{length-range_with_len}
 use Rattle.std.proofs.lemmas.List.Sums.{sum_by-cons}
 use Rattle.ov_graph.specs.declared.nodes.Node.{Node}
 use Rattle.ov_graph.specs.Splits as splits
 use Rattle.ov_graph.specs.Splits.{Ascends, IsDivision}
-use Rattle.ov_graph.specs.Trees.{tree_of}
 use Rattle.ov_graph.specs.Versions as graph
 use Rattle.ov_host.specs.declared.area.Extent.{Extent}
 use Rattle.ov_layout.specs.declared.part.Part.{Part}
@@ -20,15 +18,16 @@ use Rattle.ov_catalog.specs.declared.cvd.Cvd.{Cvd}
 use Rattle.ov_catalog.specs.declared.cvd.Plan.{Plan}
 use Rattle.ov_catalog.specs.declared.cvd.Target.{Target}
 use Rattle.ov_catalog.specs.Ready.{CanBegin, IsSet, said_by}
-use Rattle.ov_catalog.specs.Applying.{is_same, rows_at}
+use Rattle.ov_catalog.specs.Applying.{rows_at}
 use Rattle.ov_catalog.specs.Events.{graph_of, parts_at, target_of, targets_of}
 use Rattle.ov_event.specs.declared.event.PlanTarget.{PlanTarget}
 use Rattle.ov_lyre.specs.Parts.{lists_of}
-use Rattle.ov_catalog.specs.Numbers.{PartNumbers, SetNumbers, TargetNumbers}
+use Rattle.ov_catalog.specs.Numbers.{SetNumbers, TargetNumbers}
 use Rattle.ov_catalog.specs.Planning.{are_below, are_targets, ascend_from, is_kept, is_size, is_source, meets}
 use Rattle.ov_catalog.specs.Running.{AreTargets, AreThere, IsKept, IsSource, IsTarget, is_in_target, targets_left}
 use Rattle.ov_catalog.specs.Sets.{part_in, set_in, target_in, version_in}
 use Rattle.ov_catalog.specs.Splitting.{IsListed, IsSplitOf}
+use Rattle.ov_catalog.proofs.ThresholdLemmas.{said-as}
 use Rattle.ov_catalog.proofs.TargetLemmas.{ascend-in, below-in, numbered-in, part-there, said-more, seen_part, versions-of, versions-seen, zero-none}
 
 and-both : (a b : Bool) → (a && b) ≡ true → (a ≡ true) × (b ≡ true)
@@ -43,7 +42,7 @@ or-true : (b : Bool) → (b || true) ≡ true
 or-true true = refl
 or-true false = refl
 
-or-assoc : (a b d : Bool) → (a || (b || d)) ≡ ((a || b) || d)
+pub or-assoc : (a b d : Bool) → (a || (b || d)) ≡ ((a || b) || d)
 or-assoc true b d = refl
 or-assoc false b d = refl
 
@@ -139,7 +138,7 @@ first-in count (vid ∷ part) h =
     let le = h.there vid here in
     some-in (vid ∷ part) (range_with_len 1 count) vid here (range-has 1 count vid (omega (arith, one)) (omega (arith, le)))
 
-parts-hit : (count : ℕ) (parts : List (List ℕ)) → All (IsListed count) parts → length parts ≤ hits parts (range_with_len 1 count)
+pub parts-hit : (count : ℕ) (parts : List (List ℕ)) → All (IsListed count) parts → length parts ≤ hits parts (range_with_len 1 count)
 parts-hit count [] h = omega arith
 parts-hit count (part ∷ parts) h =
     let rest = parts-hit count parts (λ k e lt. h (suc k) e (omega arith)) in
@@ -147,7 +146,7 @@ parts-hit count (part ∷ parts) h =
     let more = hits-more part parts (range_with_len 1 count) in
     omega (arith, rest, own, more)
 
-hits-few : (parts : List (List ℕ)) (from count : ℕ) → ((vid : ℕ) → from ≤ vid → vid < from + count → count_by (λ part. has part vid) parts ≤ 1) → hits parts (range_with_len from count) ≤ count
+pub hits-few : (parts : List (List ℕ)) (from count : ℕ) → ((vid : ℕ) → from ≤ vid → vid < from + count → count_by (λ part. has part vid) parts ≤ 1) → hits parts (range_with_len from count) ≤ count
 hits-few parts from zero once = omega arith
 hits-few parts from (suc count) once =
     let sum = sum_by-cons (λ (v : ℕ). count_by (λ part. has part v) parts) from (range_with_len (from + 1) count) in
@@ -164,7 +163,7 @@ parts-few d p q parts is =
 
 -- ---- what a test says of a target's source
 
-some-of : (p : ℕ → Bool) (xs : List ℕ) → list_any p xs ≡ true → (x : ℕ) × ((has xs x ≡ true) × (p x ≡ true))
+pub some-of : (p : ℕ → Bool) (xs : List ℕ) → list_any p xs ≡ true → (x : ℕ) × ((has xs x ≡ true) × (p x ≡ true))
 some-of p [] h = absurd cc
 some-of p (x ∷ xs) h =
     elim (cases_Bool (p x)) [
@@ -180,7 +179,7 @@ meets-by (v ∷ a) b vid h there =
       | inr e ↦ rw (meets-by a b vid (rw e at h) there) (or-true (has b v))
     ]
 
-later-none : (ts : List Target) (vids : List ℕ) (vid : ℕ) → list_any (λ other. meets other vids) (map (λ (u : TargetNumbers). u.versions) (map target_in ts)) ≡ false → has vids vid ≡ true → is_in_target ts vid ≡ false
+pub later-none : (ts : List Target) (vids : List ℕ) (vid : ℕ) → list_any (λ other. meets other vids) (map (λ (u : TargetNumbers). u.versions) (map target_in ts)) ≡ false → has vids vid ≡ true → is_in_target ts vid ≡ false
 later-none [] vids vid h there = refl
 later-none (t ∷ ts) vids vid h there =
     elim (cases_Bool (meets t.versions vids)) [
@@ -226,7 +225,7 @@ some-has (t ∷ ts) vid h =
 
 -- ---- all of them
 
-from-one : (least : ℕ) (part : List ℕ) (vid : ℕ) → Ascend least part → has part vid ≡ true → least ≤ vid
+pub from-one : (least : ℕ) (part : List ℕ) (vid : ℕ) → Ascend least part → has part vid ≡ true → least ≤ vid
 from-one least [] vid h there = absurd cc
 from-one least (v ∷ part) vid h there =
     elim (cases_Bool (eqb v vid)) [
@@ -244,57 +243,52 @@ either-is : (a b : Bool) → (a || b) ≡ true → b ≡ false → a ≡ true
 either-is true b h out = refl
 either-is false b h out = absurd cc
 
-module _ (d : Cvd) (next : ℕ) (sound : ArePartsFrom 1 next d.layout.parts) (new : IsNew (length d.versions.items + 1) d.layout.parts) (no_zero : is_placed d.layout.parts 0 ≡ false) (zero_none : part_numbered 0 d.layout.parts ≡ None) (records : d.records < 2 ^ 32) where
-  abbrev count : ℕ
-  count = length d.versions.items
+-- a target's source where all versions of it are in the target, before or behind it
+module _ (before : List ℕ) (t : Target) (ts : List Target) where
+  abbrev later : List (List ℕ)
+  later = map (λ (u : TargetNumbers). u.versions) (map target_in ts)
 
-  kept-of : (before : List ℕ) (t : Target) (ts : List Target) (o : Option Part) → part_numbered t.source d.layout.parts ≡ o
-      → ((vid : ℕ) → 1 ≤ vid → vid ≤ count → (has before vid || is_in_target (t ∷ ts) vid) ≡ true)
-      → is_kept (target_in t) (map (λ (u : TargetNumbers). u.versions) (map target_in ts)) (seen_part o) ≡ true → IsKept before t o
-  kept-of before t ts None found cover h = absurd cc
-  kept-of before t ts (Some part) found cover h =
-      let later = map (λ (u : TargetNumbers). u.versions) (map target_in ts) in
+  abbrev IsCovered : Part → Type 0
+  IsCovered part = (vid : ℕ) → has part.versions vid ≡ true → (has before vid || is_in_target (t ∷ ts) vid) ≡ true
+
+  kept-from : (o : Option Part) → ((part : Part) → o ≡ Some part → IsCovered part) → is_kept (target_in t) later (seen_part o) ≡ true → IsKept before t o × Ascend 0 t.kept
+  kept-from None cover h = absurd cc
+  kept-from (Some part) cover h =
       let halves = and-both (meets t.versions part.versions && not (list_any (λ other. meets other part.versions) later)) _ h in
       let empties = and-both (meets t.versions part.versions) (not (list_any (λ other. meets other part.versions) later)) halves.0 in
       let places = and-both (ascend_from 0 t.kept && are_below (length part.segments) t.kept) _ halves.1 in
       let below = and-both (ascend_from 0 t.kept) (are_below (length part.segments) t.kept) places.0 in
       let shared = some-of (has part.versions) t.versions empties.0 in
-      record {
+      let source : IsSource before t part = record {
         within = below-in (length part.segments) t.kept below.1;
         shared = shared.0;
         of_target = shared.1.0;
         of_part = shared.1.1;
         emptied = λ vid there.
-            let range = part-there count 1 next t.source d.layout.parts part sound new no_zero found vid there in
             let none = later-none ts part.versions vid (not-true _ empties.1) there in
-            let all : ((has before vid || has t.versions vid) || is_in_target ts vid) ≡ true = sym (or-assoc (has before vid) (has t.versions vid) (is_in_target ts vid)) ∙ cover vid range.0 range.1 in
+            let all : ((has before vid || has t.versions vid) || is_in_target ts vid) ≡ true = sym (or-assoc (has before vid) (has t.versions vid) (is_in_target ts vid)) ∙ cover part refl vid there in
             has-append before t.versions vid ∙ either-is (has before vid || has t.versions vid) (is_in_target ts vid) all none;
-      }
+      } in
+      (source, ascend-in 0 t.kept below.0)
 
-  source-of : (before : List ℕ) (t : Target) (ts : List Target)
-      → ((vid : ℕ) → 1 ≤ vid → vid ≤ count → (has before vid || is_in_target (t ∷ ts) vid) ≡ true)
-      → is_source (map part_in d.layout.parts) (target_in t) (map (λ (u : TargetNumbers). u.versions) (map target_in ts)) ≡ true
-      → IsKept before t (part_numbered t.source d.layout.parts) × Ascend 0 t.kept
-  source-of before t ts cover h =
+  pub source-from : (parts : List Part) → part_numbered 0 parts ≡ None → ((part : Part) → part_numbered t.source parts ≡ Some part → IsCovered part)
+      → is_source (map part_in parts) (target_in t) later ≡ true → IsKept before t (part_numbered t.source parts) × Ascend 0 t.kept
+  source-from parts zero_none cover h =
       elim (cases_Bool (eqb t.source 0)) [
         | inl e ↦
             let zero_is : t.source ≡ 0 = eqb-true t.source 0 e in
             let none = and-both (eqb (length t.kept) 0) (eqb t.kept_records 0) (rw e at h) in
             let nothing : t.kept ≡ [] = no-length t.kept none.0 in
-            let gone : part_numbered t.source d.layout.parts ≡ None = ap (λ (id : ℕ). part_numbered id d.layout.parts) zero_is ∙ zero_none in
+            let gone : part_numbered t.source parts ≡ None = ap (λ (id : ℕ). part_numbered id parts) zero_is ∙ zero_none in
             (rw gone (zero_is, nothing), subst (Ascend 0) (sym nothing) tt)
         | inr e ↦
-            let kept : is_kept (target_in t) (map (λ (u : TargetNumbers). u.versions) (map target_in ts)) (seen_part (part_numbered t.source d.layout.parts)) ≡ true =
-            rw (← numbered-in t.source d.layout.parts) (rw e at h) in
-            (kept-of before t ts (part_numbered t.source d.layout.parts) refl cover kept, ascends t ts (part_numbered t.source d.layout.parts) kept)
+            let kept : is_kept (target_in t) later (seen_part (part_numbered t.source parts)) ≡ true = rw (← numbered-in t.source parts) (rw e at h) in
+            kept-from (part_numbered t.source parts) cover kept
       ]
-    where
-      ascends : (t : Target) (ts : List Target) (o : Option Part) → is_kept (target_in t) (map (λ (u : TargetNumbers). u.versions) (map target_in ts)) (seen_part o) ≡ true → Ascend 0 t.kept
-      ascends t ts None h = absurd cc
-      ascends t ts (Some part) h =
-          let halves = and-both (meets t.versions part.versions && not (list_any (λ other. meets other part.versions) (map (λ (u : TargetNumbers). u.versions) (map target_in ts)))) _ h in
-          let places = and-both (ascend_from 0 t.kept && are_below (length part.segments) t.kept) _ halves.1 in
-          ascend-in 0 t.kept (and-both (ascend_from 0 t.kept) (are_below (length part.segments) t.kept) places.0).0
+
+module _ (d : Cvd) (next : ℕ) (sound : ArePartsFrom 1 next d.layout.parts) (new : IsNew (length d.versions.items + 1) d.layout.parts) (no_zero : is_placed d.layout.parts 0 ≡ false) (zero_none : part_numbered 0 d.layout.parts ≡ None) (records : d.records < 2 ^ 32) where
+  abbrev count : ℕ
+  count = length d.versions.items
 
   pub targets-run : (before : List ℕ) (ts : List Target) → All (IsListed count) (map (λ (t : Target). t.versions) ts)
       → ((vid : ℕ) → 1 ≤ vid → vid ≤ count → (has before vid || is_in_target ts vid) ≡ true)
@@ -306,7 +300,9 @@ module _ (d : Cvd) (next : ℕ) (sound : ArePartsFrom 1 next d.layout.parts) (ne
       let both = and-both (is_size (set_in d) (target_in t) && is_source (map part_in d.layout.parts) (target_in t) later) (are_targets (set_in d) (map target_in ts)) h in
       let own = and-both (is_size (set_in d) (target_in t)) (is_source (map part_in d.layout.parts) (target_in t) later) both.0 in
       let here : IsListed count t.versions = listed 0 t.versions (omega arith) in
-      let source = source-of before t ts cover own.1 in
+      let source = source-from before t ts d.layout.parts zero_none
+      (λ part found vid is. let range = part-there count 1 next t.source d.layout.parts part sound new no_zero found vid is in cover vid range.0 range.1) own.1
+      in
       let there : AreThere count t.versions = λ vid is. (from-one 1 t.versions vid here.ascend is, here.there vid is) in
       let target : IsTarget count t = record {
         some = (let some = here.some in omega (arith, some));
@@ -352,10 +348,10 @@ parts-some : (d : SetNumbers Extent Extent) (p q : ℕ) (parts : List (List ℕ)
 parts-some d p q [] is some = let once : 0 ≡ 1 = is.once 1 (omega arith) some in absurd (omega (arith, once))
 parts-some d p q (part ∷ parts) is some = omega arith
 
-pub can-begin : (d : Cvd) (plan : Plan) (parts : List (List ℕ)) → IsSet d → ArePartsFrom 1 d.layout.next d.layout.parts → is_none d.plan ≡ true → d.layout.next ≤ 4294000000
+pub can-begin : (d : Cvd) (plan : Plan) (parts : List (List ℕ)) → IsSet d → ArePartsFrom 1 d.layout.next d.layout.parts → is_none d.plan ≡ true → 1 ≤ plan.p → d.layout.next ≤ 4294000000
     → IsSplitOf (set_in d) plan.p plan.q parts → map target_in plan.targets ≡ targets_of parts (map said_by plan.targets) → length plan.targets ≡ length parts
     → are_targets (set_in d) (map target_in plan.targets) ≡ true → plan.at ≡ 0 → plan.copied ≡ 0 → plan.segments.items ≡ [] → CanBegin plan d
-can-begin d plan parts is sound idle low split said long are at copied segments =
+can-begin d plan parts is sound idle positive low split said long are at copied segments =
     let count : length (set_in d).versions ≡ length d.versions.items = length-map d.versions.items version_in in
     let few = parts-few (set_in d) plan.p plan.q parts split in
     let all = is.few in
@@ -369,6 +365,7 @@ can-begin d plan parts is sound idle low split said long are at copied segments 
     let targets : map target_in plan.targets ≡ targets_of (parts_at plan.p plan.q (set_in d)) (map said_by plan.targets) = said ∙ ap (λ (ps : List (List ℕ)). targets_of ps (map said_by plan.targets)) split.parts_are in
     record {
       idle = nothing-is d.plan idle;
+      threshold = record { said = said-as plan.p plan.q positive; runs = refl };
       begins = λ i. Some (record { p = plan.p; q = plan.q; targets = targets i; at = at i; copied = copied i; segments = segments i });
       next = omega (arith, low, long, few, count, all, some);
       runs = record {

@@ -11,11 +11,12 @@ use Rattle.ov_model.specs.World.{World, empty_world}
 use Rattle.ov_catalog.specs.Numbers.{VersionNumbers, PartNumbers, PlanNumbers, SetNumbers, Numbers, each_version, each_part, each_plan, each_set, each, nothing_yet}
 use Rattle.ov_catalog.specs.Events.{Event, applied, replayed}
 use Rattle.ov_event.specs.declared.event.Event as raw
-use Rattle.ov_catalog.specs.Applying.{AllApply, first_off}
+use Rattle.ov_catalog.specs.Applying.{AtStart}
 use Rattle.ov_catalog.specs.Raw.{event_in, numbers_in}
 use Rattle.ov_catalog.specs.Extents.{of_plan, of_set, live, brought, covers, AreApart}
 use Rattle.ov_catalog.specs.Shown.{Rids, Records, shown, event_of}
 use Rattle.ov_catalog.specs.Stands.{Readings, seen, asked, seen_event, asked_as, StandsFor, ReadSame, IsMove}
+use Rattle.ov_catalog.proofs.Following.{apply_more}
 use Rattle.ov_catalog.proofs.Covering.{live_applied, applies_built, apart_events}
 use Rattle.ov_catalog.proofs.Emptying.{flip_fits}
 use Rattle.ov_catalog.proofs.Filling.{applied_each, replayed_more}
@@ -96,19 +97,17 @@ mapped_more es e = map-append event_in es (e ∷ [])
 numbers_more : (es : List raw.Event) (e : raw.Event) → numbers_in (es ++ e ∷ []) ≡ applied (event_in e) (numbers_in es)
 numbers_more es e = ap (λ xs. replayed xs nothing_yet) (mapped_more es e) ∙ replayed_more (map event_in es) (event_in e) nothing_yet
 
-apply_more : (es : List raw.Event) (e : raw.Event) (n : Numbers Extent Extent) → AllApply es n → first_off e (replayed (map event_in es) n) ≡ None → AllApply (es ++ e ∷ []) n
-apply_more [] e n all is = (is, tt)
-apply_more (x ∷ es) e n all is = (all.0, apply_more es e (applied (event_in x) n) all.1 is)
+-- numbers whose extents read the same
+pub seen_same : (n : Numbers Extent Extent) (old new : Readings) → ReadSame (live n) old new → seen new n ≡ seen old n
+seen_same n old new same = λ i. record { next = n.next; sets = sets_same old new n.sets same.lists same.segments i }
 
 pub same_readings : (events : List raw.Event) (old new : Readings) (w : World) → StandsFor events old w → ReadSame (live (numbers_in events)) old new → StandsFor events new w
-same_readings events old new w stands same =
-    let n : Numbers Extent Extent = numbers_in events
-    in record {
-      reached = stands.reached;
-      applies = stands.applies;
-      shows = (λ i. record { next = n.next; sets = sets_same old new n.sets same.lists same.segments i }) ∙ stands.shows;
-      apart = record { once = stands.apart.once; inside = same.there };
-    }
+same_readings events old new w stands same = record {
+  reached = stands.reached;
+  applies = stands.applies;
+  shows = seen_same (numbers_in events) old new same ∙ stands.shows;
+  apart = record { once = stands.apart.once; inside = same.there };
+}
 
 -- ---- one event more
 
@@ -121,7 +120,7 @@ one_more events r w e m stands is =
     λ page. live_applied page e n (applies_built e n is.applies) (apart_events e n (flip_fits w n r (good w stands.reached) stands.shows))
     in record {
       reached = reached_more m w stands.reached is.fits;
-      applies = apply_more events e nothing_yet stands.applies is.applies;
+      applies = apply_more AtStart events e nothing_yet stands.applies is.applies;
       shows = ap (seen r) more
           ∙ applied_each r.list r.segment (event_in e) n
           ∙ of_event (event_of m w) refl is.spells;

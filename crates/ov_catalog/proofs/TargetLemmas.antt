@@ -71,7 +71,7 @@ numbered-in id (part ∷ parts) =
 pub zero-none : (next : ℕ) (parts : List Part) → ArePartsFrom 1 next parts → part_numbered 0 parts ≡ None
 zero-none next parts sound = numbered-none parts 0 (has-below 1 (ids_of parts) 0 (ids-ascend 1 next parts sound) (omega arith))
 
-above-one : (n : ℕ) (ns : List ℕ) (vid : ℕ) → IsAbove n ns → has ns vid ≡ true → vid < n
+pub above-one : (n : ℕ) (ns : List ℕ) (vid : ℕ) → IsAbove n ns → has ns vid ≡ true → vid < n
 above-one n [] vid h there = absurd cc
 above-one n (m ∷ ns) vid h there =
     elim (cases_Bool (eqb m vid)) [

@@ -26,6 +26,7 @@ use Rattle.ov_catalog.specs.Events as events
 use Rattle.ov_catalog.specs.Extents.{emptied, given_by, parted_with}
 use Rattle.ov_catalog.specs.Numbers.{PartNumbers, PlanNumbers, SetNumbers, TargetNumbers}
 use Rattle.ov_catalog.specs.Planning.{copy_off, flip_off, missing}
+use Rattle.ov_catalog.specs.Thresholds.{IsSaid}
 use Rattle.ov_catalog.proofs.FlipLemmas.{chosen-in, given-few, given-in, left-in, push-in, segments-in}
 use Rattle.ov_catalog.specs.Applying.{targets_from}
 use Rattle.ov_catalog.specs.Steps.{current_steps, later_steps, plan_steps, steps_for}
@@ -152,8 +153,8 @@ runs-on count parts last plan (Some next) turn h is zero_none =
 
 pub flip-set : (d new : Cvd) (plan : Plan) (last : Part) → IsSet d → IsRunning (length d.versions.items) d.layout.parts plan → left_of d.plan ≡ targets_left plan → new.versions ≡ d.versions → new.records ≡ d.records
     → last.versions ≡ (current plan).versions → last.holds ≡ (current plan).versions → new.layout.parts ≡ left_parts (current plan).versions d.layout.parts ++ last ∷ [] → new.layout.next ≡ d.layout.next + 1
-    → IsNextOf plan new.plan → part_numbered 0 new.layout.parts ≡ None → IsSet new
-flip-set d new plan last is runs left same records versions holds parts next after zero_none =
+    → IsNextOf plan new.plan → part_numbered 0 new.layout.parts ≡ None → IsSaid new.threshold (plan_in new.plan) → IsSet new
+flip-set d new plan last is runs left same records versions holds parts next after zero_none said =
     let turn = turn-of (length d.versions.items) d.layout.parts plan runs in
     let long : length new.versions.items ≡ length d.versions.items = ap (λ vs. length vs.items) same in
     let little = left-one-less plan new.plan runs.at after in
@@ -174,6 +175,7 @@ flip-set d new plan last is runs left same records versions holds parts next aft
       next = omega (arith, next, little, was, all, long);
       plan = subst (λ (n : ℕ). IsPlanned n new.layout.parts new.plan) (sym long)
           (subst (λ (ps : List Part). IsPlanned (length d.versions.items) ps new.plan) (sym parts) (runs-on (length d.versions.items) d.layout.parts last plan new.plan turn runs after zero_left));
+      threshold = said;
     }
   where
     no-zero : (versions : List ℕ) → ((vid : ℕ) → has versions vid ≡ true → 1 ≤ vid) → has versions 0 ≡ false

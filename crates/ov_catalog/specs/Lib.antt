@@ -16,6 +16,8 @@ pub mod Splitting
 pub mod Seen
 pub mod Running
 pub mod Sets
+pub mod Thresholds
+pub mod Drafts
 pub mod Answers
 pub mod Ready
 pub mod Arriving

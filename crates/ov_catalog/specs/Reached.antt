@@ -1,6 +1,6 @@
 -- Which moves fit a World, and which Worlds moves reach.
 --     Suits m w      what a command asks before it makes the move
---     Fits m w      the same, of the moves that are built so far: all but those that add columns and a checkpoint
+--     Fits m w      the same, of the moves that are built so far: all but those that add columns
 --     Reached w      such moves lead from the empty World of one of the formats to it; a plan of a dataset may run there
 --     ReachedByAll w      the same with all moves
 use Rattle.std.specs.Prelude.{◌≡◌, ◌≢◌, ◌⊎◌, ◌<◌, ◌≤◌, ◌^◌, ◌-◌, ℕ, IsTrue, IsUtf8, is_ok, List, [], ◌∷◌, ◌++◌, length, Option, Some, None}
@@ -114,14 +114,9 @@ Reached w = (format : ℕ) × IsFormat format × (ms : List Move) × Leads (empt
 
 -- ---- with all moves
 
--- The World after a move, in a store whose format number stays. A checkpoint changes that of a store of format 1, and what it
--- leaves is a World of format 2, which the same moves reach from the empty World of format 2.
-abbrev pub moved_within : Move → World → World
-moved_within m w = record (moved m w) { format = w.format }
-
 abbrev pub LeadsByAll : World → List Move → World → Type 0
 LeadsByAll v [] w = v ≡ w
-LeadsByAll v (m ∷ ms) w = Suits m v × LeadsByAll (moved_within m v) ms w
+LeadsByAll v (m ∷ ms) w = Suits m v × LeadsByAll (moved m v) ms w
 
 abbrev pub ReachedByAll : World → Type 0
 ReachedByAll w = (format : ℕ) × IsFormat format × (ms : List Move) × LeadsByAll (empty_world_of format) ms w

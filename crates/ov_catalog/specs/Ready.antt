@@ -18,6 +18,8 @@ use Rattle.ov_value.specs.Shapes.{Shape}
 use Rattle.ov_catalog.specs.declared.cvd.Cvd.{Cvd}
 use Rattle.ov_catalog.specs.declared.cvd.Plan.{Plan}
 use Rattle.ov_catalog.specs.declared.cvd.Target.{Target}
+use Rattle.ov_catalog.specs.declared.reach.Reach as came
+use Rattle.ov_catalog.specs.declared.reach.Reach.TheVariants as came_to
 use Rattle.ov_catalog.specs.declared.room.Room.{Room}
 use Rattle.ov_catalog.specs.declared.room.Room.TheVariants as kept_for
 use Rattle.ov_catalog.specs.declared.room.Spare.{Spare}
@@ -25,7 +27,9 @@ use Rattle.ov_catalog.specs.Numbers.{Numbers}
 use Rattle.ov_catalog.specs.Raw.{place_in, shape_in}
 use Rattle.ov_catalog.specs.Events.{graph_of, planned}
 use Rattle.ov_catalog.specs.Running.{IsPlanned, IsRunning, current, left_of}
+use Rattle.ov_catalog.specs.Applying.{Reach, AtStart, InSnapshot, Beyond}
 use Rattle.ov_catalog.specs.Sets.{numbers_of, plan_in, set_in, version_in}
+use Rattle.ov_catalog.specs.Thresholds.{IsSaid}
 
 -- for which event there is room: for none, for an Init with a schema, for a Commit to a dataset at a place, for a Plan of a dataset
 -- at a threshold with what is said of its targets, for a Copy or a Flip in a dataset
@@ -37,11 +41,13 @@ pub data Ready : Type 0 where
   ForCopy : ℕ → Ready
   ForFlip : ℕ → Ready
 
+-- the numbers, for which event there is room, and how far the half of the journal has come whose events were applied
 pub record Kept : Type 0 where
   pub numbers : Numbers Extent Extent
   pub ready : Ready
+  pub reach : Reach
 
--- A drop needs no room. None is made yet for the events of a snapshot and for added columns.
+-- A drop needs no room. None is made for the events of a snapshot, nor yet for added columns.
 abbrev pub HasRoom : raw.Event → Ready → Type 0
 HasRoom (says.Init name schema rows list segment) ready = ready ≡ ForInit (shape_in schema)
 HasRoom (says.Commit cvd vid message parents rows fresh place added list segment) ready = ready ≡ ForCommit cvd (place_in place)
@@ -70,9 +76,21 @@ ready_in (kept_for.Plan cvd plan) = ForPlan cvd plan.p plan.q (map said_by plan.
 ready_in (kept_for.Copy cvd) = ForCopy cvd
 ready_in (kept_for.Flip cvd versions) = ForFlip cvd
 
+-- within a snapshot the next dataset's number is the one that its Base says
+abbrev pub reach_in : ℕ → came.Reach → Reach
+reach_in next came_to.AtStart = AtStart
+reach_in next (came_to.InSnapshot last) = InSnapshot next last
+reach_in next came_to.Beyond = Beyond
+
+-- within a snapshot no dataset's number is above the last one's
+abbrev pub AreUpTo : came.Reach → List ℕ → Type 0
+AreUpTo came_to.AtStart numbers = Unit {0}
+AreUpTo (came_to.InSnapshot last) numbers = IsAbove (last + 1) numbers
+AreUpTo came_to.Beyond numbers = Unit {0}
+
 -- What is true of each dataset: it has versions, not too many, each with parents among those before it; all are placed, and no
 -- partition has another one; its records have numbers; so many numbers are left for partitions that each target that wasn't flipped and each later version
--- can have one; and a plan that runs can run to its end.
+-- can have one; a plan that runs can run to its end; and a Whole can say the threshold and the plan.
 pub record IsSet (d : Cvd) : Type 0 where
   pub some : 1 ≤ length d.versions.items
   pub few : length d.versions.items ≤ 65535
@@ -83,6 +101,7 @@ pub record IsSet (d : Cvd) : Type 0 where
   pub records : d.records < 2 ^ 32
   pub next : d.layout.next + length (left_of d.plan) + 65535 < 2 ^ 32 + length d.versions.items
   pub plan : IsPlanned (length d.versions.items) d.layout.parts d.plan
+  pub threshold : IsSaid d.threshold (plan_in d.plan)
 
 -- a dataset without its versions, with room for one
 pub record IsSpare (spare : Spare) : Type 0 where
@@ -106,6 +125,7 @@ FitsNumbered cvd place d = d.number ≡ cvd → FitsVersion place d
 -- a plan that can begin in a dataset: by what was said of its targets, and so that it can run
 pub record CanBegin (plan : Plan) (d : Cvd) : Type 0 where
   pub idle : d.plan ≡ None
+  pub threshold : IsSaid (Some (plan.p, plan.q)) (plan_in (Some plan))
   pub begins : plan_in (Some plan) ≡ (planned plan.p plan.q (map said_by plan.targets) (set_in d)).plan
   pub next : d.layout.next + length plan.targets + 65535 < 2 ^ 32 + length d.versions.items
   pub runs : IsRunning (length d.versions.items) d.layout.parts plan

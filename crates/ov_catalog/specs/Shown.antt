@@ -16,7 +16,7 @@ use Rattle.ov_model.specs.Book.{Version}
 use Rattle.ov_model.specs.Lists.{joined}
 use Rattle.ov_model.specs.Moves as moves
 use Rattle.ov_model.specs.Moves.{Move, piece_of, placed_at, numbered, wide}
-use Rattle.ov_model.specs.Plans.{records_in, kept_pieces, parts_at, targets_of, missing}
+use Rattle.ov_model.specs.Plans.{records_in, parts_at, targets_of, missing}
 use Rattle.ov_model.specs.Records.{Rec, recs, records_of, order_of, fresh_in, rid_in, weights, lacking}
 use Rattle.ov_model.specs.World.{Part, Target, Dataset, World, held, first_set}
 use Rattle.ov_model.specs.World as worlds

@@ -11,7 +11,7 @@ use Rattle.ov_model.specs.World.{World}
 use Rattle.ov_event.specs.declared.event.Event as raw
 use Rattle.ov_catalog.specs.Numbers.{Numbers, each, nothing_yet}
 use Rattle.ov_catalog.specs.Events.{Event, each_event}
-use Rattle.ov_catalog.specs.Applying.{AllApply, AllFollow, first_off, start_of}
+use Rattle.ov_catalog.specs.Applying.{AllApply, AllFollow, AtStart, first_off, start_of}
 use Rattle.ov_catalog.specs.Extents.{AreApart, brought, covers, live}
 use Rattle.ov_catalog.specs.Raw.{event_in, numbers_in}
 use Rattle.ov_catalog.specs.Reached.{Fits, Reached, ReachedByAll}
@@ -43,7 +43,7 @@ asked_event m w = option_map asked_as (event_of m w)
 
 pub record StandsFor (events : List raw.Event) (r : Readings) (w : World) : Type 0 where
   pub reached : Reached w
-  pub applies : AllApply events nothing_yet
+  pub applies : AllApply AtStart events nothing_yet
   pub shows : seen r (numbers_in events) ≡ asked w
   pub apart : AreApart (live (numbers_in events)) r.pages
 

@@ -1,13 +1,15 @@
 //! An Init.
 
-ghost use Rattle.std.specs.Prelude.{◌≡◌, IfOk};
+ghost use Rattle.std.specs.Prelude.{◌≡◌, ◌&&◌, not, nat_lt, length, IfOk};
+ghost use Rattle.std.specs.List.{list_any};
 ghost use Rattle.ov_layout.specs.Changes.{extents_of};
 ghost use Rattle.ov_catalog.specs.Answers.{Answers};
-ghost use Rattle.ov_catalog.specs.Applying.{init_off};
+ghost use Rattle.ov_catalog.specs.Applying.{init_off, is_named};
 ghost use Rattle.ov_catalog.specs.Events.{new_set};
 ghost use Rattle.ov_catalog.specs.Raw.{shape_in};
 ghost use Rattle.ov_catalog.specs.Ready.{IsSet, IsSpare};
 ghost use Rattle.ov_catalog.specs.Sets.{set_in, sets_in};
+ghost use Rattle.ov_value.specs.Naming.{is_name as is_name_by};
 
 use crate::cvd::{Cvd, Version};
 use crate::error::ApplyErr;
@@ -24,6 +26,13 @@ use ov_model::{MOST_CVDS, MOST_ROWS};
 use ov_value::{Schema, Txt, is_name};
 use std::alloc::{AllocError, Global};
 
+/// Whether one more dataset may have the name: it is one, none of these has it, and they aren't too many.
+pub fn is_free(sets: &[Cvd], name: &Txt) -> bool
+    ensures { result ≡ (is_name_by name.now && (not (list_any (is_named name.now) (sets_in sets.now)) && nat_lt (length (sets_in sets.now)) 1024)) }
+{
+    is_name(name.as_str()) && !has_name(sets, name) && sets.len() < MOST_CVDS
+}
+
 /// Whether a dataset may begin beside these, and then its schema.
 pub fn check_init(
     alloc: Global,
@@ -39,10 +48,7 @@ pub fn check_init(
     ensures made { IfOk result (λ made. made ≡ shape_in schema.now) }
 {
     unless(next < u32::MAX, Field::Number)?;
-    unless(
-        is_name(name.as_str()) && !has_name(sets, name) && sets.len() < MOST_CVDS,
-        Field::Name,
-    )?;
+    unless(is_free(sets, name), Field::Name)?;
     let made = schema_from(alloc, schema)?;
     unless(rows <= MOST_ROWS, Field::Rows)?;
     unless(

@@ -30,11 +30,11 @@ pub fn a_snapshot_says_the_world()
     ensures world { (w : World) (before : Numbers Rids Records) → replayed (snapshot_of w) before ≡ shown w }
 {}
 
-/// An event that is built applies where it follows by all that counts, however far the half has come; and then those behind
-/// each other do. So it is with the Worlds that moves reach, and with what stands for them.
+/// The event of a move that is built applies where it follows by all that counts, however far the half has come; and so do events
+/// that are built behind each other. So it is with the Worlds that moves reach, and with what stands for them.
 pub fn what_is_built_follows()
     ensures one { (stage : Stage) (e : raw.Event) (n : Numbers Extent Extent) → first_off e n ≡ None → off_at stage e n ≡ None }
-    ensures all { (events : List raw.Event) (stage : Stage) (n : Numbers Extent Extent) → AllApply events n → AllFollow stage events n }
+    ensures all { (events : List raw.Event) (stage : Stage) (n : Numbers Extent Extent) → AllApply stage.reach events n → AllFollow stage events n }
     ensures reached { (w : World) → Reached w → ReachedByAll w }
     ensures stands { (format : ℕ) (events : List raw.Event) (r : Readings) (w : World) → StandsFor events r w → StandsForAll format events r w }
 {}

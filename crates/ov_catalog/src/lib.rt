@@ -1,7 +1,8 @@
 //! The catalog: all that the journal's events say of the live datasets.
 //!
-//! It takes the events that are built: a dataset begins, gets a version or goes, and a plan of it begins, copies and flips. Those
-//! of a snapshot and those that add columns are defined, and refused.
+//! It takes the events that are built: a dataset begins, gets a version or goes, and a plan of it begins, copies and flips. A half
+//! of the journal may begin with a snapshot, whose events are taken where a half is replayed: they have no room made before. It
+//! gives the events of its own snapshot. Those that add columns are defined, and refused.
 #![tactic(auto)]
 
 mod arrival;
@@ -9,23 +10,31 @@ mod catalog;
 mod commit;
 mod copies;
 mod cvd;
+mod draft;
 mod error;
 mod extents;
 mod field;
 mod finding;
 mod flips;
 mod freeing;
+mod in_order;
 mod init;
 mod laws;
 mod parents;
 mod placing;
 mod plans;
+mod reach;
 mod refusing;
 mod room;
 mod schemas;
+mod snapshots;
 mod steps;
 mod targets;
 mod telling;
+mod whole_parts;
+mod whole_plans;
+mod whole_versions;
+mod wholes;
 mod worked;
 
 pub use catalog::Catalog;

@@ -68,6 +68,21 @@ fn are_distinct(alloc: Global, parents: &[(u32, u32)]) -> Result<bool, AllocErro
 }
 
 /// Whether a version of so many rows may have these parents: at least one, each there, and none twice.
+pub fn may_have(
+    alloc: Global,
+    versions: &[Version],
+    rows: u32,
+    parents: &[(u32, u32)],
+) -> Result<bool, AllocError>
+    ensures { IfOk result (λ may. may ≡ are_parents (map version_in versions.now) rows parents.now) }
+{
+    if parents.is_empty() || !are_there(versions, rows, parents) {
+        return Ok(false);
+    }
+    are_distinct(alloc, parents)
+}
+
+/// The parents of a new version of so many rows.
 pub fn check_parents(
     alloc: Global,
     versions: &[Version],
@@ -76,7 +91,5 @@ pub fn check_parents(
 ) -> Result<(), ApplyErr>
     ensures { Answers result (off_unless (are_parents (map version_in versions.now) rows parents.now) off.Parent) }
 {
-    unless(!parents.is_empty(), Field::Parent)?;
-    unless(are_there(versions, rows, parents), Field::Parent)?;
-    unless(are_distinct(alloc, parents)?, Field::Parent)
+    unless(may_have(alloc, versions, rows, parents)?, Field::Parent)
 }

@@ -27,7 +27,8 @@ use std::alloc::{AllocError, Global};
 /// No plan begins where the next partition's number is greater, so that numbers are left for its targets and later versions.
 const MOST_NEXT: u32 = 4_294_000_000;
 
-fn is_threshold(p: u32, q: u32) -> bool
+/// Whether it is a threshold p / q.
+pub fn is_threshold(p: u32, q: u32) -> bool
     ensures { result ≡ is_threshold_by p q }
 {
     1 <= p && p <= q && q <= 1_000_000

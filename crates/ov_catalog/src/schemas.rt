@@ -1,4 +1,4 @@
-//! The schema of an Init.
+//! A schema as an event spells it.
 
 ghost use Rattle.std.specs.Prelude.{◌≡◌, true, map, is_ok, IfOk, Ok};
 ghost use Rattle.ov_catalog.specs.declared.field.Field.TheVariants as off;
@@ -11,7 +11,7 @@ ghost use Rattle.ov_value.specs.Shapes.{IsSound};
 use crate::error::ApplyErr;
 use crate::field::Field;
 use crate::refusing::unless;
-use ov_event::RawSchema;
+use ov_event::{Items, RawSchema};
 use ov_value::{Column, Schema, SchemaErr, Txt};
 use std::alloc::{AllocError, Global};
 
@@ -70,4 +70,14 @@ pub fn schema_from(alloc: Global, raw: &RawSchema) -> Result<Schema, ApplyErr>
     let names = names_at(alloc, columns, key)?;
     let made = made_of(alloc, copies_of(alloc, columns)?, names)?;
     Ok(made)
+}
+
+/// A schema as an event spells it.
+pub fn spelled(alloc: Global, schema: &Schema) -> Result<RawSchema, AllocError>
+    ensures { IfOk result (λ said. shape_in said ≡ schema.now) }
+{
+    Ok(RawSchema {
+        columns: Items::new(copies_of(alloc, schema.columns())?),
+        key: Items::new(Vec::from_slice(alloc, schema.key())?),
+    })
 }

@@ -4,15 +4,16 @@ ghost use Rattle.std.specs.Prelude.{◌≡◌, ℕ, ◌≤◌, ◌<◌, ◌+◌,
 ghost use Rattle.std.specs.List.{list_all, list_any};
 ghost use Rattle.ov_layout.specs.Parts.{Ascend, has};
 ghost use Rattle.ov_catalog.specs.Applying.{rows_at};
-ghost use Rattle.ov_catalog.specs.Planning.{are_below, are_targets as are_targets_in, ascend_from, is_size as is_size_by, meets as meets_by};
+ghost use Rattle.ov_catalog.specs.Planning.{are_below, are_targets as are_targets_in, ascend_from as ascend_from_by, is_size as is_size_by, meets as meets_by};
 ghost use Rattle.ov_catalog.specs.Ready.{IsSet};
 ghost use Rattle.ov_catalog.specs.Running.{AreThere};
-ghost use Rattle.ov_catalog.specs.Seen.{is_kept_by, is_source_by};
+ghost use Rattle.ov_catalog.specs.Seen.{AscendWithin, is_kept_by, is_source_by};
 ghost use Rattle.ov_catalog.specs.Sets.{part_in, set_in, target_in, version_in};
 
 use crate::cvd::{Cvd, Target, Version};
 use crate::extents::is_same;
 use crate::finding::{is_among, part_at};
+use crate::in_order::ascend_from;
 use ov_layout::Part;
 use std::alloc::{AllocError, Global};
 
@@ -36,18 +37,18 @@ fn is_size(d: &Cvd, t: &Target) -> bool
     are_within(&d.versions, t.versions.as_slice(), t.size) && t.size <= d.records
 }
 
+// Whether no place is at a limit or above it.
+fn are_all_below(places: &[u32], limit: usize) -> bool
+    ensures { result ≡ are_below limit places.now }
+{
+    places.iter().all(|place| (*place as usize) < limit)
+}
+
 // Whether places ascend, below a limit.
 fn ascend_below(places: &[u32], limit: usize) -> bool
-    ensures { result ≡ (ascend_from 0 places.now && are_below limit places.now) }
+    ensures { result ≡ (ascend_from_by 0 places.now && are_below limit places.now) }
 {
-    let mut least = 0u64;
-    for place in places {
-        if u64::from(*place) < least || *place as usize >= limit {
-            return false;
-        }
-        least = u64::from(*place) + 1;
-    }
-    true
+    ascend_from(0, places) && are_all_below(places, limit)
 }
 
 // Whether a partition has one of these versions.
@@ -59,8 +60,8 @@ fn meets(vids: &[u32], part: &Part) -> bool
     vids.iter().any(|vid| is_among(versions, *vid))
 }
 
-// Whether one of these versions is marked.
-fn is_seen(vids: &[u32], seen: &[bool]) -> bool
+/// Whether one of these versions is marked.
+pub fn is_seen(vids: &[u32], seen: &[bool]) -> bool
     requires { (vid : ℕ) → has vids.now vid ≡ true → vid < length seen.now }
     ensures { result ≡ list_any (λ vid. slice_index_or seen.now vid false) vids.now }
 {
@@ -72,8 +73,8 @@ fn is_seen(vids: &[u32], seen: &[bool]) -> bool
     false
 }
 
-// Marks these versions too.
-fn mark(seen: &mut [bool], vids: &[u32])
+/// Marks these versions too.
+pub fn mark(seen: &mut [bool], vids: &[u32])
     requires { (vid : ℕ) → has vids.now vid ≡ true → vid < length seen.old }
     ensures { (vid : ℕ) → slice_index_or seen.new vid false ≡ (slice_index_or seen.old vid false || has vids.now vid) }
 {
@@ -96,15 +97,14 @@ fn may_keep(part: &Part, t: &Target, seen: &[bool]) -> bool
         && t.kept_records <= t.size
 }
 
-fn is_source(d: &Cvd, t: &Target, seen: &[bool]) -> bool
-    requires set { IsSet d.now }
-    requires long { length seen.now ≡ length d.now.versions.items + 1 }
-    ensures { result ≡ is_source_by (λ vid. slice_index_or seen.now vid false) (map part_in d.now.layout.parts) (target_in t.now) }
+/// Whether a target's source is one of these partitions, as a Plan may have it; the versions of later targets are marked.
+pub fn is_source(parts: &[Part], t: &Target, seen: &[bool]) -> bool
+    requires { AscendWithin (length seen.now) parts.now }
+    ensures { result ≡ is_source_by (λ vid. slice_index_or seen.now vid false) (map part_in parts.now) (target_in t.now) }
 {
     if t.source == 0 {
         return t.kept.as_slice().is_empty() && t.kept_records == 0;
     }
-    let parts = d.layout.parts();
     match part_at(parts, t.source) {
         None => false,
         Some(at) => may_keep(&parts[at], t, seen),
@@ -117,7 +117,7 @@ fn may_be(d: &Cvd, t: &Target, seen: &[bool]) -> bool
     requires long { length seen.now ≡ length d.now.versions.items + 1 }
     ensures { result ≡ (is_size_by (set_in d.now) (target_in t.now) && is_source_by (λ vid. slice_index_or seen.now vid false) (map part_in d.now.layout.parts) (target_in t.now)) }
 {
-    is_size(d, t) && is_source(d, t, seen)
+    is_size(d, t) && is_source(d.layout.parts(), t, seen)
 }
 
 // They are gone through from the last one on, so that the versions of later ones are marked.

@@ -52,7 +52,7 @@ returns-clause-set c =
     let graph : IsGraph (graph_of (map version_in c.push.new.self.items)) =
     subst (λ (vs : List Version). IsGraph (graph_of (map version_in vs))) (sym items) (versions-graph d.versions.items _ set.some (omega (arith, vid, few)) set.graph fact.parents_are) in
     let ascend = ids-ascend 1 d.layout.next d.layout.parts placed.sound.sound in
-    set-more d _ new.vid (place_in new.place) set fact.vid fact.few size placed.new placed.stay placed.placed placed.next refl graph
+    set-more d _ new.vid (place_in new.place) set fact.vid fact.few size placed.new placed.stay placed.placed placed.next refl refl graph
     (placed.others 0 (λ e. absurd (omega (arith, e, vid))) set.none_other)
     (planned-on d c.args.parents new d.plan _ refl set fact ascend placed.numbered placed.zero set.plan)
     (let records = fact.records in omega (arith, records))

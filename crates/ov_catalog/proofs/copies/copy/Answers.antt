@@ -1,4 +1,4 @@
-use Rattle.std.proofs.Common.{◌≡◌, length, sym, subst, arith}
+use Rattle.std.proofs.Common.{◌≡◌, length, subst, arith}
 use Rattle.std.specs.Prelude.{Option, Some, None}
 use Rattle.ov_catalog.specs.declared.cvd.Plan.{Plan}
 use Rattle.ov_catalog.specs.Planning.{copy_off, of_running}

@@ -3,7 +3,7 @@ use Rattle.std.proofs.lemmas.List.Elements.{All-set}
 use Rattle.ov_host.specs.declared.area.Extent.{Extent}
 use Rattle.ov_catalog.specs.Numbers.{SetNumbers}
 use Rattle.ov_catalog.specs.Ready.{IsSet}
-use Rattle.ov_catalog.proofs.SetLemmas.{find-at, change-at, change-none, set-numbers}
+use Rattle.ov_catalog.proofs.SetLemmas.{find-at, change-at, set-numbers}
 use Rattle.ov_catalog.proofs.copies.copy_in.Goals as goal
 
 pub copy-requires-clause-room : goal.copy-requires-clause-room

@@ -1,7 +1,6 @@
-use Rattle.std.proofs.Common.{◌≡◌, ◌+◌, ◌++◌, ◌≤◌, List, [], ◌∷◌, length, get_or, map, refl, sym, ap, subst, ◌∙◌, arith}
+use Rattle.std.proofs.Common.{◌≡◌, ◌+◌, ◌++◌, List, length, get_or, map, refl, sym, ap, subst, ◌∙◌, arith}
 use Rattle.std.specs.Prelude.{Option, Some, None}
 use Rattle.ov_host.specs.declared.area.Extent.{Extent}
-use Rattle.ov_layout.specs.declared.part.Part.{Part}
 use Rattle.ov_layout.specs.Flips.{Flip, flip_of, given_up, flipped_part, with_flipped}
 use Rattle.ov_layout.specs.Flips as layout
 use Rattle.ov_layout.specs.Parts.{Partitions}
@@ -11,10 +10,12 @@ use Rattle.ov_catalog.specs.Extents.{given_by}
 use Rattle.ov_catalog.specs.Planning.{flip_off, of_running}
 use Rattle.ov_catalog.specs.Ready.{MayFlip}
 use Rattle.ov_catalog.specs.Running.{IsPlanned, current, left_of, no_target}
-use Rattle.ov_catalog.specs.Sets.{part_in, plan_in}
+use Rattle.ov_catalog.specs.Sets.{part_in, plan_in, plan_numbers}
+use Rattle.ov_catalog.specs.Thresholds.{IsSaid}
 use Rattle.ov_catalog.proofs.SetLemmas.{get-any}
 use Rattle.ov_catalog.proofs.TargetLemmas.{zero-none}
-use Rattle.ov_catalog.proofs.TurnLemmas.{flip_by, flip-fits, flip-set, given-is, given-most, may-flip, next-same, set-flipped, turn-few, turn-of}
+use Rattle.ov_catalog.proofs.ThresholdLemmas.{said-next}
+use Rattle.ov_catalog.proofs.TurnLemmas.{flip_by, flip-fits, flip-set, given-is, may-flip, next-same, set-flipped, turn-of}
 use Rattle.ov_catalog.proofs.flips.flip.Goals as goal
 
 pub overflow_add-target : goal.overflow_add-target
@@ -101,6 +102,7 @@ returns-in-Some-clause-set c =
     let after : c.flip.new.self ≡ with_flipped (flip_by plan) d.layout = c.flip.ensures.flipped ∙ ap (λ (f : Flip). with_flipped f d.layout) same in
     flip-set d _ plan (flipped_part d.layout.next (flip_by plan) d.layout.parts) c.requires.set runs (ap left_of is) refl refl refl refl
     (ap (λ (l : Partitions). l.parts) after) (ap (λ (l : Partitions). l.next) after) (next-same _ plan c.next_target.result refl refl c.next_target.ensures.targets) (zero-none c.flip.new.self.next c.flip.new.self.parts c.parts.ensures.sound.sound)
+    (said-next d.threshold (plan_numbers plan) (plan_in c.next_target.result) (subst (λ (o : Option Plan). IsSaid d.threshold (plan_in o)) is c.requires.set.threshold) c.next_target.ensures.next)
 
 pub returns-in-Some-clause-freed : goal.returns-in-Some-clause-freed
 returns-in-Some-clause-freed c =

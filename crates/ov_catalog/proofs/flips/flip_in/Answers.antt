@@ -1,11 +1,9 @@
-use Rattle.std.proofs.Common.{ap, ◌∙◌, append-nil, sym}
+use Rattle.std.proofs.Common.{ap, ◌∙◌, append-nil}
 use Rattle.std.proofs.lemmas.List.Elements.{All-set}
 use Rattle.ov_host.specs.declared.area.Extent.{Extent}
 use Rattle.ov_catalog.specs.Numbers.{SetNumbers}
 use Rattle.ov_catalog.specs.Ready.{IsSet}
 use Rattle.ov_catalog.proofs.SetLemmas.{find-at, change-at, filter-at, set-numbers}
-use Rattle.ov_catalog.specs.Events.{numbered}
-use Rattle.ov_catalog.specs.Sets.{sets_in}
 use Rattle.ov_catalog.proofs.TurnLemmas.{flipped-number}
 use Rattle.ov_catalog.proofs.flips.flip_in.Goals as goal
 

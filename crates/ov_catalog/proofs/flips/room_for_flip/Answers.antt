@@ -1,12 +1,10 @@
-use Rattle.std.proofs.Common.{[], ◌∷◌, ap, sym, ◌∙◌, append-nil}
+use Rattle.std.proofs.Common.{ap, ◌∙◌, append-nil}
 use Rattle.std.proofs.lemmas.List.Elements.{All-set}
 use Rattle.ov_host.specs.declared.area.Extent.{Extent}
-use Rattle.ov_catalog.specs.declared.cvd.Cvd.{Cvd}
-use Rattle.ov_catalog.specs.Sets.{set_in}
 use Rattle.ov_catalog.specs.Numbers.{SetNumbers}
 use Rattle.ov_catalog.specs.Ready.{IsSet, MayFlip}
 use Rattle.ov_catalog.proofs.SetLemmas.{find-at, set-same, filter-at}
-use Rattle.ov_catalog.proofs.RoomLemmas.{only-set, if-ok, on-ok}
+use Rattle.ov_catalog.proofs.RoomLemmas.{only-set, if-ok}
 use Rattle.ov_catalog.proofs.flips.room_for_flip.Goals as goal
 
 pub returns-clause-answer : goal.returns-clause-answer

@@ -1,20 +1,10 @@
-use Rattle.std.proofs.Common.{◌≡◌, ◌+◌, ◌++◌, ◌≤◌, ℕ, List, [], ◌∷◌, length, get_or, map, refl, sym, ap, subst, ◌∙◌, arith}
-use Rattle.std.specs.Prelude.{Option, Some, None, sum_by}
-use Rattle.ov_host.specs.declared.area.Extent.{Extent}
+use Rattle.std.proofs.Common.{◌≡◌, ℕ, List, length, ap, subst, ◌∙◌, arith}
+use Rattle.std.specs.Prelude.{Option, Some, sum_by}
 use Rattle.ov_layout.specs.declared.part.Part.{Part}
-use Rattle.ov_layout.specs.Flips.{Flip, flip_of, given_up, flipped_part, with_flipped}
-use Rattle.ov_layout.specs.Flips as layout
 use Rattle.ov_layout.specs.Parts.{Partitions}
 use Rattle.ov_catalog.specs.declared.cvd.Plan.{Plan}
-use Rattle.ov_catalog.specs.declared.cvd.Target.{Target}
-use Rattle.ov_catalog.specs.Extents.{given_by}
-use Rattle.ov_catalog.specs.Planning.{flip_off, of_running}
-use Rattle.ov_catalog.specs.Ready.{MayFlip}
-use Rattle.ov_catalog.specs.Running.{IsPlanned, current, left_of, no_target}
-use Rattle.ov_catalog.specs.Sets.{part_in, plan_in}
-use Rattle.ov_catalog.proofs.SetLemmas.{get-any}
-use Rattle.ov_catalog.proofs.TargetLemmas.{zero-none}
-use Rattle.ov_catalog.proofs.TurnLemmas.{flip_by, flip-fits, flip-set, given-is, given-most, may-flip, set-flipped, turn-few, turn-of}
+use Rattle.ov_catalog.specs.Running.{IsPlanned}
+use Rattle.ov_catalog.proofs.TurnLemmas.{given-most, turn-few, turn-of}
 use Rattle.ov_catalog.proofs.flips.room_in.Goals as goal
 
 pub overflow_cast-len : goal.overflow_cast-len

@@ -1,4 +1,3 @@
-use Rattle.ov_layout.proofs.AddLemmas.{next-some}
 use Rattle.ov_layout.proofs.NewLemmas.{new-own}
 use Rattle.ov_catalog.proofs.PartLemmas.{own-in, own-numbered, own-others, own-placed, own-stay, own-zero}
 use Rattle.ov_catalog.proofs.placing.own.Goals as goal

@@ -3,7 +3,7 @@ use Rattle.std.proofs.lemmas.List.Elements.{All-set}
 use Rattle.ov_host.specs.declared.area.Extent.{Extent}
 use Rattle.ov_catalog.specs.Numbers.{SetNumbers}
 use Rattle.ov_catalog.specs.Ready.{IsSet}
-use Rattle.ov_catalog.proofs.SetLemmas.{find-at, change-at, change-none, set-numbers}
+use Rattle.ov_catalog.proofs.SetLemmas.{change-at, change-none, set-numbers}
 use Rattle.ov_catalog.proofs.plans.begin_plan.Goals as goal
 
 pub begin-requires-clause-can : goal.begin-requires-clause-can

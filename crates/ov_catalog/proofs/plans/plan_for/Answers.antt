@@ -1,4 +1,4 @@
-use Rattle.std.proofs.Common.{◌≡◌, ◌≤◌, ◌&&◌, ℕ, Bool, List, true, length, map, Vec, Global, refl, sym, subst, ap, ◌∙◌, arith}
+use Rattle.std.proofs.Common.{◌≡◌, ◌&&◌, ℕ, List, true, length, map, Vec, Global, refl, sym, subst, ap, ◌∙◌, arith}
 use Rattle.std.specs.Prelude.{nat_le, is_none}
 use Rattle.std.proofs.lemmas.Bool.{eqb-true, leb-true}
 use Rattle.std.proofs.lemmas.List.{length-map}
@@ -44,10 +44,11 @@ returns-clause-begins c =
     let begins = sym c.may_begin.ensures ∙ off-true _ _ c.in_ok-unless.ensures in
     let idle = and-both (is_none d.plan) (is_threshold c.args.p c.args.q && nat_le d.layout.next 4294000000) begins in
     let low = and-both (is_threshold c.args.p c.args.q) (nat_le d.layout.next 4294000000) idle.1 in
+    let range = and-both (nat_le 1 c.args.p) (nat_le c.args.p c.args.q && nat_le c.args.q 1000000) low.0 in
     let spoken : map target_in ts ≡ targets_of parts (map said_by ts) = same ∙ ap (λ (xs : List PlanTarget). targets_of parts xs) (sym c.in_ok-targets.ensures.said) in
     let told = ap (λ (xs : List PlanTarget). length xs) c.in_ok-targets.ensures.said in
     let all = length-map ts said_by in
     let many : length ts ≡ length parts = omega (arith, told, all, long) in
     let are : are_targets (set_in d) (map target_in ts) ≡ true = sym (rw c.deref-2.ensures.value at c.in_ok-are_targets.ensures) ∙ off-true _ _ c.in_ok-unless-3.ensures in
     subst (λ (xs : List Target). CanBegin (record { p = c.args.p; q = c.args.q; targets = xs; at = 0; copied = 0; segments = c.new-2.result }) d) (sym c.new.ensures)
-    (can-begin d (record { p = c.args.p; q = c.args.q; targets = ts; at = 0; copied = 0; segments = c.new-2.result }) parts c.requires c.parts.ensures.sound.sound idle.0 (leb-true _ _ low.1) c.in_ok-split.ensures spoken many are refl refl c.new-2.ensures.items)
+    (can-begin d (record { p = c.args.p; q = c.args.q; targets = ts; at = 0; copied = 0; segments = c.new-2.result }) parts c.requires c.parts.ensures.sound.sound idle.0 (leb-true _ _ range.0) (leb-true _ _ low.1) c.in_ok-split.ensures spoken many are refl refl c.new-2.ensures.items)

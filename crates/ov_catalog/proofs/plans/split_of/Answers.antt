@@ -1,5 +1,4 @@
-use Rattle.std.proofs.Common.{◌≡◌, map, ap, ◌∙◌}
-use Rattle.ov_graph.specs.Trees.{IsSound}
+use Rattle.std.proofs.Common.{◌≡◌, map}
 use Rattle.ov_graph.specs.Versions.{reduced}
 use Rattle.ov_graph.proofs.ReducedLemmas.{reduced-IsSound}
 use Rattle.ov_lyre.specs.Parts.{lists_of}

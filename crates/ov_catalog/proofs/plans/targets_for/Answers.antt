@@ -1,8 +1,6 @@
-use Rattle.std.proofs.Common.{◌≡◌, ◌<◌, ◌++◌, [], ◌∷◌, ap, sym, ◌∙◌, length, get_or, arith, Vec, Global}
-use Rattle.std.specs.Prelude.{List, ℕ}
+use Rattle.std.proofs.Common.{◌≡◌, ◌++◌, [], ◌∷◌, ap, ◌∙◌, get_or, arith, Vec, Global}
+use Rattle.std.specs.Prelude.{ℕ}
 use Rattle.ov_catalog.specs.Events.{target_of}
-use Rattle.ov_event.specs.declared.event.PlanTarget.{PlanTarget}
-use Rattle.ov_catalog.specs.declared.cvd.Target.{Target}
 use Rattle.ov_catalog.specs.Ready.{said_by}
 use Rattle.ov_catalog.specs.Sets.{target_in}
 use Rattle.ov_catalog.proofs.SplitLemmas.{said-one, target-more}

@@ -1,4 +1,4 @@
-use Rattle.std.proofs.Common.{◌≡◌, ℕ, ◌<◌, ◌-◌, ◌&&◌, Bool, get_or, drop, length, map, ap, sym, ◌∙◌, arith}
+use Rattle.std.proofs.Common.{◌≡◌, ℕ, ◌&&◌, Bool, get_or, drop, map, ap, sym, ◌∙◌, arith}
 use Rattle.ov_layout.proofs.VidLemmas.{has-get}
 use Rattle.std.specs.Prelude.{nat_le, true, false, ◌+◌}
 use Rattle.std.specs.List.{list_all}

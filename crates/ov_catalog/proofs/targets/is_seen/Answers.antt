@@ -1,4 +1,3 @@
-use Rattle.std.proofs.Common.{arith}
 use Rattle.ov_layout.proofs.VidLemmas.{has-get}
 use Rattle.ov_catalog.proofs.targets.is_seen.Goals as goal
 

@@ -13,10 +13,10 @@ invariant_of-self c =
     let size : length new ≡ length inside.sets.items = c.copy_in.auto.sets ∙ ap (λ (ds : List Cvd). length ds) c.deref_mut.ensures.value in
     let is = whole new inside.sets.items inside.sets.len size inside.sets.ok.0 in
     let numbers = rw c.deref_mut.ensures.value at c.copy_in.ensures.numbers in
-    rw is (are-same inside.next inside.sets.items new numbers c.copy_in.ensures.sound c.self.invariant.0, tt)
+    rw is (are-same inside.next inside.sets.items new numbers c.copy_in.ensures.sound c.self.invariant.0, tt, tt)
 
-pub returns : goal.returns
-returns c =
+pub returns-clause-copied : goal.returns-clause-copied
+returns-clause-copied c =
     let inside = c.self.inside in
     let new = c.copy_in.new.sets in
     let size : length new ≡ length inside.sets.items = c.copy_in.auto.sets ∙ ap (λ (ds : List Cvd). length ds) c.deref_mut.ensures.value in

@@ -10,7 +10,7 @@ use Rattle.ov_catalog.proofs.catalog.Catalog.drop_set.Goals as goal
 pub invariant_of-self : goal.invariant_of-self
 invariant_of-self c =
     let inside = c.self.inside in
-    (rw c.drop_from.ensures.left (sets-stay c.args.cvd inside.next inside.sets.items c.self.invariant.0), tt)
+    (rw c.drop_from.ensures.left (sets-stay c.args.cvd inside.next inside.sets.items c.self.invariant.0), tt, tt)
 
 pub returns-clause-dropped : goal.returns-clause-dropped
 returns-clause-dropped c =

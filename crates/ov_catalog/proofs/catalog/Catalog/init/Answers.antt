@@ -21,10 +21,10 @@ invariant_of-self c =
     let ok = c.push.ensures.succeeds (omega (arith, room, len)) in
     let items : c.push.new.self.items ≡ inside.sets.items ++ d ∷ [] = rw ok at c.push.ensures.items in
     let number = ap (λ (s : SetNumbers Extent Extent). s.number) c.begin-d.ensures.made in
-    (rw items (sets-push inside.next inside.sets.items d c.self.invariant.0 space.2 number c.begin-d.ensures.set), rw c.in-Init.ensures.after tt)
+    (rw items (sets-push inside.next inside.sets.items d c.self.invariant.0 space.2 number c.begin-d.ensures.set), rw c.in-Init.ensures.after tt, tt)
 
-pub returns-in-Init : goal.returns-in-Init
-returns-in-Init c schema is =
+pub returns-in-Init-clause-begun : goal.returns-in-Init-clause-begun
+returns-in-Init-clause-begun c schema is =
     let inside = c.self.inside in
     let d = c.begin-d.result in
     let space = rw (← c.in-Init.ensures.value) at c.self.invariant.1 in

@@ -1,7 +1,7 @@
 use Rattle.std.proofs.Common.{◌≡◌, List, length, ap, ◌∙◌}
 use Rattle.ov_layout.proofs.FlippedLemmas.{whole}
 use Rattle.ov_catalog.specs.declared.cvd.Cvd.{Cvd}
-use Rattle.ov_catalog.proofs.RoomLemmas.{are-same}
+use Rattle.ov_catalog.proofs.RoomLemmas.{are-same, up-to-same}
 use Rattle.ov_catalog.proofs.SetLemmas.{same-numbers}
 use Rattle.ov_catalog.proofs.catalog.Catalog.room_for_commit.Goals as goal
 
@@ -12,7 +12,7 @@ invariant_of-self c =
     let size : length new ≡ length inside.sets.items = c.room_for_commit.auto.sets ∙ ap (λ (ds : List Cvd). length ds) c.deref_mut.ensures.value in
     let is = whole new inside.sets.items inside.sets.len size inside.sets.ok.0 in
     let same = rw c.deref_mut.ensures.value at c.room_for_commit.ensures.same in
-    rw is (are-same inside.next inside.sets.items new (same-numbers new inside.sets.items same) c.room_for_commit.ensures.sound c.self.invariant.0, tt)
+    rw is (are-same inside.next inside.sets.items new (same-numbers new inside.sets.items same) c.room_for_commit.ensures.sound c.self.invariant.0, tt, up-to-same inside.reach inside.sets.items new (same-numbers new inside.sets.items same) c.self.invariant.2)
 
 pub invariant_of-self-2 : goal.invariant_of-self-2
 invariant_of-self-2 c =
@@ -21,4 +21,4 @@ invariant_of-self-2 c =
     let size : length new ≡ length inside.sets.items = c.room_for_commit.auto.sets ∙ ap (λ (ds : List Cvd). length ds) c.deref_mut.ensures.value in
     let is = whole new inside.sets.items inside.sets.len size inside.sets.ok.0 in
     let same = rw c.deref_mut.ensures.value at c.room_for_commit.ensures.same in
-    rw is (are-same inside.next inside.sets.items new (same-numbers new inside.sets.items same) c.room_for_commit.ensures.sound c.self.invariant.0, c.in_ok-room_for_commit.ensures.room)
+    rw is (are-same inside.next inside.sets.items new (same-numbers new inside.sets.items same) c.room_for_commit.ensures.sound c.self.invariant.0, c.in_ok-room_for_commit.ensures.room, up-to-same inside.reach inside.sets.items new (same-numbers new inside.sets.items same) c.self.invariant.2)

@@ -1,10 +1,16 @@
-use Rattle.std.proofs.Common.{◌≡◌, ◌<◌, ◌≤◌, ◌+◌, length, vec_capacity, ap, arith}
+use Rattle.std.proofs.Common.{length, ap, arith}
 use Rattle.std.proofs.lemmas.List.{length-map}
 use Rattle.ov_host.specs.declared.area.Extent.{Extent}
 use Rattle.ov_catalog.specs.Numbers.{Numbers}
 use Rattle.ov_catalog.specs.Sets.{set_in, sets_in}
-use Rattle.ov_catalog.proofs.RoomLemmas.{init-few}
+use Rattle.ov_catalog.proofs.RoomLemmas.{init-few, space-stays}
 use Rattle.ov_catalog.proofs.catalog.Catalog.room_for_init.Goals as goal
+
+pub invariant_of-self : goal.invariant_of-self
+invariant_of-self c =
+    let inside = c.self.inside in
+    let items = c.in_err-reserve.ensures.items in
+    (rw items c.self.invariant.0, space-stays inside.room inside.sets c.reserve.new.self items c.in_err-reserve.ensures.capacity c.self.invariant.1, rw items c.self.invariant.2)
 
 pub invariant_of-self-2 : goal.invariant_of-self-2
 invariant_of-self-2 c =
@@ -17,4 +23,4 @@ invariant_of-self-2 c =
     let same = ap (λ ds. length ds) items in
     let len = c.reserve.new.self.ok.0 in
     let ok = c.in_ok-reserve.ensures.ok in
-    (rw items c.self.invariant.0, (c.in_ok-spare.ensures.spare, omega (arith, len, ok, same), omega (arith, few, slice, long, same)))
+    (rw items c.self.invariant.0, (c.in_ok-spare.ensures.spare, omega (arith, len, ok, same), omega (arith, few, slice, long, same)), rw items c.self.invariant.2)
