@@ -285,7 +285,7 @@ move_applies events r w e (BeginPlan cvd p q) stands fits sound spells = plan_ap
 move_applies events r w e (Copy cvd) stands fits sound spells = copy_applies events r w e cvd stands fits sound spells
 move_applies events r w e (Flip cvd) stands fits sound spells = flip_applies events r w e cvd stands fits spells
 move_applies events r w e (Drop cvd) stands fits sound spells = drop_applies events r w e cvd stands fits spells
-move_applies events r w e Checkpoint stands fits sound spells = absurd fits
+move_applies events r w e Checkpoint stands fits sound spells = absurd cc
 
 pub is_move : (events : List raw.Event) (r : Readings) (w : World) (e : raw.Event) (m : Move) → StandsFor events r w → Fits m w → IsSoundEvent e → Some (seen_event r e) ≡ asked_event m w
     → ((page : ℕ) → covers (brought (event_in e)) page + covers (live (numbers_in events)) page ≤ 1) → ((page : ℕ) → 1 ≤ covers (brought (event_in e)) page → page < r.pages)

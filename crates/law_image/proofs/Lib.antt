@@ -1,4 +1,5 @@
 pub mod Readers
 pub mod Standing
+pub mod Checkpointed
 pub mod Extents
 pub mod Worked

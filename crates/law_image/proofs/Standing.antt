@@ -1,5 +1,5 @@
 -- The laws of what images stand for.
-use Rattle.std.proofs.Common.{◌≡◌, ◌/◌, ◌≢◌, ◌<◌, ◌≤◌, ◌+◌, ◌*◌, ◌-◌, ◌==◌, inl, inr, ℕ, zero, suc, slice_index, Bool, true, if◌then◌else◌, List, [], ◌∷◌, ◌++◌, length, take, drop, map, None, refl, sym, ◌∙◌, ap, subst, arith, length-append}
+use Rattle.std.proofs.Common.{◌≡◌, ◌/◌, ◌≢◌, ◌<◌, ◌≤◌, ◌+◌, ◌*◌, ◌-◌, ◌==◌, inl, inr, ℕ, zero, suc, slice_index, Bool, true, if◌then◌else◌, List, [], ◌∷◌, ◌++◌, length, take, drop, map, Option, Some, None, refl, sym, ◌∙◌, ap, subst, arith, length-append}
 use Rattle.std.specs.List.{AllByRecursion}
 use Rattle.std.proofs.lemmas.Bool.Decides.{nat_tests}
 use Rattle.std.proofs.lemmas.List.{map-append}
@@ -16,10 +16,12 @@ use Rattle.ov_journal.proofs.Unique.{one_thing}
 use Rattle.ov_model.specs.Lists.{IsIn}
 use Rattle.ov_model.specs.Moves.{Move, Init, Commit, BeginPlan, Copy, Flip, Drop, Checkpoint, moved}
 use Rattle.ov_model.specs.World.{World, empty_world}
+use Rattle.ov_catalog.specs.Events as numbered
 use Rattle.ov_catalog.specs.Extents.{covers, has_page, live}
 use Rattle.ov_catalog.specs.Raw.{numbers_in}
 use Rattle.ov_catalog.specs.Reached.{Fits}
-use Rattle.ov_catalog.specs.Stands.{StandsFor, ReadSame, IsMove}
+use Rattle.ov_catalog.specs.Shown.{Rids, Records}
+use Rattle.ov_catalog.specs.Stands.{StandsFor, ReadSame, IsMove, asked_event, seen_event}
 use Rattle.ov_catalog.proofs.Standing as catalog
 use Rattle.law_image.specs.Lists.{list_in}
 use Rattle.law_image.specs.Segments.{segment_in}
@@ -160,7 +162,7 @@ used_covered (e ∷ es) p (inr later) = let more : 1 ≤ covers es (p / 4096) = 
 pub same_pages : (es : List Extent) (old new : List ℕ) → AreThere es new → ((p : ℕ) → 1 ≤ covers es (p / 4096) → slice_index new p ≡ slice_index old p) → SameLive es old new
 same_pages es old new there same = record { there = there; same = λ p is. same p (used_covered es p is) }
 
-read_same : (es : List Extent) (old new : List ℕ) → AreThere es old → SameLive es old new → ReadSame es (readings_of old) (readings_of new)
+pub read_same : (es : List Extent) (old new : List ℕ) → AreThere es old → SameLive es old new → ReadSame es (readings_of old) (readings_of new)
 read_same es old new there kept_live = record {
   lists = λ e is. ap (λ (bytes : List ℕ). if length bytes == e.bytes then list_in bytes else None) (bytes_same es old new there kept_live e is);
   segments = λ e is. ap (λ (bytes : List ℕ). if length bytes == e.bytes then segment_in bytes else None) (bytes_same es old new there kept_live e is);
@@ -169,7 +171,7 @@ read_same es old new there kept_live = record {
 
 -- ---- other images that stand for the same World
 
-stands_on : (events : List Event) (w : World) (old new : List ℕ) → StandsFor events (readings_of old) w → SameLive (live (numbers_in events)) old new → StandsFor events (readings_of new) w
+pub stands_on : (events : List Event) (w : World) (old new : List ℕ) → StandsFor events (readings_of old) w → SameLive (live (numbers_in events)) old new → StandsFor events (readings_of new) w
 stands_on events w old new stands kept_live =
     catalog.same_readings events (readings_of old) (readings_of new) w stands (read_same (live (numbers_in events)) old new stands.apart.inside kept_live)
 
@@ -202,15 +204,19 @@ other_pages kept events w old new stands same kept_live =
 
 -- ---- one payload more
 
-pub counted : (m : Move) (w : World) → Fits m w → ((moved m w).epoch ≡ w.epoch) × ((moved m w).format ≡ w.format) × ((moved m w).records ≡ w.records + 1)
-counted (Init name schema rows) w fits = (refl, refl, refl)
-counted (Commit cvd parents message [] rows) w fits = (refl, refl, refl)
-counted (Commit cvd parents message (c ∷ cs) rows) w fits = absurd fits
-counted (BeginPlan cvd p q) w fits = (refl, refl, refl)
-counted (Copy cvd) w fits = (refl, refl, refl)
-counted (Flip cvd) w fits = (refl, refl, refl)
-counted (Drop cvd) w fits = (refl, refl, refl)
-counted Checkpoint w fits = absurd fits
+-- a checkpoint has no event of its own
+pub no_event : (w : World) (e : numbered.Event (Option Rids) (Option Records)) → Some e ≡ asked_event Checkpoint w → ⊥
+no_event w e is = absurd cc
+
+pub counted : (m : Move) (w : World) → m ≢ Checkpoint → Fits m w → ((moved m w).epoch ≡ w.epoch) × ((moved m w).format ≡ w.format) × ((moved m w).records ≡ w.records + 1)
+counted (Init name schema rows) w other fits = (refl, refl, refl)
+counted (Commit cvd parents message [] rows) w other fits = (refl, refl, refl)
+counted (Commit cvd parents message (c ∷ cs) rows) w other fits = absurd fits
+counted (BeginPlan cvd p q) w other fits = (refl, refl, refl)
+counted (Copy cvd) w other fits = (refl, refl, refl)
+counted (Flip cvd) w other fits = (refl, refl, refl)
+counted (Drop cvd) w other fits = (refl, refl, refl)
+counted Checkpoint w other fits = absurd (other refl)
 
 all_more : (es : List Event) (e : Event) → AllByRecursion IsEvent es → IsEvent e → AllByRecursion IsEvent (es ++ e ∷ [])
 all_more [] e all is = (is, tt)
@@ -226,7 +232,7 @@ pub one_more : (kept : Kept) (events : List Event) (w : World) (old new : Image)
     → IsEvent e → IsJournal (and_one kept (spelling e)) new.journal → SameLive (live (numbers_in events)) old.pages new.pages
     → IsMove e m w (numbers_in events) (readings_of new.pages) → StandsBy (and_one kept (spelling e)) (events ++ e ∷ []) (moved m w) new
 one_more kept events w old new e m stands is journal kept_live move =
-    let count = counted m w move.fits
+    let count = counted m w (λ same. no_event w (seen_event (readings_of new.pages) e) (subst (λ k. Some (seen_event (readings_of new.pages) e) ≡ asked_event k w) same move.spells)) move.fits
     in record {
       journal = journal;
       spell = spell_more events e kept.payloads stands.spell is;

@@ -1,13 +1,10 @@
--- What an image of the disk stands for where all events and all moves count, and the law of checkpoints, which is to be proved
--- with the command.
+-- What an image of the disk stands for where all events and all moves count, and what it is after a checkpoint.
 --     StandsByAll kept events w c      by this journal and the events that its payloads spell, the World
 --     IsCheckpointed kept events next snapshot old new      the image after a checkpoint
---     CheckpointStands      it stands for the World after the move
 use Rattle.std.specs.Prelude.{◌≡◌, ◌+◌, List, length}
 use Rattle.ov_host.specs.Disk.{Image}
 use Rattle.ov_event.specs.declared.event.Event.{Event}
 use Rattle.ov_journal.specs.Journal.{Kept, IsJournal}
-use Rattle.ov_model.specs.Moves.{Checkpoint, moved}
 use Rattle.ov_model.specs.World.{World}
 use Rattle.ov_catalog.specs.Extents.{live}
 use Rattle.ov_catalog.specs.Raw.{numbers_in}
@@ -33,8 +30,3 @@ pub record IsCheckpointed (kept : Kept) (events : List Event) (next : Kept) (sna
   pub spell : Spell snapshot next.payloads
   pub says : IsSnapshot snapshot (numbers_in events)
   pub pages : SameLive (live (numbers_in events)) old.pages new.pages
-
-abbrev pub CheckpointStands : Type 0
-CheckpointStands =
-    (kept next : Kept) (events snapshot : List Event) (w : World) (old new : Image) → StandsByAll kept events w old
-    → IsCheckpointed kept events next snapshot old new → StandsByAll next snapshot (moved Checkpoint w) new

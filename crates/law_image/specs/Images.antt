@@ -2,9 +2,8 @@
 --     StandsBy kept events w c      by this journal and the events that its payloads spell, the World
 --     StandsAs w c      the World, by some journal; or the empty one, where no journal was made
 --
--- The Worlds are those that `Reached` has: from the empty World of format 1 or 2, whose epoch is 1, by Init, Commit without added
--- columns, and Drop. So as yet no image with a journal of another epoch than 1 (after a checkpoint), or with a record of another
--- event stands for a World.
+-- The Worlds are those that `Reached` has: from the empty World of format 1 or 2, whose epoch is 1, by all moves but a Commit with
+-- added columns. A checkpoint makes the epoch one more, and the format number 2.
 use Rattle.std.specs.Prelude.{◌≡◌, ◌⊎◌, ℕ, List, [], length, map}
 use Rattle.std.specs.List.{AllByRecursion}
 use Rattle.ov_host.specs.Disk.{Image}

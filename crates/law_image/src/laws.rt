@@ -1,6 +1,6 @@
 //! Laws of what images stand for, each the contract of a function that does nothing.
 
-ghost use Rattle.std.specs.Prelude.{◌≡◌, ◌≢◌, ◌≤◌, ◌<◌, ◌+◌, ◌/◌, ℕ, List, [], ◌∷◌, ◌++◌, take, slice_index};
+ghost use Rattle.std.specs.Prelude.{◌≡◌, ◌≢◌, ◌≤◌, ◌<◌, ◌+◌, ◌-◌, ◌/◌, ◌^◌, ℕ, List, [], ◌∷◌, ◌++◌, take, slice_index};
 ghost use Rattle.ov_host.specs.declared.area.Extent.{Extent};
 ghost use Rattle.ov_host.specs.Disk.{Image};
 ghost use Rattle.ov_event.specs.declared.event.Event.{Event};
@@ -17,12 +17,12 @@ ghost use Rattle.ov_journal.specs.Journal.{
   end_of,
   new_kept,
 };
-ghost use Rattle.ov_model.specs.Moves.{Move, moved};
+ghost use Rattle.ov_model.specs.Moves.{Checkpoint, Move, moved};
 ghost use Rattle.ov_model.specs.World.{World, empty_world};
 ghost use Rattle.ov_catalog.specs.Extents.{covers, live};
 ghost use Rattle.ov_catalog.specs.Raw.{numbers_in};
 ghost use Rattle.ov_catalog.specs.Stands.{IsMove};
-ghost use Rattle.law_image.specs.Checkpoints.{StandsByAll};
+ghost use Rattle.law_image.specs.Checkpoints.{IsCheckpointed, StandsByAll};
 ghost use Rattle.law_image.specs.Images.{SaysSame, Spell, StandsAs, StandsBy};
 ghost use Rattle.law_image.specs.Pages.{SameLive, pages_in, readings_of};
 ghost use Rattle.law_image.specs.Worked.{the_image, the_world};
@@ -72,6 +72,15 @@ pub fn one_more_payload()
         → StandsBy kept events w old → IsEvent e → IsJournal (and_one kept (spelling e)) new.journal
         → SameLive (live (numbers_in events)) old.pages new.pages → IsMove e m w (numbers_in events) (readings_of new.pages)
         → StandsBy (and_one kept (spelling e)) (events ++ e ∷ []) (moved m w) new }
+{}
+
+/// Where an image stands for a World, one whose journal is of the next epoch and of format 2 and says the snapshot, with the same
+/// bytes in the live extents, stands for the World after a checkpoint.
+pub fn a_checkpoint_stands()
+    ensures built { (kept next : Kept) (events snapshot : List Event) (w : World) (old new : Image) → StandsBy kept events w old
+        → IsCheckpointed kept events next snapshot old new → kept.epoch < 2 ^ 32 - 1 → StandsBy next snapshot (moved Checkpoint w) new }
+    ensures all { (kept next : Kept) (events snapshot : List Event) (w : World) (old new : Image) → StandsByAll kept events w old
+        → IsCheckpointed kept events next snapshot old new → kept.epoch < 2 ^ 32 - 1 → StandsByAll next snapshot (moved Checkpoint w) new }
 {}
 
 /// An unmade journal beside no page, and a new journal without a payload beside any pages, stand for the empty World.

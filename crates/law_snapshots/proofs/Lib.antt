@@ -1,7 +1,6 @@
-pub mod Again
 pub mod Beginning
 pub mod Carrying
-pub mod Checkpointed
+pub mod Built
 pub mod Committing
 pub mod Copied
 pub mod Flipped

@@ -3,7 +3,7 @@
 --     IsWhole d      of one dataset
 --     AreWhole n      of all, and of their numbers and names
 --     IsBeside reach n      what the numbers are where the half has come so far
-use Rattle.std.specs.Prelude.{◌≡◌, ◌≤◌, ℕ, true, false, nat_le, nat_lt, List, [], ◌∷◌, ◌++◌, length, map, Option, Some, None}
+use Rattle.std.specs.Prelude.{◌≡◌, ◌≤◌, ℕ, true, false, nat_le, nat_lt, List, [], ◌∷◌, ◌++◌, length, map}
 use Rattle.std.specs.List.{list_all, list_any, AllByRecursion}
 use Rattle.std.specs.Str.{bytes_eq}
 use Rattle.ov_event.specs.declared.event.RawSchema.{RawSchema}
@@ -11,29 +11,16 @@ use Rattle.ov_host.specs.declared.area.Extent.{Extent}
 use Rattle.ov_value.specs.Naming.{is_name}
 use Rattle.ov_value.specs.Shapes.{Shape}
 use Rattle.ov_catalog.specs.Applying.{Reach, AtStart, InSnapshot, Beyond}
-use Rattle.ov_catalog.specs.Numbers.{PlanNumbers, SetNumbers, Numbers}
+use Rattle.ov_catalog.specs.Numbers.{SetNumbers, Numbers}
 use Rattle.ov_catalog.specs.Planning.{ascend_from}
 use Rattle.ov_catalog.specs.Raw.{threshold_in}
 use Rattle.ov_catalog.specs.Testing.{is_schema}
+pub use Rattle.ov_catalog.specs.Thresholds.{p_of, q_of, RunsAt}
 use Rattle.ov_catalog.specs.Wholes.{are_versions, are_records, are_parts, is_plan, is_threshold_for, are_placed}
 
 -- a schema's columns and the places of its key columns
 abbrev pub spelled : Shape → RawSchema
 spelled s = record { columns = s.columns; key = s.key }
-
--- the numbers of a threshold, 0 for none
-abbrev pub p_of : Option (ℕ × ℕ) → ℕ
-p_of None = 0
-p_of (Some threshold) = threshold.0
-
-abbrev pub q_of : Option (ℕ × ℕ) → ℕ
-q_of None = 0
-q_of (Some threshold) = threshold.1
-
--- a plan runs at the dataset's threshold
-abbrev pub RunsAt : {S : Type 0} → Option (ℕ × ℕ) → Option (PlanNumbers S) → Type 0
-RunsAt threshold None = Unit {0}
-RunsAt threshold (Some plan) = threshold ≡ Some (plan.p, plan.q)
 
 pub record IsWhole (d : SetNumbers Extent Extent) : Type 0 where
   pub named : is_name d.name ≡ true

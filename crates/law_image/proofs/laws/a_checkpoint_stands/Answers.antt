@@ -1,0 +1,8 @@
+use Rattle.law_image.proofs.Checkpointed.{all_stand, built_stands}
+use Rattle.law_image.proofs.laws.a_checkpoint_stands.Goals as goal
+
+pub returns-clause-built : goal.returns-clause-built
+returns-clause-built c kept next events snapshot w old new stands is = built_stands kept next events snapshot w old new is stands
+
+pub returns-clause-all : goal.returns-clause-all
+returns-clause-all c kept next events snapshot w old new stands is = all_stand kept next events snapshot w old new is stands
