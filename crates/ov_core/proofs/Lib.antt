@@ -9,3 +9,6 @@ pub mod Keeping
 pub mod Bare
 pub mod Replaying
 pub mod Roomy
+pub mod Texts
+pub mod Spelled
+pub mod Taking

@@ -13,7 +13,7 @@ use Rattle.ov_event.specs.declared.event.Event.{Event}
 use Rattle.ov_event.specs.Spelling.{IsEvent, spelling}
 use Rattle.ov_journal.specs.Held as journals
 use Rattle.ov_journal.specs.Held.{IsAt}
-use Rattle.ov_catalog.specs.Applying.{AllApply}
+use Rattle.ov_catalog.specs.Applying.{AllApply, AtStart}
 use Rattle.ov_catalog.specs.Extents.{covers, live}
 use Rattle.ov_catalog.specs.Numbers.{Numbers, nothing_yet}
 use Rattle.ov_catalog.specs.Raw.{numbers_in}
@@ -27,12 +27,12 @@ pub record IsReplay (payloads : List (List ℕ)) (n : Numbers Extent Extent) : T
   pub events : List Event
   pub are : AllByRecursion IsEvent events
   pub written : payloads ≡ map spelling events
-  pub apply : AllApply events nothing_yet
+  pub apply : AllApply AtStart events nothing_yet
   pub end : n ≡ numbers_in events
 
 pub record IsReplayed (n : Numbers Extent Extent) : Type 0 where
   pub events : List Event
-  pub apply : AllApply events nothing_yet
+  pub apply : AllApply AtStart events nothing_yet
   pub are : n ≡ numbers_in events
 
 -- the journal stands on the host as the store keeps it, nothing of it is pending, and its payloads replay to the store's numbers

@@ -3,3 +3,4 @@ pub mod AtWorld
 pub mod Brought
 pub mod Errors
 pub mod Rooms
+pub mod Snapshots

@@ -5,17 +5,22 @@
 --     IsFull live list segment pages      one of them finds none
 --     IsWhy why held b old new      why a change isn't made
 --     IsWhyNotRecorded why held e old new      why one isn't that brings no run
-use Rattle.std.specs.Prelude.{◌≡◌, ◌⊎◌, ◌≤◌, ◌<◌, ℕ, ◌+◌, ◌/◌, ◌^◌, List, [], ◌∷◌, length}
+--     HasNoPlace held      there is no epoch or no place for a snapshot
+use Rattle.std.specs.Prelude.{◌≡◌, ◌⊎◌, ◌≤◌, ◌<◌, ℕ, ◌+◌, ◌/◌, ◌^◌, List, [], ◌∷◌, length, map}
 use Rattle.ov_host.specs.declared.area.Extent.{Extent}
+use Rattle.ov_host.specs.Disk.{Disk, Image, Leaves}
 use Rattle.ov_host.specs.Host.{Rose, State}
 use Rattle.ov_event.specs.Spelling.{spelling}
 use Rattle.ov_event.specs.declared.event.Event as raw
 use Rattle.ov_event.specs.declared.event.Event.TheVariants as says
+use Rattle.ov_journal.specs.Checkpoints.{HasNoRoom, turned_to}
 use Rattle.ov_journal.specs.Held as journals
 use Rattle.ov_catalog.specs.Extents.{covers, live}
 use Rattle.ov_catalog.specs.Events.{applied}
+use Rattle.ov_catalog.specs.Numbers.{Numbers}
 use Rattle.ov_catalog.specs.Raw.{event_in}
 use Rattle.ov_catalog.specs.Sources.{IsApart}
+use Rattle.law_snapshots.specs.Said.{snapshot_in}
 use Rattle.ov_core.specs.declared.brought.Brought.{Brought}
 use Rattle.ov_core.specs.declared.errors.ChangeErr.{ChangeErr}
 use Rattle.ov_core.specs.declared.errors.ChangeErr.TheVariants as errors
@@ -108,6 +113,39 @@ IsWhyKept why held cvd old new = IsWhyNotRecorded why held (says.Drop cvd) old n
 
 abbrev pub IsDropped : Held → Held → ℕ → Type 0
 IsDropped old new cvd = IsRecorded old new (says.Drop cvd)
+
+-- ---- a checkpoint
+
+-- what a snapshot of these numbers writes
+abbrev pub snapshot_payloads : Numbers Extent Extent → List (List ℕ)
+snapshot_payloads n = map spelling (snapshot_in n)
+
+abbrev pub HasNoPlace : Held → Type 0
+HasNoPlace held = HasNoRoom held.journal (snapshot_payloads held.numbers)
+
+-- it brings no run
+abbrev pub IsWhyNotTaken : ChangeErr → Held → State → State → Type 0
+IsWhyNotTaken errors.Host held old new = Rose old.faults new.faults
+IsWhyNotTaken errors.Memory held old new = Unit {0}
+IsWhyNotTaken (errors.Full pages) held old new = ⊥
+IsWhyNotTaken errors.JournalFull held old new = HasNoPlace held
+
+-- it was taken: there was a place, the journal goes on behind the snapshot, and the catalog stays
+pub record IsTaken (old new : Held) : Type 0 where
+  pub fits : HasNoPlace old → ⊥
+  pub journal : new.journal ≡ turned_to old.journal (snapshot_payloads old.numbers)
+  pub numbers : new.numbers ≡ old.numbers
+
+-- the page area is as it could be left before
+abbrev pub KeepsPages : Disk → Image → Type 0
+KeepsPages d c = Leaves d.pages c.pages
+
+-- why no snapshot was made: it would be longer than a journal, and so have no place
+abbrev pub IsWhyNoSnapshot : journals.Numbers → List (List ℕ) → ChangeErr → Type 0
+IsWhyNoSnapshot journal payloads errors.Host = ⊥
+IsWhyNoSnapshot journal payloads errors.Memory = Unit {0}
+IsWhyNoSnapshot journal payloads (errors.Full pages) = ⊥
+IsWhyNoSnapshot journal payloads errors.JournalFull = HasNoRoom journal payloads
 
 -- ---- in the parts of a change
 

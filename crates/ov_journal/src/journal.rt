@@ -88,6 +88,13 @@ impl Journal {
         self.live.format
     }
 
+    /// The live half lies behind the header, and its first closed gate before 2^28.
+    pub fn lies_within(&self)
+        ensures { (38 ≤ self.now.start) × (self.now.start ≤ self.now.end) × (self.now.end < 2 ^ 28) }
+    {
+        let _ = &self.end;
+    }
+
     /// Whether the record and a closed gate behind it end at 2^28 or before.
     pub fn fits(&self, framed: &Framed) -> bool
         ensures { IsTrue result ↔ (self.now.end + 6 + length framed.now ≤ 2 ^ 28) }

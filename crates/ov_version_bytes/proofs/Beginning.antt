@@ -26,7 +26,7 @@ use Rattle.ov_version_bytes.proofs.Counting.{counted_given}
 use Rattle.ov_version_bytes.proofs.Keeping.{numbered_long}
 use Rattle.ov_version_bytes.proofs.Sizes.{init_applies}
 use Rattle.ov_version_bytes.proofs.Fitting.{AreRuns, extent_fits, list_sound, segment_sound}
-use Rattle.ov_version_bytes.proofs.Texts.{name_text, schema_spelled}
+use Rattle.ov_core.proofs.Texts.{name_text, schema_spelled}
 use Rattle.ov_version_bytes.proofs.Reading.{HoldSame, in_segments, list_reads, segment_reads, piece_segments, kept_lacking}
 
 -- all records are of version 1

@@ -3,7 +3,6 @@ pub mod Listing
 pub mod Ordering
 pub mod Keeping
 pub mod Counting
-pub mod Texts
 pub mod Reading
 pub mod Fitting
 pub mod Beginning

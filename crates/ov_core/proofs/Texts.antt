@@ -13,7 +13,7 @@ use Rattle.ov_value.specs.Shapes.{Shape, IsSound, names}
 use Rattle.ov_event.specs.Fields.{IsText, IsU8}
 use Rattle.ov_event.specs.Spelling.{IsColumn, IsSchema}
 use Rattle.law_image.proofs.Readers.{both_true}
-use Rattle.ov_version_bytes.specs.Written.{spelled_schema}
+use Rattle.law_snapshots.specs.Whole.{spelled}
 
 begins_low : (b : ℕ) → may_begin b ≡ true → b < 128
 begins_low b e = grind (arith, nat_tests)
@@ -62,7 +62,7 @@ places_low count [] few all = tt
 places_low count (place ∷ key) few all =
     (omega (arith, few, All-head (λ p. p < count) place key all), places_low count key few (All-tail (λ p. p < count) place key all))
 
-pub schema_spelled : (schema : Shape) → IsSound schema → IsSchema (spelled_schema schema)
+pub schema_spelled : (schema : Shape) → IsSound schema → IsSchema (spelled schema)
 schema_spelled schema sound =
     let keys : length schema.key ≤ length schema.columns =
     length-le_from_distinct_below schema.key (length schema.columns) sound.key_once (λ q e. below_of (length schema.columns) schema.key q sound.key_placed e)
