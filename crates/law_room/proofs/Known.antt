@@ -22,7 +22,7 @@ use Rattle.ov_catalog.specs.Events.{Event, Init, Commit, Plan, Copy, Flip, Drop,
 use Rattle.ov_catalog.specs.Raw.{event_in, place_in, shape_in}
 use Rattle.ov_catalog.specs.Reached.{CommitFits, Fits, IfThere}
 use Rattle.ov_catalog.specs.Shown.{Records, Rids, init_event, commit_event, commit_in, copy_event, copy_for, event_of, in_set, plan_event}
-use Rattle.ov_catalog.specs.Stands.{asked_as}
+use Rattle.ov_catalog.specs.Stands.{asked_as, asked_event}
 use Rattle.ov_catalog.proofs.Moving.{some_same}
 use Rattle.law_image.specs.Lists.{list_in}
 use Rattle.law_image.specs.Segments.{segment_bytes, segment_in}
@@ -30,6 +30,7 @@ use Rattle.law_image.proofs.Readers.{list_read, segment_read}
 use Rattle.ov_core.specs.Brought.{content, extent_at, segments_in, with_extents}
 use Rattle.ov_core.specs.Rooms.{pages_for}
 use Rattle.ov_event.specs.Spelling.{spelling}
+use Rattle.law_room.proofs.Lengths.{same_size}
 use Rattle.law_room.specs.Room.{AllFit, Entry, HasRuns, LacksRun, Made, Take, Takes, Writes}
 
 -- ---- bytes
@@ -285,7 +286,7 @@ own_event (BeginPlan cvd p q) w fits x is =
 own_event (CopyMove cvd) w fits x is = own_in (λ d. copy_for cvd d d.plan) (first_set (numbered cvd) w.sets) (λ d y said_. own_copy cvd d d.plan y said_) x is
 own_event (FlipMove cvd) w fits x is = subst IsOwn (some_same (Flip cvd) x is) tt
 own_event (DropMove cvd) w fits x is = subst IsOwn (some_same (Drop cvd) x is) tt
-own_event Checkpoint w fits x is = absurd fits
+own_event Checkpoint w fits x is = absurd cc
 
 pub written_once : (m : Move) (w : World) (a b : Writes m w) → Fits m w → (a.event ≡ b.event) × (a.list ≡ b.list) × (a.segment ≡ b.segment)
 written_once m w a b fits = by (event_of m w) refl a.says b.says
@@ -308,8 +309,11 @@ written_once m w a b fits = by (event_of m w) refl a.says b.says
           same.1,
         )
 
-no_checkpoint : (m : Move) (w : World) → m ≡ Checkpoint → Fits m w → ⊥
-no_checkpoint m w is fits = subst (λ (x : Move). Fits x w) is fits
+-- a checkpoint has no event
+no_checkpoint : (m : Move) (w : World) → m ≡ Checkpoint → Writes m w → ⊥
+no_checkpoint m w is writes =
+    let says : Some (content (event_in writes.event) writes.list writes.segment) ≡ asked_event Checkpoint w = writes.says ∙ ap (λ (x : Move). asked_event x w) is
+    in absurd cc
 
 takes_once : (m : Move) (w : World) (own size others more : ℕ) → Fits m w → Takes m w own size → Takes m w others more → (own ≡ others) × (size ≡ more)
 takes_once m w own size others more fits (inl a) (inl b) =
@@ -318,8 +322,10 @@ takes_once m w own size others more fits (inl a) (inl b) =
     in let segment : pages_for a.writes.segment ≡ pages_for b.writes.segment = ap pages_for same.2
     in let record_ : length (spelling a.writes.event) ≡ length (spelling b.writes.event) = ap (λ (e : raw.Event). length (spelling e)) same.0
     in (omega (arith, a.pages_are, b.pages_are, list, segment), omega (arith, a.size_is, b.size_is, record_))
-takes_once m w own size others more fits (inl a) (inr b) = absurd (no_checkpoint m w b.checkpoint fits)
-takes_once m w own size others more fits (inr a) there = absurd (no_checkpoint m w a.checkpoint fits)
+takes_once m w own size others more fits (inl a) (inr b) = absurd (no_checkpoint m w b.checkpoint a.writes)
+takes_once m w own size others more fits (inr a) (inl b) = absurd (no_checkpoint m w a.checkpoint b.writes)
+takes_once m w own size others more fits (inr a) (inr b) =
+    (a.pages_are ∙ sym b.pages_are, a.size_is ∙ same_size w a.writes b.writes ∙ sym b.size_is)
 
 -- so many pages and bytes
 pub taken_once : (before : List Made) (pages bytes others more : ℕ) → AllFit before → Take before pages bytes → Take before others more → (pages ≡ others) × (bytes ≡ more)

@@ -1,7 +1,7 @@
 -- What stood at the entry of a run and what its moves wrote bound what a store has now. A run of pages is free there, or would
 -- pass the last page; so it is for the journal's end.
 use Rattle.std.proofs.Common.{◌≡◌, ◌⊎◌, inl, inr, ◌≤◌, ◌<◌, ℕ, zero, suc, ◌+◌, ◌^◌, Bool, true, false, ◌==◌, List, [], ◌∷◌, ◌++◌, length, refl, ap, arith}
-use Rattle.std.specs.Prelude.{Some, if◌then◌else◌}
+use Rattle.std.specs.Prelude.{Option, Some, if◌then◌else◌}
 use Rattle.std.proofs.lemmas.Bool.{cases_lt}
 use Rattle.ov_host.specs.declared.area.Extent.{Extent}
 use Rattle.ov_host.specs.Extent.{pages_of}
@@ -13,11 +13,11 @@ use Rattle.ov_model.specs.Moves as moves
 use Rattle.ov_model.specs.Moves.{Move, Drop as DropMove}
 use Rattle.ov_model.specs.World.{World}
 use Rattle.ov_catalog.specs.Applying.{is_built_event}
-use Rattle.ov_catalog.specs.Events.{applied}
+use Rattle.ov_catalog.specs.Events.{Event, applied}
 use Rattle.ov_catalog.specs.Extents.{brought, covers, has_page, live}
 use Rattle.ov_catalog.specs.Numbers.{Numbers}
 use Rattle.ov_catalog.specs.Raw.{event_in}
-use Rattle.ov_catalog.specs.Reached.{Fits}
+use Rattle.ov_catalog.specs.Shown.{Rids, Records}
 use Rattle.ov_catalog.specs.Sources.{IsApart}
 use Rattle.ov_catalog.specs.Stands.{asked_event}
 use Rattle.ov_catalog.proofs.Covering.{live_applied}
@@ -92,7 +92,7 @@ writes_bare m w e bare says = record { event = e; list = []; segment = []; says 
 abbrev takes_event : (m : Move) (w : World) (written : Writes m w) → Takes m w (pages_for written.list + pages_for written.segment) (length (spelling written.event))
 takes_event m w written = inl (record { writes = written; pages_are = refl; size_is = refl })
 
-take_more : (before : List Made) (pages bytes own size : ℕ) (m : Move) (w : World) → Takes m w own size → Take before pages bytes
+pub take_more : (before : List Made) (pages bytes own size : ℕ) (m : Move) (w : World) → Takes m w own size → Take before pages bytes
     → Take (before ++ record { move = m; world = w } ∷ []) (pages + own) (bytes + (6 + size))
 take_more [] pages bytes own size m w takes taken = (own, size, 0, 0, takes, (refl, refl), omega (arith, taken.0), omega (arith, taken.1))
 take_more (made ∷ before) pages bytes own size m w takes taken = (
@@ -111,14 +111,15 @@ checkpoints_same : (before : List Made) (m : Move) (w : World) → is_checkpoint
 checkpoints_same [] m w other = ap (λ b. (if b then 1 else 0) + 0) other
 checkpoints_same (made ∷ before) m w other = ap (λ n. (if is_checkpoint made.move then 1 else 0) + n) (checkpoints_same before m w other)
 
-no_checkpoint : (m : Move) (w : World) → Fits m w → is_checkpoint m ≡ false
-no_checkpoint (moves.Init name schema rows) w fits = refl
-no_checkpoint (moves.Commit cvd parents message added rows) w fits = refl
-no_checkpoint (moves.BeginPlan cvd p q) w fits = refl
-no_checkpoint (moves.Copy cvd) w fits = refl
-no_checkpoint (moves.Flip cvd) w fits = refl
-no_checkpoint (moves.Drop cvd) w fits = refl
-no_checkpoint moves.Checkpoint w fits = absurd fits
+-- a move that has an event isn't one
+no_checkpoint : (m : Move) (w : World) (x : Event (Option Rids) (Option Records)) → Some x ≡ asked_event m w → is_checkpoint m ≡ false
+no_checkpoint (moves.Init name schema rows) w x says = refl
+no_checkpoint (moves.Commit cvd parents message added rows) w x says = refl
+no_checkpoint (moves.BeginPlan cvd p q) w x says = refl
+no_checkpoint (moves.Copy cvd) w x says = refl
+no_checkpoint (moves.Flip cvd) w x says = refl
+no_checkpoint (moves.Drop cvd) w x says = refl
+no_checkpoint moves.Checkpoint w x says = absurd cc
 
 -- ---- runs of pages below a highest one
 
@@ -280,7 +281,7 @@ pub within_made : (entry : Entry) (before : List Made) (old new : Held) (m : Mov
 within_made entry before old new m w b within unplaced brings made grows same = record {
   pages = within.pages + (pages_for b.list.items + pages_for b.segment.items);
   bytes = within.bytes + (6 + length (spelling b.event));
-  epoch = omega (arith, same, within.epoch, checkpoints_same before m w (no_checkpoint m w brings.fits));
+  epoch = omega (arith, same, within.epoch, checkpoints_same before m w (no_checkpoint m w (content (event_in b.event) b.list.items b.segment.items) brings.says));
   taken = take_more before within.pages within.bytes (pages_for b.list.items + pages_for b.segment.items) (length (spelling b.event)) m w
       (takes_event m w (writes_brought m w b unplaced brings)) within.taken;
   below = below_now;
@@ -314,13 +315,13 @@ bare_covers (says.Whole said) n page bare apart = absurd bare
 bare_covers (says.Wide cvd vid message columns parents rows fresh place added l s) n page bare apart = absurd bare
 
 within_bare : (entry : Entry) (before : List Made) (old new : Held) (m : Move) (w : World) (e : raw.Event)
-    → IsWithin entry before old → IsBare e → IsSaid m w e → is_checkpoint m ≡ false → IsRecorded old new e
+    → IsWithin entry before old → IsBare e → IsSaid m w e → IsRecorded old new e
     → new.journal.end ≤ old.journal.end + 6 + length (spelling e) → new.journal.epoch ≡ old.journal.epoch
     → IsWithin entry (before ++ record { move = m; world = w } ∷ []) new
-within_bare entry before old new m w e within bare says other recorded grows same = record {
+within_bare entry before old new m w e within bare says recorded grows same = record {
   pages = within.pages + 0;
   bytes = within.bytes + (6 + length (spelling e));
-  epoch = omega (arith, same, within.epoch, checkpoints_same before m w other);
+  epoch = omega (arith, same, within.epoch, checkpoints_same before m w (no_checkpoint m w (content (event_in e) [] []) says));
   taken = take_more before within.pages within.bytes 0 (length (spelling e)) m w (takes_event m w (writes_bare m w e bare says)) within.taken;
   below = below_now;
   within = omega (arith, grows, within.within);
@@ -336,11 +337,11 @@ pub within_recorded : (entry : Entry) (before : List Made) (old new : Held) (m :
     → new.journal.end ≤ old.journal.end + 6 + length (spelling e) → new.journal.epoch ≡ old.journal.epoch
     → IsWithin entry (before ++ record { move = m; world = w } ∷ []) new
 within_recorded entry before old new m w e within bare asks recorded grows same =
-    within_bare entry before old new m w e within bare asks.says (no_checkpoint m w asks.fits) recorded grows same
+    within_bare entry before old new m w e within bare asks.says recorded grows same
 
 pub within_dropped : (entry : Entry) (before : List Made) (old new : Held) (cvd : ℕ) (w : World)
     → IsWithin entry before old → IsDropped old new cvd
     → new.journal.end ≤ old.journal.end + 6 + length (spelling (says.Drop cvd)) → new.journal.epoch ≡ old.journal.epoch
     → IsWithin entry (before ++ record { move = DropMove cvd; world = w } ∷ []) new
 within_dropped entry before old new cvd w within dropped grows same =
-    within_bare entry before old new (DropMove cvd) w (says.Drop cvd) within tt refl refl dropped grows same
+    within_bare entry before old new (DropMove cvd) w (says.Drop cvd) within tt refl dropped grows same

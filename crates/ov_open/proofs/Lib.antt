@@ -5,3 +5,4 @@ pub mod Worlds
 pub mod Answers
 pub mod Built
 pub mod Taking
+pub mod Stopping

@@ -1,7 +1,6 @@
 -- Where the image stands for a World, the store opens at it.
-use Rattle.std.proofs.Common.{◌≡◌, ◌<◌, ◌⊎◌, inl, inr, ℕ, zero, suc, List, [], ◌∷◌, length, map, take, slice_index_or, Result, Ok, Err, refl, sym, ◌∙◌, ap, subst, arith}
+use Rattle.std.proofs.Common.{◌≡◌, ◌<◌, ◌⊎◌, inl, inr, ℕ, List, [], Result, Ok, Err, refl, sym, ◌∙◌, ap, subst, arith}
 use Rattle.std.specs.Prelude.{MatchResult}
-use Rattle.std.specs.List.{AllByRecursion}
 use Rattle.ov_host.specs.declared.area.Area.TheVariants.{Pages, Journal}
 use Rattle.ov_host.specs.declared.area.Extent.{Extent}
 use Rattle.ov_host.specs.Disk.{Disk, Image, MayLeave, AllSettled, Leaves, as_read, settled}
@@ -10,24 +9,19 @@ use Rattle.ov_host.specs.Stops.{Only}
 use Rattle.ov_host.specs.Tape.{Tape}
 use Rattle.ov_host.proofs.Stops.{only_wider}
 use Rattle.ov_host.proofs.Writes.{settled_leaves}
-use Rattle.ov_event.specs.declared.event.Event.{Event}
-use Rattle.ov_event.specs.Spelling.{IsEvent, spelling}
-use Rattle.ov_event.proofs.Events.{spelled_once}
 use Rattle.ov_journal.specs.Journal.{Kept, IsJournal, IsUnmade, Unmade, Holds, new_kept}
 use Rattle.ov_journal.specs.Held.{kept_by}
 use Rattle.ov_journal.specs.Opened.{HasStood, IsMade, IsLeftByOpen}
 use Rattle.ov_journal.proofs.Unique.{one_thing}
 use Rattle.ov_model.specs.World.{World, empty_world}
-use Rattle.ov_catalog.specs.Applying.{AllApply}
-use Rattle.ov_catalog.specs.Events.{applied, replayed}
 use Rattle.ov_catalog.specs.Extents.{AreApart, live}
-use Rattle.ov_catalog.specs.Numbers.{Numbers, nothing_yet}
-use Rattle.ov_catalog.specs.Raw.{event_in, numbers_in}
+use Rattle.ov_catalog.specs.Numbers.{Numbers}
+use Rattle.ov_catalog.specs.Raw.{numbers_in}
 use Rattle.law_image.specs.Images.{Spell, StandsBy, StandsAs}
 use Rattle.law_image.specs.Pages.{pages_in}
 use Rattle.law_image.proofs.Standing.{stands_by, no_pages, not_foreign, not_of_format, not_damaged, new_stands}
 use Rattle.ov_core.specs.Held.{IsReplay}
-use Rattle.ov_open.specs.Replaying.{IsStopped, Follows}
+use Rattle.ov_open.proofs.Stopping.{not_stopped}
 use Rattle.ov_core.specs.Held.{Held}
 use Rattle.ov_core.specs.AtWorld.{IsAtWorld}
 use Rattle.ov_open.specs.declared.errors.OpenErr.{OpenErr}
@@ -35,35 +29,7 @@ use Rattle.ov_open.specs.declared.errors.OpenErr.TheVariants as errors
 use Rattle.ov_open.specs.Opening.{IsOpened, IsOutside, IsWorld}
 use Rattle.ov_open.specs.Refusing.{Refuses, StopsAt, HasPageOff, IsOff}
 
--- ---- events that apply aren't stopped at
-
-head_is : {X : Type 0} (x y : X) (xs ys : List X) → x ∷ xs ≡ y ∷ ys → x ≡ y
-head_is x y xs ys e = cc
-
-tail_is : {X : Type 0} (x y : X) (xs ys : List X) → x ∷ xs ≡ y ∷ ys → xs ≡ ys
-tail_is x y xs ys e = cc
-
-follows : (events front : List Event) (nth : ℕ) (n : Numbers Extent Extent) → AllByRecursion IsEvent events → AllApply events n → AllByRecursion IsEvent front
-    → take nth (map spelling events) ≡ map spelling front → nth < length (map spelling events)
-    → Follows (slice_index_or (map spelling events) nth []) (replayed (map event_in front) n)
-follows [] front nth n are all fronts written low = absurd (omega (arith, low))
-follows (e ∷ es) [] zero n are all fronts written low = (e, are.0, refl, all.0)
-follows (e ∷ es) [] (suc nth) n are all fronts written low = absurd cc
-follows (e ∷ es) (x ∷ front) zero n are all fronts written low = absurd cc
-follows (e ∷ es) (x ∷ front) (suc nth) n are all fronts written low =
-    let same : e ≡ x = spelled_once e x are.0 fronts.0 (head_is (spelling e) (spelling x) (take nth (map spelling es)) (map spelling front) written)
-    in let rest : Follows (slice_index_or (map spelling es) nth []) (replayed (map event_in front) (applied (event_in e) n)) =
-    follows es front nth (applied (event_in e) n) are.1 all.1 fronts.1 (tail_is (spelling e) (spelling x) (take nth (map spelling es)) (map spelling front) written) (omega (arith, low))
-    in subst (λ (y : Event). Follows (slice_index_or (map spelling es) nth []) (replayed (map event_in front) (applied (event_in y) n))) same rest
-
-not_stopped : (events : List Event) (payloads : List (List ℕ)) (nth : ℕ) → Spell events payloads → AllApply events nothing_yet → IsStopped payloads nth → ⊥
-not_stopped events payloads nth spell all stopped =
-    let written : take nth (map spelling events) ≡ map spelling stopped.replayed.events = ap (take nth) (sym spell.written) ∙ stopped.replayed.written
-    in let next : Follows (slice_index_or (map spelling events) nth []) (numbers_in stopped.replayed.events) =
-    follows events stopped.replayed.events nth nothing_yet spell.are all stopped.replayed.are written (subst (λ (ps : List (List ℕ)). nth < length ps) spell.written stopped.there)
-    in let here : Follows (slice_index_or payloads nth []) (numbers_in stopped.replayed.events) =
-    subst (λ (ps : List (List ℕ)). Follows (slice_index_or ps nth []) (numbers_in stopped.replayed.events)) (sym spell.written) next
-    in stopped.stops (subst (λ (n : Numbers Extent Extent). Follows (slice_index_or payloads nth []) n) (sym stopped.replayed.end) here)
+-- ---- no payload stops what stands
 
 kept_same : (a b : Kept) → Holds a ≡ Holds b → a ≡ b
 kept_same a b e = cc
@@ -74,7 +40,9 @@ stops_nowhere w c place (inl new) off =
 stops_nowhere w c place (inr made) off =
     let same : made.kept ≡ off.kept = kept_same made.kept off.kept (one_thing (Holds made.kept) (Holds off.kept) c.journal made.by.journal off.stands)
     in let by : StandsBy off.kept made.events w c = subst (λ (k : Kept). StandsBy k made.events w c) same made.by
-    in not_stopped made.events off.kept.payloads off.nth by.spell by.stands.applies off.stops
+    in not_stopped off.kept.payloads (numbers_in made.events) off.nth
+    (record { events = made.events; are = by.spell.are; written = by.spell.written; apply = by.stands.applies; end = refl })
+    off.stops
 
 -- ---- pages of live extents are apart and there
 

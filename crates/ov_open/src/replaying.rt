@@ -50,7 +50,9 @@ fn take_in(
     payload: &[u8],
     nth: usize,
 ) -> Result<(), ReplayErr>
-    ensures { MatchResult result (λ done. IsTaken payload.now catalog.old.numbers catalog.new.numbers) (IsLeft payload.now nth catalog.old.numbers) }
+    ensures { MatchResult result
+        (λ done. IsTaken payload.now catalog.old.reach catalog.old.numbers catalog.new.numbers catalog.new.reach)
+        (IsLeft payload.now nth catalog.old.reach catalog.old.numbers) }
 {
     let Some(event) = read_event(alloc, payload)? else {
         return Err(ReplayErr::Damaged { nth });

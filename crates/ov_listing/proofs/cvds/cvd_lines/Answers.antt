@@ -9,4 +9,4 @@ pub returns : goal.returns
 returns c =
     c.from_vec.ensures ∙ c.loop-d.invariant
     ∙ ap (λ (ds : List Cvd). map set_line (sets_in ds)) (take_all c.loop-d.d-index c.cvds-sets.result.now (omega arith))
-    ∙ ap (map set_line) c.cvds-sets.ensures
+    ∙ ap (map set_line) c.cvds-sets.ensures.sets

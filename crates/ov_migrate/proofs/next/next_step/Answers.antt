@@ -56,7 +56,7 @@ step_of-requires-clause-most g c =
     ap (λ (m : Catalog Extent Extent). running m) (sym c.catalog-catalog.ensures)
     ∙ sym c.running_of.ensures.first
     ∙ ap (λ o. option_map set_in (option_copied o)) c.in-Some.is in
-    (subst (λ o. PlanIsFit (plan_in o)) c.in-Some-plan.is (plan_fits n s c.is_replayed.ensures (first_found (λ x. is_some x.plan) n.sets s first))).most
+    subst (λ o. PlanIsFit (plan_in o)) c.in-Some-plan.is (plan_fits n s c.is_replayed.ensures (first_found (λ x. is_some x.plan) n.sets s first))
 
 pub returns-in_err-step-clause-world : goal.returns-in_err-step-clause-world
 returns-in_err-step-clause-world g c w at =

@@ -11,7 +11,7 @@ returns-in-Some-clause-first c =
     let n = c.args.catalog.now.numbers in
     let s : Set = set_in c.in-Some.d.now in
     let first : running n ≡ Some s =
-    ap (λ (sets : List Set). find (λ x. is_some x.plan) sets) (sym c.cvds.ensures)
+    ap (λ (sets : List Set). find (λ x. is_some x.plan) sets) (sym c.cvds.ensures.sets)
     ∙ sym c.first_running.ensures
     ∙ ap (λ o. option_map set_in (option_copied o)) c.in-Some.is in
     c.cvd.ensures.found
