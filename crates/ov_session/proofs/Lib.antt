@@ -18,3 +18,4 @@ pub mod Taking
 pub mod Following
 pub mod Plans
 pub mod Migrating
+pub mod Checkpointing

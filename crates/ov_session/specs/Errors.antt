@@ -1,8 +1,9 @@
 -- What an error of a part comes to.
 --     reply_of name off      the reply to a command that the store refused
 --     end_of off      why the run ends, where it is no refusal
+--     is_nameless off      it is of the host, of memory or of the journal's room, and so of no dataset: a checkpoint's
 --     plan_refusal name off, plan_reply name off, plan_end off      these of a plan that didn't begin
-use Rattle.std.specs.Prelude.{ℕ, List, Option, Some, None, option_map}
+use Rattle.std.specs.Prelude.{ℕ, Bool, true, false, List, Option, Some, None, option_map}
 use Rattle.ov_files.specs.declared.errors.FileErr.{FileErr}
 use Rattle.ov_files.specs.declared.errors.FileErr.TheVariants as file
 use Rattle.ov_model.specs.declared.refusal.Refusal.{Refusal}
@@ -29,6 +30,12 @@ end_of why.Host = Some ending.Host
 end_of why.Memory = Some ending.Memory
 end_of (why.Damaged area at) = Some (ending.Damaged area at)
 end_of _ = None
+
+abbrev pub is_nameless : StoreErr → Bool
+is_nameless why.Host = true
+is_nameless why.Memory = true
+is_nameless why.JournalFull = true
+is_nameless _ = false
 
 -- ---- of a plan
 

@@ -1,7 +1,7 @@
 // Why a line ends the run, and what an error of the store comes to.
-ghost use Rattle.std.specs.Prelude.{◌≡◌, true, Some, IfOk, IfErr, is_some};
+ghost use Rattle.std.specs.Prelude.{◌≡◌, true, [], Some, IfOk, IfErr, is_some};
 ghost use Rattle.ov_session.specs.declared.errors.EndErr.TheVariants as ending;
-ghost use Rattle.ov_session.specs.Errors.{by_file, end_of, plan_end, plan_reply, reply_of};
+ghost use Rattle.ov_session.specs.Errors.{by_file, end_of, is_nameless, plan_end, plan_reply, reply_of};
 
 use ov_files::FileErr;
 use ov_host::Area;
@@ -87,6 +87,20 @@ pub fn refused(off: StoreErr, name: Txt) -> Result<Reply, EndErr>
         },
     };
     Ok(Reply::Refused(refusal))
+}
+
+/// The reply to a checkpoint that wasn't taken, or why the run ends there. No dataset is named by it.
+pub fn untaken(off: StoreErr) -> Result<Reply, EndErr>
+    requires { is_nameless off ≡ true }
+    ensures reply { IfOk result (λ reply. reply_of [] off ≡ Some reply) }
+    ensures end { IfErr result (λ why. end_of off ≡ Some why) }
+{
+    match off {
+        StoreErr::Host => Err(EndErr::Host),
+        StoreErr::Memory => Err(EndErr::Memory),
+        StoreErr::JournalFull => Ok(Reply::Refused(Refusal::JournalFull { steps: None })),
+        _ => unreachable!(),
+    }
 }
 
 /// The reply to an optimize that began no plan, or why the run ends there. The dataset is named by `name`.

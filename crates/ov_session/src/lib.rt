@@ -5,6 +5,7 @@
 #![tactic(auto)]
 
 mod changing;
+mod checkpoints;
 mod errors;
 mod generating;
 mod lines;

@@ -25,6 +25,7 @@ ghost use Rattle.ov_session.specs.Stepping.{NoneBehind, begins_plan, line_begins
 ghost use Rattle.ov_session.specs.Commands.{Acts, Attended, Goes, IfNoFile, IsDamageOf, IsDamaged, IsNoDamage, IsOther, IsSaid, IsUnsaid, MeetsDamage, is_comment_in, is_comment_of, is_refused};
 
 use crate::changing::{commit, drop_cvd, init};
+use crate::checkpoints::checkpoint;
 use crate::errors::EndErr;
 use crate::generating::make_versions;
 use crate::lines::{asked, refusal};
@@ -115,6 +116,7 @@ fn answer<H: Host, T: Stage>(
         Command::Log { cvd } => Ok(log(alloc, store, cvd)?),
         Command::Ls => Ok(ls(alloc, store)?),
         Command::DropCvd { cvd } => drop_cvd(store, host, cvd),
+        Command::Checkpoint => checkpoint(store, host),
         Command::Generate {
             cvd,
             seed,

@@ -1,19 +1,22 @@
 -- Why a call isn't done, at a World: by what the World refuses, and for want of room only where it may be wanting.
-use Rattle.std.proofs.Common.{◌≡◌, ◌+◌, ◌≤◌, ℕ, List, length, refl, sym, ◌∙◌, ap, subst}
+use Rattle.std.proofs.Common.{◌≡◌, ◌≢◌, ◌+◌, ◌≤◌, ℕ, List, [], length, refl, sym, ◌∙◌, ap, subst}
 use Rattle.std.specs.Prelude.{Option, Some, None}
 use Rattle.ov_host.specs.Host.{State}
 use Rattle.ov_host.specs.declared.area.Extent.{Extent}
 use Rattle.ov_event.specs.Spelling.{spelling}
-use Rattle.ov_model.specs.Moves.{Move, Drop, moved}
+use Rattle.ov_event.specs.declared.event.Event as raw
+use Rattle.ov_model.specs.Moves.{Move, Drop, Checkpoint, moved}
 use Rattle.ov_model.specs.World.{Dataset, World, set_named}
 use Rattle.ov_model.specs.declared.refusal.Refusal.{Refusal}
 use Rattle.ov_model.specs.declared.refusal.Refusal.TheVariants as no
 use Rattle.ov_catalog.specs.Extents.{live}
 use Rattle.ov_core.specs.declared.brought.Brought.{Brought}
+use Rattle.ov_catalog.specs.Raw.{event_in}
 use Rattle.ov_catalog.specs.Reached.{Fits}
-use Rattle.law_image.proofs.Standing.{counted}
+use Rattle.ov_catalog.specs.Stands.{asked_event}
+use Rattle.law_image.proofs.Standing.{counted, no_event}
 use Rattle.ov_core.specs.AtWorld.{IsAtNext, IsAtWorld}
-use Rattle.ov_core.specs.Brought.{Brings, IsUnplaced}
+use Rattle.ov_core.specs.Brought.{Asks, Brings, IsUnplaced, content}
 use Rattle.ov_core.specs.Held.{Held}
 use Rattle.ov_core.specs.Rooms.{IsWhyKept}
 use Rattle.ov_core.specs.declared.errors.ChangeErr.{ChangeErr}
@@ -131,9 +134,18 @@ module _ (w : World) (held : Held) (s : State) (at : IsAtWorld w held s) (name :
       (version_fits w held s at name d named wish is.0 spared.0)
       (by_long list_pages segment_pages spared.1.written.list spared.1.written.segment refl spared.1.long)
 
--- a move that fits keeps the epoch
-pub same_epoch : (w : World) (m : Move) (old new : Held) (s t : State) → Fits m w → IsAtWorld w old s → IsAtNext (moved m w) new s t → new.journal.epoch ≡ old.journal.epoch
-same_epoch w m old new s t fits at next = sym next.at.stands.epoch ∙ (counted m w fits).0 ∙ at.stands.epoch
+-- a move with an event is no checkpoint
+pub brings_other : (m : Move) (w : World) (b : Brought) → Brings m w b → m ≢ Checkpoint
+brings_other m w b brings same =
+    no_event w (content (event_in b.event) b.list.items b.segment.items) (subst (λ k. Some (content (event_in b.event) b.list.items b.segment.items) ≡ asked_event k w) same brings.says)
+
+pub asks_other : (m : Move) (w : World) (e : raw.Event) → Asks m w e → m ≢ Checkpoint
+asks_other m w e asks same = no_event w (content (event_in e) [] []) (subst (λ k. Some (content (event_in e) [] []) ≡ asked_event k w) same asks.says)
+
+-- such a move keeps the epoch
+pub same_epoch : (w : World) (m : Move) (old new : Held) (s t : State) → m ≢ Checkpoint → Fits m w → IsAtWorld w old s → IsAtNext (moved m w) new s t
+    → new.journal.epoch ≡ old.journal.epoch
+same_epoch w m old new s t other fits at next = sym next.at.stands.epoch ∙ (counted m w other fits).0 ∙ at.stands.epoch
 
 -- ---- where room may be wanting
 

@@ -22,3 +22,4 @@ pub mod Plans
 pub mod Begun
 pub mod Unhurt
 pub mod Migrating
+pub mod Taken

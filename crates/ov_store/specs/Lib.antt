@@ -11,3 +11,4 @@ pub mod Committing
 pub mod Worlds
 pub mod Planning
 pub mod Stepping
+pub mod Checkpoints

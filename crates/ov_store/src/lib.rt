@@ -5,6 +5,7 @@
 #![tactic(auto)]
 
 mod allowing;
+mod checkpoints;
 mod committing;
 mod errors;
 mod laws;

@@ -141,7 +141,7 @@ impl Store {
     }
 
     // What a change is refused for. After a fault of the host the store isn't used again.
-    fn refusal(&mut self, off: ChangeErr) -> StoreErr
+    pub(crate) fn refusal(&mut self, off: ChangeErr) -> StoreErr
         ensures answer { result ≡ of_change off }
         ensures held { self.new.held ≡ self.old.held }
         ensures usable { self.new.usable ≡ (self.old.usable && not (is_host off)) }

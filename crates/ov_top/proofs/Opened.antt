@@ -1,5 +1,5 @@
 -- Bytes that open aren't refused, and say one thing.
-use Rattle.std.proofs.Common.{◌≡◌, ◌<◌, ◌⊎◌, inl, inr, ℕ, zero, suc, List, [], ◌∷◌, length, map, take, slice_index_or, refl, sym, ◌∙◌, ap, subst, arith}
+use Rattle.std.proofs.Common.{◌≡◌, ◌<◌, ◌⊎◌, inl, inr, ℕ, List, [], ◌∷◌, map, refl, sym, ◌∙◌, ap, subst, arith}
 use Rattle.std.specs.List.{AllByRecursion}
 use Rattle.ov_host.specs.declared.area.Area.TheVariants.{Pages, Journal}
 use Rattle.ov_host.specs.declared.area.Extent.{Extent}
@@ -12,27 +12,19 @@ use Rattle.ov_journal.specs.Journal.{Kept, Foreign, OfFormat, DamagedAt, Unmade,
 use Rattle.ov_journal.specs.Held.{kept_by}
 use Rattle.ov_journal.specs.Opened.{HasStood, IsMade}
 use Rattle.ov_journal.proofs.Unique.{one_thing}
-use Rattle.ov_catalog.specs.Applying.{AllApply}
-use Rattle.ov_catalog.specs.Events.{applied, replayed}
 use Rattle.ov_catalog.specs.Extents.{AreApart, live}
-use Rattle.ov_catalog.specs.Numbers.{Numbers, nothing_yet}
-use Rattle.ov_catalog.specs.Raw.{event_in, numbers_in}
+use Rattle.ov_catalog.specs.Numbers.{Numbers}
+use Rattle.ov_catalog.specs.Raw.{numbers_in}
 use Rattle.law_image.specs.Pages.{pages_in}
 use Rattle.ov_core.specs.Held.{Held, IsByJournal, IsReplay}
 use Rattle.ov_open.specs.declared.errors.OpenErr.{OpenErr}
 use Rattle.ov_open.specs.declared.errors.OpenErr.TheVariants as errors
 use Rattle.ov_open.specs.Opening.{IsOpened, IsOutside}
 use Rattle.ov_open.specs.Refusing.{HasPageOff, IsOff, Refuses, StopsAt}
-use Rattle.ov_open.specs.Replaying.{Follows, IsStopped}
+use Rattle.ov_open.proofs.Stopping.{head_is, not_stopped, tail_is}
 use Rattle.ov_top.specs.Bytes.{IsStore, Opens, OpensAs}
 
 -- ---- payloads spell one list of events
-
-head_is : {X : Type 0} (x y : X) (xs ys : List X) → x ∷ xs ≡ y ∷ ys → x ≡ y
-head_is x y xs ys e = cc
-
-tail_is : {X : Type 0} (x y : X) (xs ys : List X) → x ∷ xs ≡ y ∷ ys → xs ≡ ys
-tail_is x y xs ys e = cc
 
 one_list : (a b : List Event) → AllByRecursion IsEvent a → AllByRecursion IsEvent b → map spelling a ≡ map spelling b → a ≡ b
 one_list [] [] are others e = refl
@@ -50,29 +42,7 @@ nothing_spelled : (events : List Event) → [] ≡ map spelling events → event
 nothing_spelled [] e = refl
 nothing_spelled (event ∷ events) e = absurd cc
 
--- ---- where they replay, none is stopped at
-
-follows : (events front : List Event) (nth : ℕ) (n : Numbers Extent Extent) → AllByRecursion IsEvent events → AllApply events n → AllByRecursion IsEvent front
-    → take nth (map spelling events) ≡ map spelling front → nth < length (map spelling events)
-    → Follows (slice_index_or (map spelling events) nth []) (replayed (map event_in front) n)
-follows [] front nth n are all fronts written low = absurd (omega (arith, low))
-follows (e ∷ es) [] zero n are all fronts written low = (e, are.0, refl, all.0)
-follows (e ∷ es) [] (suc nth) n are all fronts written low = absurd cc
-follows (e ∷ es) (x ∷ front) zero n are all fronts written low = absurd cc
-follows (e ∷ es) (x ∷ front) (suc nth) n are all fronts written low =
-    let same : e ≡ x = spelled_once e x are.0 fronts.0 (head_is (spelling e) (spelling x) (take nth (map spelling es)) (map spelling front) written)
-    in let rest : Follows (slice_index_or (map spelling es) nth []) (replayed (map event_in front) (applied (event_in e) n)) =
-    follows es front nth (applied (event_in e) n) are.1 all.1 fronts.1 (tail_is (spelling e) (spelling x) (take nth (map spelling es)) (map spelling front) written) (omega (arith, low))
-    in subst (λ (y : Event). Follows (slice_index_or (map spelling es) nth []) (replayed (map event_in front) (applied (event_in y) n))) same rest
-
-not_stopped : (payloads : List (List ℕ)) (n : Numbers Extent Extent) (nth : ℕ) → IsReplay payloads n → IsStopped payloads nth → ⊥
-not_stopped payloads n nth is stopped =
-    let written : take nth (map spelling is.events) ≡ map spelling stopped.replayed.events = ap (take nth) (sym is.written) ∙ stopped.replayed.written
-    in let next : Follows (slice_index_or (map spelling is.events) nth []) (numbers_in stopped.replayed.events) =
-    follows is.events stopped.replayed.events nth nothing_yet is.are is.apply stopped.replayed.are written (subst (λ (ps : List (List ℕ)). nth < length ps) is.written stopped.there)
-    in let here : Follows (slice_index_or payloads nth []) (numbers_in stopped.replayed.events) =
-    subst (λ (ps : List (List ℕ)). Follows (slice_index_or ps nth []) (numbers_in stopped.replayed.events)) (sym is.written) next
-    in stopped.stops (subst (λ (m : Numbers Extent Extent). Follows (slice_index_or payloads nth []) m) (sym stopped.replayed.end) here)
+-- ---- no page is off
 
 no_page_off : (es : List Extent) (there page : ℕ) → AreApart es there → IsOff es there page → ⊥
 no_page_off es there page apart (inl two) = absurd (omega (arith, apart.once page, two.twice))

@@ -533,3 +533,39 @@ returns-in-Migrate-clause-acts g c = λ w built told at.
     let s = session_of (g.T.Stage.staged c.args.stage.now).files c.args.user.now
     in subst (λ (command : Command). Acts (permitted w s command) s s w c.migrate.result c.args.store.now.held c.migrate.new.store.held (g.H.Host.state c.args.host.now) (g.H.Host.state c.migrate.new.host)) (sym c.in-Migrate.is)
     (c.migrate.ensures.acts w s at)
+
+-- ---- a checkpoint
+
+pub returns-in-Checkpoint-clause-still : goal.returns-in-Checkpoint-clause-still
+returns-in-Checkpoint-clause-still g c = λ is. absurd (subst IsReadingCommand c.in-Checkpoint.is is)
+
+pub returns-in-Checkpoint-clause-fetched : goal.returns-in-Checkpoint-clause-fetched
+returns-in-Checkpoint-clause-fetched g c =
+    subst (λ (command : Command). IsFetched c.args.user.now command c.args.store.now.held c.checkpoint.new.store.held (IsErrOf c.checkpoint.result ending.Host) (g.H.Host.state c.args.host.now) (g.H.Host.state c.checkpoint.new.host)) (sym c.in-Checkpoint.is)
+    (fetched_still (g.H.Host.state c.args.host.now) (g.H.Host.state c.checkpoint.new.host) 0 c.checkpoint.ensures.fetched)
+
+pub returns-in-Checkpoint-clause-unread : goal.returns-in-Checkpoint-clause-unread
+returns-in-Checkpoint-clause-unread g c = λ is. c.checkpoint.ensures.fetched
+
+pub returns-in-Checkpoint-clause-whole : goal.returns-in-Checkpoint-clause-whole
+returns-in-Checkpoint-clause-whole g c = λ page told.
+    on_any _ c.checkpoint.result (subst (λ (command : Command). MeetsDamage c.args.user.now command (g.T.Stage.staged c.args.stage.now) c.args.store.now.held (g.H.Host.state c.args.host.now) page → ⊥) (sym c.in-Checkpoint.is) (λ met. met))
+
+pub returns-in-Checkpoint-clause-missed : goal.returns-in-Checkpoint-clause-missed
+returns-in-Checkpoint-clause-missed g c = seen_missed _ c.checkpoint.result c.checkpoint.ensures.seen
+
+pub returns-in-Checkpoint-clause-idle : goal.returns-in-Checkpoint-clause-idle
+returns-in-Checkpoint-clause-idle g c =
+    subst (λ (command : Command). IfErr c.checkpoint.result (λ e. IsIdleBy command e c.args.store.now c.checkpoint.new.store (g.T.Stage.staged c.args.stage.now) (g.T.Stage.staged c.args.stage.now)
+    (g.H.Host.state c.args.host.now) (g.H.Host.state c.checkpoint.new.host))) (sym c.in-Checkpoint.is)
+    (idle_spared c.args.store.now c.checkpoint.new.store (g.T.Stage.staged c.args.stage.now) (g.T.Stage.staged c.args.stage.now) (g.H.Host.state c.args.host.now) (g.H.Host.state c.checkpoint.new.host)
+    c.checkpoint.result c.checkpoint.ensures.host_alone c.checkpoint.ensures.undamaged)
+
+pub returns-in-Checkpoint-clause-other : goal.returns-in-Checkpoint-clause-other
+returns-in-Checkpoint-clause-other g c = λ refusal is. absurd (ok_err _ refusal (subst (λ (command : Command). if_built command ≡ off refusal) c.in-Checkpoint.is is))
+
+pub returns-in-Checkpoint-clause-acts : goal.returns-in-Checkpoint-clause-acts
+returns-in-Checkpoint-clause-acts g c = λ w built told at.
+    let s = session_of (g.T.Stage.staged c.args.stage.now).files c.args.user.now
+    in subst (λ (command : Command). Acts (permitted w s command) s s w c.checkpoint.result c.args.store.now.held c.checkpoint.new.store.held (g.H.Host.state c.args.host.now) (g.H.Host.state c.checkpoint.new.host)) (sym c.in-Checkpoint.is)
+    (c.checkpoint.ensures.acts w s at)

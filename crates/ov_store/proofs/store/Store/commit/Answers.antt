@@ -114,7 +114,7 @@ returns-clause-room g c = λ w d entry past at named within.
     done_within entry past c.args.self.now.held (commit_move d c.args.parents.now c.args.message.now c.args.rows) w within c.in-Ok.next.brought c.change.new.self.held c.in-Ok.ensures.ready.unplaced (c.in-Ok.ensures.brings w d at named) c.in_ok-change.ensures.done
     (c.in_ok-change.ensures.grows w (looked_at w c.args.self.now.held (g.H.Host.state c.args.host.now) (g.H.Host.state c.next.new.host) c.next.ensures.looked at))
     (same_epoch w (commit_move d c.args.parents.now c.args.message.now c.args.rows) c.args.self.now.held c.change.new.self.held (g.H.Host.state c.next.new.host) (g.H.Host.state c.change.new.host)
-    (c.in-Ok.ensures.brings w d at named).fits (looked_at w c.args.self.now.held (g.H.Host.state c.args.host.now) (g.H.Host.state c.next.new.host) c.next.ensures.looked at)
+    (λ same. cc) (c.in-Ok.ensures.brings w d at named).fits (looked_at w c.args.self.now.held (g.H.Host.state c.args.host.now) (g.H.Host.state c.next.new.host) c.next.ensures.looked at)
     (c.in_ok-change.ensures.moves w (commit_move d c.args.parents.now c.args.message.now c.args.rows) (looked_at w c.args.self.now.held (g.H.Host.state c.args.host.now) (g.H.Host.state c.next.new.host) c.next.ensures.looked at) (c.in-Ok.ensures.brings w d at named)))
 
 pub returns-clause-undamaged : goal.returns-clause-undamaged

@@ -62,7 +62,7 @@ returns-in-Ok-clause-room g c = λ w d entry past at named within.
     in subst (λ k. IsWithin entry (and_made past (Drop k) w) c.drop_cvd.new.self) ((drop_number w c.args.self.now.held (g.H.Host.state c.args.host.now) at c.args.name.now c.in-Some.cvd (sym c.in-Some.ensures)).2 d named)
     (within_dropped entry past c.self.inside.core c.drop_cvd.new.self c.in-Some.cvd w before c.in-Ok.ensures.made (c.in-Ok.ensures.grows inside.payloads inside.at inside.rest)
     (same_epoch w (Drop c.in-Some.cvd) c.self.inside.core c.drop_cvd.new.self (g.H.Host.state c.args.host.now) (g.H.Host.state c.drop_cvd.new.host)
-    (drop_fits w c.args.self.now.held (g.H.Host.state c.args.host.now) at c.args.name.now c.in-Some.cvd (sym c.in-Some.ensures)) inside
+    (λ same. cc) (drop_fits w c.args.self.now.held (g.H.Host.state c.args.host.now) at c.args.name.now c.in-Some.cvd (sym c.in-Some.ensures)) inside
     (c.in-Ok.ensures.done w inside (drop_fits w c.args.self.now.held (g.H.Host.state c.args.host.now) at c.args.name.now c.in-Some.cvd (sym c.in-Some.ensures)))))
 
 pub returns-in-Err-clause-room : goal.returns-in-Err-clause-room

@@ -84,5 +84,5 @@ pub returns-clause-room : goal.returns-clause-room
 returns-clause-room g c = λ w entry past at within.
     done_within entry past c.args.self.now.held (first_move c.args.name.now c.args.schema c.args.rows) w within c.in-Ok.brought c.change.new.self.held c.in-Ok.ensures.ready.unplaced (c.in-Ok.ensures.brings w (g.H.Host.state c.args.host.now) at) c.in_ok-change.ensures.done (c.in_ok-change.ensures.grows w at)
     (same_epoch w (first_move c.args.name.now c.args.schema c.args.rows) c.args.self.now.held c.change.new.self.held (g.H.Host.state c.args.host.now) (g.H.Host.state c.change.new.host)
-    (c.in-Ok.ensures.brings w (g.H.Host.state c.args.host.now) at).fits at
+    (λ same. cc) (c.in-Ok.ensures.brings w (g.H.Host.state c.args.host.now) at).fits at
     (c.in_ok-change.ensures.moves w (first_move c.args.name.now c.args.schema c.args.rows) at (c.in-Ok.ensures.brings w (g.H.Host.state c.args.host.now) at)))

@@ -23,7 +23,7 @@ returns-then-cvds-ge-MOST_CVDS-clause-answer c =
     let found : list_any (is_named c.args.name.now) c.catalog-catalog.result.now.numbers.sets ≡ c.is_some.result
     = found_any set_in c.cvd.result c.args.name.now c.catalog-catalog.result.now.numbers.sets c.cvd.ensures.found ∙ sym c.is_some.ensures
     in let many : length c.cvds.result.now ≡ length c.catalog-catalog.result.now.numbers.sets
-    = sym (length-map c.cvds.result.now set_in) ∙ ap length c.cvds.ensures
+    = sym (length-map c.cvds.result.now set_in) ∙ ap length c.cvds.ensures.sets
     in let same : new_off c.args.self.now.held.numbers c.args.name.now ≡ new_off c.catalog-catalog.result.now.numbers c.args.name.now
     = sym (ap (λ (n : Numbers Extent Extent). new_off n c.args.name.now) (c.catalog-catalog.ensures ∙ ap (λ kept. kept.held.numbers) c.self.view_is))
     in same ∙ off_many c.catalog-catalog.result.now.numbers c.args.name.now (found ∙ c.if-is_some.false) (subst (λ n. 1024 ≤ n) many c.if-cvds-ge-MOST_CVDS.true)
@@ -33,7 +33,7 @@ returns-then-next_number-clause-answer c =
     let found : list_any (is_named c.args.name.now) c.catalog-catalog.result.now.numbers.sets ≡ c.is_some.result
     = found_any set_in c.cvd.result c.args.name.now c.catalog-catalog.result.now.numbers.sets c.cvd.ensures.found ∙ sym c.is_some.ensures
     in let many : length c.cvds.result.now ≡ length c.catalog-catalog.result.now.numbers.sets
-    = sym (length-map c.cvds.result.now set_in) ∙ ap length c.cvds.ensures
+    = sym (length-map c.cvds.result.now set_in) ∙ ap length c.cvds.ensures.sets
     in let same : new_off c.args.self.now.held.numbers c.args.name.now ≡ new_off c.catalog-catalog.result.now.numbers c.args.name.now
     = sym (ap (λ (n : Numbers Extent Extent). new_off n c.args.name.now) (c.catalog-catalog.ensures ∙ ap (λ kept. kept.held.numbers) c.self.view_is))
     in same ∙ off_numbers c.catalog-catalog.result.now.numbers c.args.name.now (found ∙ c.if-is_some.false) (subst (λ n. n < 1024) many c.if-cvds-ge-MOST_CVDS.false)
@@ -44,7 +44,7 @@ returns-clause-answer c =
     let found : list_any (is_named c.args.name.now) c.catalog-catalog.result.now.numbers.sets ≡ c.is_some.result
     = found_any set_in c.cvd.result c.args.name.now c.catalog-catalog.result.now.numbers.sets c.cvd.ensures.found ∙ sym c.is_some.ensures
     in let many : length c.cvds.result.now ≡ length c.catalog-catalog.result.now.numbers.sets
-    = sym (length-map c.cvds.result.now set_in) ∙ ap length c.cvds.ensures
+    = sym (length-map c.cvds.result.now set_in) ∙ ap length c.cvds.ensures.sets
     in let same : new_off c.args.self.now.held.numbers c.args.name.now ≡ new_off c.catalog-catalog.result.now.numbers c.args.name.now
     = sym (ap (λ (n : Numbers Extent Extent). new_off n c.args.name.now) (c.catalog-catalog.ensures ∙ ap (λ kept. kept.held.numbers) c.self.view_is))
     in let below : c.catalog-catalog.result.now.numbers.next < 4294967295 = omega (arith, c.next_number.type_inv, c.next_number.ensures, c.if-next_number.false)

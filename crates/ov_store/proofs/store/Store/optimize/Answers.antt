@@ -107,4 +107,4 @@ returns-in-Ok-record_bare-clause-room g c = λ w d entry past at named within.
     let now = looked_at w c.args.self.now.held (g.H.Host.state c.args.host.now) (g.H.Host.state c.plan_for.new.host) c.plan_for.ensures.looked at
     in let asks = c.in-Ok.ensures.asks w d at named
     in within_recorded entry past c.args.self.now.held c.record_bare.new.self.held (BeginPlan d.cvd.number c.args.p c.args.q) w c.in-Ok.planned.event within c.in-Ok.ensures.bare asks c.in-Ok-record_bare.ensures.made (c.in-Ok-record_bare.ensures.grows w now)
-    (same_epoch w (BeginPlan d.cvd.number c.args.p c.args.q) c.args.self.now.held c.record_bare.new.self.held (g.H.Host.state c.plan_for.new.host) (g.H.Host.state c.record_bare.new.host) asks.fits now (c.in-Ok-record_bare.ensures.moves w (BeginPlan d.cvd.number c.args.p c.args.q) now asks))
+    (same_epoch w (BeginPlan d.cvd.number c.args.p c.args.q) c.args.self.now.held c.record_bare.new.self.held (g.H.Host.state c.plan_for.new.host) (g.H.Host.state c.record_bare.new.host) (λ same. cc) asks.fits now (c.in-Ok-record_bare.ensures.moves w (BeginPlan d.cvd.number c.args.p c.args.q) now asks))

@@ -12,7 +12,7 @@ use Rattle.ov_migrate.specs.Steps.{IsNextOf, IsReady, IsTested}
 use Rattle.ov_store.specs.declared.stepping.Stepped.TheVariants as stepped
 use Rattle.ov_store.specs.Stepping.{IsAnswer, IsStepLack, IsStepped, IsStepSpared, IsUnstepped, IsWanting}
 use Rattle.ov_store.proofs.Migrating.{copy_answers, copy_brings, copy_lacks, copy_next, copy_unstepped, flip_answers, flip_asks, flip_done, flip_lacks, flip_next, look_spared, made_wants, one_less}
-use Rattle.ov_store.proofs.Lacking.{same_epoch}
+use Rattle.ov_store.proofs.Lacking.{same_epoch, asks_other, brings_other}
 use Rattle.ov_store.proofs.Looking.{looked_at}
 use Rattle.ov_store.proofs.Still.{still}
 use Rattle.ov_store.proofs.store.Store.step.Goals as goal
@@ -73,7 +73,7 @@ returns-in-Ok-bring-clause-room g c = λ w m entry past at next within.
     let now = looked_at w c.args.self.now.held (g.H.Host.state c.args.host.now) (g.H.Host.state c.step_for.new.host) c.step_for.ensures.looked at
     in let brings = copy_brings w c.in-Some-Copy.brought (subst (IsNextOf w) (c.in-Some-Copy.is ∙ ap Some c.in-Some-Copy.field-0-is) (c.in-Ok.ensures.world w at)) m next
     in within_made entry past c.args.self.now.held c.bring.new.self.held m w c.in-Some-Copy.brought within (subst (IsReady c.args.self.now.held.numbers) (c.in-Some-Copy.is ∙ ap Some c.in-Some-Copy.field-0-is) c.in-Ok.ensures.ready).is.unplaced brings c.in-Ok-bring.ensures.made (c.in-Ok-bring.ensures.grows w now)
-    (same_epoch w m c.args.self.now.held c.bring.new.self.held (g.H.Host.state c.step_for.new.host) (g.H.Host.state c.bring.new.host) brings.fits now (c.in-Ok-bring.ensures.moves w m now brings))
+    (same_epoch w m c.args.self.now.held c.bring.new.self.held (g.H.Host.state c.step_for.new.host) (g.H.Host.state c.bring.new.host) (brings_other m w _ brings) brings.fits now (c.in-Ok-bring.ensures.moves w m now brings))
 
 -- ---- a copy that isn't made
 
@@ -133,7 +133,7 @@ returns-in-Ok-record_flip-clause-room g c = λ w m entry past at next within.
     let now = looked_at w c.args.self.now.held (g.H.Host.state c.args.host.now) (g.H.Host.state c.step_for.new.host) c.step_for.ensures.looked at
     in let asks = flip_asks w c.in-Some-Flip.cvd (subst (IsNextOf w) (c.in-Some-Flip.is ∙ ap Some c.in-Some-Flip.field-0-is) (c.in-Ok.ensures.world w at)) m next
     in within_recorded entry past c.args.self.now.held c.record_flip.new.self.held m w (says.Flip c.in-Some-Flip.cvd) within tt asks c.in-Ok-record_flip.ensures.made (c.in-Ok-record_flip.ensures.grows w now)
-    (same_epoch w m c.args.self.now.held c.record_flip.new.self.held (g.H.Host.state c.step_for.new.host) (g.H.Host.state c.record_flip.new.host) asks.fits now (c.in-Ok-record_flip.ensures.moves w m now asks))
+    (same_epoch w m c.args.self.now.held c.record_flip.new.self.held (g.H.Host.state c.step_for.new.host) (g.H.Host.state c.record_flip.new.host) (asks_other m w _ asks) asks.fits now (c.in-Ok-record_flip.ensures.moves w m now asks))
 
 -- ---- a flip that isn't recorded
 
