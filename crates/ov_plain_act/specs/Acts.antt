@@ -2,7 +2,7 @@
 use Rattle.std.specs.Prelude.{◌+◌, Bool, true, false, List, [], ◌∷◌, ◌++◌, length, map, Some, None, Result, Ok, Err}
 use Rattle.ov_model.specs.Act.{Files, put, refuses, Session as KnownSession, Deed as KnownDeed}
 use Rattle.ov_model.specs.Book.{Row, Version}
-use Rattle.ov_model.specs.Moves.{Move as KnownMove, Init, Commit, BeginPlan, Copy, Flip, Drop, committed}
+use Rattle.ov_model.specs.Moves.{Move as KnownMove, Init, Commit, BeginPlan, Copy, Flip, Drop, Checkpoint, committed}
 use Rattle.ov_model.specs.Plans.{planned, copied_more, flipped}
 use Rattle.ov_model.specs.Records.{Rec, records_of, fresh_in}
 use Rattle.ov_model.specs.World.{Dataset}
@@ -33,6 +33,7 @@ move_of (kept.BeginPlan cvd p q) = BeginPlan cvd p q
 move_of (kept.Copy cvd) = Copy cvd
 move_of (kept.Flip cvd) = Flip cvd
 move_of (kept.Drop cvd) = Drop cvd
+move_of kept.Checkpoint = Checkpoint
 
 -- what a change makes of the dataset that it is of
 abbrev pub changed_by : Change → Dataset → Dataset
@@ -71,7 +72,7 @@ is_plain (asks.Layout cvd) = true
 is_plain (asks.Log cvd) = true
 is_plain asks.Ls = true
 is_plain (asks.DropCvd cvd) = true
-is_plain asks.Checkpoint = false
+is_plain asks.Checkpoint = true
 is_plain (asks.Generate cvd seed rows versions) = false
 is_plain (asks.CreateUser name) = false
 is_plain (asks.Config name) = false

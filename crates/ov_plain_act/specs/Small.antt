@@ -53,6 +53,7 @@ HavePlace (d ∷ sets) = HasPlace d × HavePlace sets
 -- the numbers of a World can be counted on, and each dataset has place
 pub record CanMove (w : World) : Type 0 where
   pub next : w.next < 4294967295
+  pub epoch : w.epoch + 1 < 2 ^ 64
   pub records : w.records + 1 < 2 ^ 64
   pub sets : HavePlace w.sets
 

@@ -1,7 +1,7 @@
-//! What a command does: a dataset more, a version more, a dataset less, and whichever command it is.
+//! What a command does: a dataset more, a version more, a dataset less, a checkpoint, and whichever command it is.
 
 ghost use Rattle.std.specs.Prelude.{◌≡◌, ◌+◌, ◌++◌, ◌≤◌, ◌<◌, ◌^◌, [], length, Some, None, is_some, IfOk, IfSome, OnOk};
-ghost use Rattle.ov_model.specs.Act.{does, init_refusal, init_deed, commit_refusal, commit_rows, commit_deed, drop_deed, fresh_of, refuses};
+ghost use Rattle.ov_model.specs.Act.{does, init_refusal, init_deed, commit_refusal, commit_rows, commit_deed, drop_deed, checkpoint_deed, fresh_of, refuses};
 ghost use Rattle.ov_model.specs.Deed.{deed, permitted};
 ghost use Rattle.ov_model.specs.Moves.{version_of, Init};
 ghost use Rattle.ov_model.specs.World.{set_named};
@@ -11,6 +11,7 @@ ghost use Rattle.ov_plain_act.specs.Acts.{deed_of, session_of, is_plain};
 ghost use Rattle.ov_plain_act.specs.Small.{AllFit, AreSmall, AreSmallMoves, IsSmallCommand, IsSmallSet};
 
 use crate::accepted::accepted;
+use crate::counts::count_of;
 use crate::deed::{Deed, Move, does, refuses};
 use crate::laying::layout_deed;
 use crate::planning::optimize_deed;
@@ -275,6 +276,20 @@ fn drop_deed(
     }
 }
 
+/// What a checkpoint does.
+fn checkpoint_deed(alloc: Global, world: &World, session: &Session) -> Result<Deed, AllocError>
+    ensures is { IfOk result (λ deed. deed_of deed ≡ checkpoint_deed world.now (session_of session.now)) }
+    ensures small { IfOk result (λ deed. AreSmallMoves deed.moves) }
+{
+    let datasets = count_of(world.sets().len())?;
+    does(
+        alloc,
+        session,
+        Move::Checkpoint,
+        Reply::Checkpoint { datasets },
+    )
+}
+
 /// What a command that no rule denies does over a World and a session. None where it isn't computed here.
 fn permitted_deed(
     alloc: Global,
@@ -319,7 +334,7 @@ fn permitted_deed(
         Command::OptimizeWithin { .. } => Ok(None),
         Command::Advise { .. } => Ok(None),
         Command::Migrate { count } => Ok(Some(migrate_deed(alloc, world, session, *count)?)),
-        Command::Checkpoint => Ok(None),
+        Command::Checkpoint => Ok(Some(checkpoint_deed(alloc, world, session)?)),
         Command::Generate { .. } => Ok(None),
         Command::CreateUser { .. } => Ok(None),
         Command::Config { .. } => Ok(None),

@@ -1,7 +1,7 @@
-//! What a move makes of a World: a dataset more, a change of one, a dataset less.
+//! What a move makes of a World: a dataset more, a change of one, a dataset less, an epoch more.
 
 ghost use Rattle.std.specs.Prelude.{◌≡◌, ◌+◌, ◌++◌, ◌<◌, ◌≤◌, ◌^◌, [], ◌∷◌, length, filter, not, if◌then◌else◌, IfOk};
-ghost use Rattle.ov_model.specs.Moves.{Init, Drop, moved, change, changed, numbered};
+ghost use Rattle.ov_model.specs.Moves.{Init, Drop, Checkpoint, moved, change, changed, numbered};
 ghost use Rattle.ov_plain_act.specs.Acts.{changed_by, move_of};
 ghost use Rattle.ov_plain_act.specs.Small.{CanMove, HasPlace, HavePlace, IsSmallChange, IsSmallMove};
 
@@ -175,6 +175,27 @@ fn with_drop(cvd: u32, world: World) -> Result<World, AllocError>
     }))
 }
 
+/// The World in the next epoch, of a record for the numbers and one for each dataset.
+fn with_checkpoint(world: World) -> World
+    requires { CanMove world }
+    ensures { result ≡ moved Checkpoint world }
+{
+    let Pieces {
+        sets,
+        next,
+        epoch,
+        ..
+    } = world.into_pieces();
+    let records = sets.as_slice().len() as u64 + 1;
+    World::new(Pieces {
+        sets,
+        next,
+        epoch: epoch + 1,
+        records,
+        format: 2,
+    })
+}
+
 /// What a move makes of a World.
 pub fn plain_moved(alloc: Global, the_move: Move, world: World) -> Result<World, AllocError>
     requires small { IsSmallMove the_move }
@@ -190,5 +211,6 @@ pub fn plain_moved(alloc: Global, the_move: Move, world: World) -> Result<World,
         Move::Copy { cvd } => with_change(alloc, cvd, &Change::Copy, world),
         Move::Flip { cvd } => with_change(alloc, cvd, &Change::Flip, world),
         Move::Drop { cvd } => with_drop(cvd, world),
+        Move::Checkpoint => Ok(with_checkpoint(world)),
     }
 }

@@ -45,6 +45,8 @@ pub enum Move {
     Drop {
         cvd: u32,
     },
+    /// The journal begins anew, in its next epoch.
+    Checkpoint,
 }
 
 impl Move {
@@ -71,6 +73,7 @@ impl Move {
             Move::Copy { cvd } => Ok(Move::Copy { cvd: *cvd }),
             Move::Flip { cvd } => Ok(Move::Flip { cvd: *cvd }),
             Move::Drop { cvd } => Ok(Move::Drop { cvd: *cvd }),
+            Move::Checkpoint => Ok(Move::Checkpoint),
         }
     }
 }

@@ -124,7 +124,10 @@ fn have_place(alloc: Global, sets: &[Dataset]) -> Result<bool, AllocError>
 pub fn can_move(alloc: Global, world: &World) -> Result<bool, AllocError>
     ensures { IfOk result (λ can. IsTrue can ↔ CanMove world.now) }
 {
-    if world.next() == 4_294_967_295 || world.records() == 18_446_744_073_709_551_615 {
+    if world.next() == 4_294_967_295 || world.records() == u64::MAX {
+        return Ok(false);
+    }
+    if world.epoch() == u64::MAX {
         return Ok(false);
     }
     have_place(alloc, world.sets())
