@@ -19,12 +19,21 @@ fn numbers(world: &World) -> [u64; 5] {
 
 const DROP: &str = "drop people";
 
-// Each move is a record, and no dataset gets a number that one had before.
-const NUMBERS: [(&[&str], [u64; 5]); 4] = [
+const CHECKPOINT: &str = "checkpoint";
+
+const OTHERS: &str = "init others -s id:int,name:text,score:int -k id -f a.csv";
+
+// Each move is a record, and no dataset gets a number that one had before. A checkpoint begins an epoch, of a record and one
+// for each dataset.
+const NUMBERS: [(&[&str], [u64; 5]); 8] = [
     (&[], [0, 1, 1, 0, 2]),
     (&FOUR, [1, 2, 1, 4, 2]),
     (&[INIT, RAISE, DROP], [0, 2, 1, 3, 2]),
     (&[INIT, DROP, INIT, RAISE], [1, 3, 1, 4, 2]),
+    (&[CHECKPOINT], [0, 1, 2, 1, 2]),
+    (&[INIT, RAISE, CHECKPOINT], [1, 2, 2, 2, 2]),
+    (&[INIT, CHECKPOINT, RAISE, OTHERS], [2, 3, 2, 4, 2]),
+    (&[INIT, DROP, CHECKPOINT, CHECKPOINT], [0, 2, 3, 1, 2]),
 ];
 
 #[test]
@@ -50,7 +59,7 @@ fn odd_world(alloc: Global, next: u32, format: u32) -> World {
 const INIT_WITH_NULL: &str = "init people -s id:int,name:text,score:int -k id -f n.csv";
 
 // The next number, the format number and the line; what is printed. Format 1 has no NULL.
-const ODD: [(u32, u32, &str, &str); 5] = [
+const ODD: [(u32, u32, &str, &str); 6] = [
     (4_294_967_294, 2, INIT, "people: version 1 (2 rows)\n"),
     (
         4_294_967_295,
@@ -66,6 +75,7 @@ const ODD: [(u32, u32, &str, &str); 5] = [
         "error 23: row 1 has NULL in a format 1 store\n",
     ),
     (7, 2, INIT_WITH_NULL, "people: version 1 (3 rows)\n"),
+    (4_294_967_295, 1, CHECKPOINT, "checkpoint: 0 datasets\n"),
 ];
 
 #[test]
@@ -79,6 +89,16 @@ fn odd_worlds_refuse(rt: HostRuntime) -> Result<(), Fail> {
     Ok(())
 }
 
+#[test]
+fn a_checkpoint_leaves_format_2(rt: HostRuntime) -> Result<(), Fail> {
+    let alloc = rt.alloc();
+    for format in [1, 2] {
+        let world = world_after_steps(alloc, 0, odd_world(alloc, 7, format), &[CHECKPOINT])?;
+        assert_eq!(rt; numbers(&world), [0, 7, 3, 1, 2]);
+    }
+    Ok(())
+}
+
 // Commands over one dataset, and whether the plain programs say what they do.
 const SAID: [(&str, bool); 9] = [
     ("commit people -v 1 -f a.csv -m more", true),
@@ -86,7 +106,7 @@ const SAID: [(&str, bool); 9] = [
     ("optimize people -d 1/2", true),
     ("migrate 3", true),
     ("generate g 7 3 4", false),
-    ("checkpoint", false),
+    (CHECKPOINT, true),
     ("ls", true),
     ("tables", false),
     ("whoami", false),
@@ -105,8 +125,8 @@ fn columns_and_what_is_generated_are_left_out(rt: HostRuntime) -> Result<(), Fai
 const BEGINS: &str = "optimize chain -d 3/4";
 
 // How many steps are taken behind each reply, the lines over the chain, and its layout then: a copy, a flip, a copy and a flip.
-// A refusal is a reply too.
-const STEPS: [(u32, &[&str], &str); 5] = [
+// A refusal is a reply too, and a checkpoint leaves a plan where it is.
+const STEPS: [(u32, &[&str], &str); 6] = [
     (
         1,
         &[BEGINS],
@@ -115,6 +135,11 @@ const STEPS: [(u32, &[&str], &str); 5] = [
     (
         1,
         &[BEGINS, BEGINS],
+        "partition 1: records 8, versions 2,3\npartition 2: records 4, versions 1\nplan 3/4: target 2 of 2, copied 0 of 1, steps 2\nstored 12, cost 20\n",
+    ),
+    (
+        1,
+        &[BEGINS, CHECKPOINT],
         "partition 1: records 8, versions 2,3\npartition 2: records 4, versions 1\nplan 3/4: target 2 of 2, copied 0 of 1, steps 2\nstored 12, cost 20\n",
     ),
     (

@@ -10,6 +10,8 @@ ghost use Rattle.ov_top.specs.Ending.{Plays};
 ghost use Rattle.test_program.specs.Fresh.{ends_of, fresh_ends};
 
 #[cfg(test)]
+mod checkpoints;
+#[cfg(test)]
 mod ends;
 #[cfg(test)]
 mod files;

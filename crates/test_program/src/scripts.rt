@@ -156,7 +156,7 @@ pub const OFF_LINES: [Line; 21] = [
     ("migrate\n", "error 52: missing n\n"),
     ("migrate 1000001\n", "error 54: bad number\n"),
     ("migrate 3\n", "steps 0 left 0\n"),
-    ("checkpoint\n", "error 51: unknown command\n"),
+    ("checkpoint x\n", "error 53: unexpected word 2\n"),
     ("\"\n", "error 58: a quote is not closed\n"),
     ("frob", "error 51: unknown command\n"),
 ];

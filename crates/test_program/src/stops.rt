@@ -8,7 +8,7 @@ use std::alloc::{AllocError, Global};
 use std::test::Fail;
 
 // Each has one reply, and makes one move at most.
-const LINES: [&str; 11] = [
+const LINES: [&str; 14] = [
     "init people -s id:int,name:text,score:int -k id -f a.csv\n",
     "commit people -v 1 -f b.csv -m raise\n",
     "checkout people -v 1,2\n",
@@ -16,6 +16,9 @@ const LINES: [&str; 11] = [
     "commit people -v 7 -f b.csv -m none\n",
     "commit people -v 1,2 -f m.csv -m both\n",
     "optimize people -d 1/1\n",
+    "checkpoint\n",
+    "checkpoint\n",
+    "checkpoint\n",
     "migrate 1\n",
     "init other -s id:int,name:text,score:int -k id -f b.csv\n",
     "drop people\n",
@@ -198,7 +201,7 @@ fn a_fault_of_an_end_ends_the_run(rt: HostRuntime) -> Result<(), Fail> {
     let alloc = rt.alloc();
     let all = all_after(alloc)?;
     for (end, status, calls) in [
-        (0, Status::HostFault, 103),
+        (0, Status::HostFault, 125),
         (1, Status::InputFault, 2),
         (2, Status::InputFault, 15),
     ] {
