@@ -23,8 +23,8 @@ use ov_host::Extent;
 use ov_layout::Part;
 use std::alloc::{AllocError, Global};
 
-/// A dataset has so many versions at most.
-const MOST_VERSIONS: usize = 65_535;
+/// How many versions a dataset may have.
+const MOST_VERSIONS: usize = ov_model::MOST_VERSIONS as usize;
 
 // Whether the partitions' numbers are below the next one.
 fn are_below(parts: &[Part], next: u32) -> bool
