@@ -1,17 +1,10 @@
-//! Tests of values, rows and schemas, sets of rids, events, the rows of versions and segments, and of the bytes of each.
+//! Tests of rows, segments, schemas and events where no command reaches them: rows and segments that are read whole, a reader fed in
+//! pieces of any size, added columns, and bytes that are an event, though it doesn't follow yet, or none.
 #![tactic(auto)]
 
 #[cfg(test)]
 mod events;
 #[cfg(test)]
-mod made;
-#[cfg(test)]
-mod members;
-#[cfg(test)]
-mod schemas;
+mod rows;
 #[cfg(test)]
 mod segments;
-#[cfg(test)]
-mod values;
-#[cfg(test)]
-mod versions;

@@ -1,17 +1,9 @@
-//! Tests of the graph of versions, of its splits, of placement and of partitions.
+//! Tests of the graph of versions, of placement, and of the splits of large trees.
 #![tactic(auto)]
 
 #[cfg(test)]
-mod changes;
-#[cfg(test)]
-mod examples;
-#[cfg(test)]
 mod graphs;
-#[cfg(test)]
-mod layouts;
 #[cfg(test)]
 mod places;
 #[cfg(test)]
 mod splits;
-#[cfg(test)]
-mod trees;

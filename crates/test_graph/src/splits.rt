@@ -1,13 +1,11 @@
-//! Splits of small trees, of the tree of a graph, and of large trees.
+//! Splits of large trees, with their times.
 
 ghost use Rattle.std.specs.Prelude.{◌<◌, length};
 ghost use Rattle.std.specs.Bool.{OnTrue};
 ghost use Rattle.ov_graph.specs.Trees.{IsSound};
 
-use crate::graphs::merged;
-use crate::trees::DIVIDED;
 use ov_graph::{Node, Tree};
-use ov_lyre::{Split, split};
+use ov_lyre::split;
 use std::alloc::{AllocError, Global};
 use std::test::*;
 use std::time::Instant;
@@ -32,60 +30,6 @@ fn is_sound(tree: &Tree) -> bool
         }
     }
     true
-}
-
-/// A tree of versions, each as its records, its tree parent and its weight.
-fn tree_of(alloc: Global, rows: &[(u32, u32, u32)]) -> Result<Tree, AllocError> {
-    let mut nodes = Vec::new(alloc);
-    for (records, parent, weight) in rows {
-        nodes.push(Node {
-            records: *records,
-            parent: *parent,
-            weight: *weight,
-        })?;
-    }
-    Ok(Tree { nodes })
-}
-
-/// The vids of each part, with a 0 behind them.
-fn flat(alloc: Global, split: &Split) -> Result<Vec<u32>, AllocError> {
-    let mut vids = Vec::new(alloc);
-    for part in &split.parts {
-        vids.extend_from_slice(part)?;
-        vids.push(0)?;
-    }
-    Ok(vids)
-}
-
-#[test]
-fn small_trees_are_divided_by_the_rule(rt: HostRuntime) -> Result<(), Fail> {
-    let alloc = rt.alloc();
-    for (nth, case) in DIVIDED.iter().enumerate() {
-        let tree = tree_of(alloc, case.nodes)?;
-        assert!(rt; is_sound(&tree), "tree {nth}");
-        assert!(rt; case.p > 0 && case.p <= case.q && case.q <= 1_000_000);
-        let split = split(alloc, &tree, case.p, case.q)?;
-        assert_eq!(rt; flat(alloc, &split)?.as_slice(), case.parts, "tree {nth}");
-        assert_eq!(rt; split.cuts.as_slice(), case.cuts, "tree {nth}");
-        assert_eq!(rt; split.depth, case.depth, "tree {nth}");
-    }
-    Ok(())
-}
-
-// The dataset whose fourth version has two parents: each edge of its reduced tree is cut.
-#[test]
-fn the_reduced_tree_of_a_graph_is_divided(rt: HostRuntime) -> Result<(), Fail> {
-    let alloc = rt.alloc();
-    let graph = merged(&rt, alloc)?;
-    let tree = graph.tree(alloc)?;
-    assert!(rt; is_sound(&tree));
-    let split = split(alloc, &tree, 1, 1)?;
-    assert_eq!(rt;
-        flat(alloc, &split)?.as_slice(),
-        [1, 0, 2, 0, 3, 0, 4, 0].as_slice()
-    );
-    assert_eq!(rt; split.depth, 2);
-    Ok(())
 }
 
 #[derive(Clone, Copy)]

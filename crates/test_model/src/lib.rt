@@ -1,14 +1,10 @@
-//! Tests of the plain programs of the model on what no script shows yet: splits, placements, rids, weights, plans and steps,
-//! Worlds that no script reaches, and queries.
-//!
-//! Datasets are made by the lines of scripts and queries by their texts, so that a case is its texts and the values that were
-//! worked out for it.
+//! Tests of the plain programs of the model on what the program `plain` doesn't print: splits beside those of the shipped
+//! program, the numbers of records and how many of them versions share, placements, refusals of rows that no command has yet, and
+//! queries.
 #![tactic(auto)]
 
 #[cfg(test)]
-mod plans;
-#[cfg(test)]
-mod played;
+mod people;
 #[cfg(test)]
 mod queries;
 #[cfg(test)]
@@ -17,5 +13,3 @@ mod records;
 mod refusals;
 #[cfg(test)]
 mod splits;
-#[cfg(test)]
-mod worlds;

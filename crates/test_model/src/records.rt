@@ -1,94 +1,48 @@
-//! Records of a worked dataset: their rids, their weights, and where a version more would go.
+//! Records of worked versions: their numbers, and how many of them versions share; and where a version more would go.
 
-use crate::played::{FOUR, dataset_after};
+use crate::people::{schema, versions};
 use ov_model::Seq;
 use ov_place::{Place, PlaceFacts, place};
-use ov_plain::{
-    Dataset, Rec, Version, heaviest, merged, order_of, placed_at, plain_place, recs, rid_in,
-    stored, weights,
-};
-use ov_value::Txt;
-use std::alloc::{AllocError, Global};
+use ov_plain::{Rec, Version, heaviest, order_of, plain_place, recs, rid_in, weights};
+use std::alloc::Global;
 use std::test::*;
 
 /// The records of each version.
-fn each(alloc: Global, set: &Dataset) -> Result<Seq<Seq<Rec>>, Fail> {
-    let versions = set.cvd().versions();
+fn each(alloc: Global, versions: &[Version]) -> Result<Seq<Seq<Rec>>, Fail> {
     if versions.len() > 65_535 {
         return Err("too many versions")?;
     }
     Ok(recs(alloc, versions, Seq::new(alloc))?)
 }
 
-/// All records, in the order of their rids.
-fn all(alloc: Global, set: &Dataset) -> Result<Seq<Rec>, Fail> {
-    let versions = set.cvd().versions();
+/// All records, in the order of their numbers.
+fn all(alloc: Global, versions: &[Version]) -> Result<Seq<Rec>, Fail> {
     if versions.len() > 65_535 {
         return Err("too many versions")?;
     }
     Ok(order_of(alloc, versions)?)
 }
 
-/// Adds the rids of these records, and a 0 behind them.
-fn add_rids(own: &[Rec], all: &[Rec], found: &mut Vec<u32>) -> Result<(), Fail> {
+fn rids_in(alloc: Global, all: &[Rec], own: &[Rec]) -> Result<Vec<u32>, Fail> {
+    let mut found = Vec::new(alloc);
     if all.len() >= 4_294_967_295 {
         return Err("too many records")?;
     }
     for rec in own {
         found.push(rid_in(all, rec))?;
     }
-    found.push(0)?;
-    Ok(())
-}
-
-fn rids(alloc: Global, set: &Dataset) -> Result<Vec<u32>, Fail> {
-    let all = all(alloc, set)?;
-    let mut found = Vec::new(alloc);
-    for own in each(alloc, set)?.as_slice() {
-        add_rids(own.as_slice(), all.as_slice(), &mut found)?;
-    }
     Ok(found)
 }
 
-// The third version's `bob` is a new record, though the first one had such a row: no parent gave it.
-#[test]
-fn a_row_that_no_parent_has_is_a_new_record(rt: HostRuntime) -> Result<(), Fail> {
-    let set = dataset_after(rt.alloc(), &FOUR)?;
-    let found = rids(rt.alloc(), &set)?;
-    let wanted: &[u32] = &[1, 2, 0, 1, 3, 4, 0, 1, 5, 0, 1, 2, 4, 0];
-    assert_eq!(rt; found.as_slice(), wanted);
-    Ok(())
-}
-
-/// The parents of each version, with a 0 behind them.
-fn parents(alloc: Global, versions: &[Version]) -> Result<Vec<u32>, AllocError> {
-    let mut found = Vec::new(alloc);
-    for version in versions {
-        found.extend_from_slice(version.parents())?;
-        found.push(0)?;
+/// The numbers of a version's records.
+fn rids(alloc: Global, versions: &[Version], at: usize) -> Result<Vec<u32>, Fail> {
+    let all = all(alloc, versions)?;
+    let each = each(alloc, versions)?;
+    match each.as_slice().get(at) {
+        Some(own) => rids_in(alloc, all.as_slice(), own.as_slice()),
+        None => Err("no such version")?,
     }
-    Ok(found)
 }
-
-#[test]
-fn versions_keep_their_parents(rt: HostRuntime) -> Result<(), Fail> {
-    let set = dataset_after(rt.alloc(), &FOUR)?;
-    let found = parents(rt.alloc(), set.cvd().versions())?;
-    let wanted: &[u32] = &[0, 1, 0, 2, 0, 1, 2, 0];
-    assert_eq!(rt; found.as_slice(), wanted);
-    Ok(())
-}
-
-/// A version by its place, parents, the numbers of records that it shares with each, and its tree parent with that number.
-type Shares = (usize, &'static [u32], &'static [(u32, u32)], (u32, u32));
-
-// The last version shares two records with each of its parents: the one listed first is its tree parent.
-const SHARES: [Shares; 4] = [
-    (1, &[1], &[(1, 1)], (1, 1)),
-    (2, &[2], &[(2, 1)], (2, 1)),
-    (3, &[1, 2], &[(1, 2), (2, 2)], (1, 2)),
-    (3, &[3, 1], &[(3, 1), (1, 2)], (1, 2)),
-];
 
 fn shared(
     alloc: Global,
@@ -107,23 +61,40 @@ fn shared(
     }
 }
 
-#[test]
-fn weights_are_numbers_of_shared_records(rt: HostRuntime) -> Result<(), Fail> {
-    let alloc = rt.alloc();
-    let each = each(alloc, &dataset_after(alloc, &FOUR)?)?;
-    for (at, parents, edges, tree) in SHARES {
-        let found = shared(alloc, each.as_slice(), at, parents)?;
-        assert_eq!(rt; found.as_slice(), edges);
-        assert_eq!(rt; heaviest(found.as_slice()), tree);
+/// A version's parents, each with the number of records that it shares with it.
+fn edges(alloc: Global, versions: &[Version], at: usize) -> Result<Seq<(u32, u32)>, Fail> {
+    let each = each(alloc, versions)?;
+    match versions.get(at) {
+        Some(version) => shared(alloc, each.as_slice(), at, version.parents()),
+        None => Err("no such version")?,
     }
-    Ok(())
 }
 
+/// The numbers of a version's records, its edges, and the one to its tree parent.
+type Told = (&'static [u32], &'static [(u32, u32)], (u32, u32));
+
+// The third version's `bob` is a new record, though the first one had such a row: no parent gave it. Of edges of one weight the one
+// to the parent listed first counts.
+const TOLD: [Told; 6] = [
+    (&[1, 2], &[], (0, 0)),
+    (&[1, 3, 4], &[(1, 1)], (1, 1)),
+    (&[1, 5], &[(2, 1)], (2, 1)),
+    (&[1, 2, 4], &[(1, 2), (2, 2)], (1, 2)),
+    (&[1, 2, 4], &[(2, 2), (1, 2)], (2, 2)),
+    (&[1, 2], &[(2, 1), (1, 2), (4, 2)], (1, 2)),
+];
+
 #[test]
-fn ties_go_to_the_parent_listed_first(rt: HostRuntime) {
-    assert_eq!(rt; heaviest(&[]), (0, 0));
-    assert_eq!(rt; heaviest(&[(2, 2), (1, 2)]), (2, 2));
-    assert_eq!(rt; heaviest(&[(2, 1), (1, 2), (3, 2)]), (1, 2));
+fn records_have_numbers_and_are_shared(rt: HostRuntime) -> Result<(), Fail> {
+    let alloc = rt.alloc();
+    let versions = versions(alloc, &schema(alloc)?)?;
+    for (at, (numbers, shares, tree)) in TOLD.iter().enumerate() {
+        assert_eq!(rt; rids(alloc, versions.as_slice(), at)?.as_slice(), *numbers);
+        let found = edges(alloc, versions.as_slice(), at)?;
+        assert_eq!(rt; found.as_slice(), *shares);
+        assert_eq!(rt; heaviest(found.as_slice()), *tree);
+    }
+    Ok(())
 }
 
 // A dataset of 8 records at the threshold 3/4, of which 9 are stored.
@@ -179,34 +150,4 @@ fn the_shipped_placement_is_the_plain_one(rt: HostRuntime) {
         assert_eq!(rt; plain_place(&facts), wanted, "{facts:?}");
         assert_eq!(rt; place(&facts), wanted, "{facts:?}");
     }
-}
-
-/// Where a version with these parents and no rows would go.
-fn place_of(alloc: Global, set: &Dataset, parents: &[u32]) -> Result<Place, Fail> {
-    if set.cvd().versions().len() >= 65_535
-        || set.parts().len() > 65_535
-        || stored(alloc, set)? > u64::MAX as u128
-    {
-        return Err("too large")?;
-    }
-    let message = Txt::new(alloc, "more")?;
-    let version = Version::new(Seq::from_slice(alloc, parents)?, message, Seq::new(alloc));
-    Ok(placed_at(alloc, set, &version)?)
-}
-
-// With no threshold every version joins its parent's partition.
-#[test]
-fn a_version_joins_its_parents_partition(rt: HostRuntime) -> Result<(), Fail> {
-    let alloc = rt.alloc();
-    let set = dataset_after(alloc, &FOUR)?;
-    assert_eq!(rt; place_of(alloc, &set, &[4])?, Place::Join(1));
-    assert_eq!(rt; place_of(alloc, &set, &[3, 1])?, Place::Join(1));
-    Ok(())
-}
-
-#[test]
-fn no_versions_merge_to_no_rows(rt: HostRuntime) -> Result<(), Fail> {
-    let set = dataset_after(rt.alloc(), &FOUR)?;
-    assert!(rt; merged(rt.alloc(), set.cvd().schema(), &[])?.is_empty());
-    Ok(())
 }

@@ -59,12 +59,16 @@ fn numbers(alloc: Global, split: &Split) -> Result<Vec<u32>, AllocError> {
     Ok(numbers)
 }
 
-fn divided(alloc: Global, nodes: &[(u32, u32, u32)], p: u32, q: u32) -> Result<Vec<u32>, Fail> {
-    let tree = tree_of(alloc, nodes)?;
-    if tree.nodes.len() > 65_535 {
-        return Err("too many versions")?;
+/// The numbers of a tree's split: by the shipped program, or by the plain one.
+fn divided(alloc: Global, shipped: bool, tree: &Tree, p: u32, q: u32) -> Result<Vec<u32>, Fail> {
+    if !is_sound(tree) || p == 0 || p > q || q > 1_000_000 {
+        return Err("no such tree")?;
     }
-    let found = plain_split(alloc, &tree, p, q)?;
+    let found = if shipped {
+        split(alloc, tree, p, q)?
+    } else {
+        plain_split(alloc, tree, p, q)?
+    };
     Ok(numbers(alloc, &found)?)
 }
 
@@ -99,8 +103,9 @@ const WORKED: &[Worked] = &[
 fn worked_trees_are_divided_by_the_definition(rt: HostRuntime) -> Result<(), Fail> {
     let alloc = rt.alloc();
     for (nodes, p, q, wanted) in WORKED {
-        let got = divided(alloc, nodes, *p, *q)?;
-        assert_eq!(rt; got.as_slice(), *wanted);
+        let tree = tree_of(alloc, nodes)?;
+        let found = divided(alloc, false, &tree, *p, *q)?;
+        assert_eq!(rt; found.as_slice(), *wanted);
     }
     Ok(())
 }
@@ -166,21 +171,16 @@ fn shaped_tree(
 // Each shape with how many versions and how many records at most.
 const SHAPES: &[(Shape, u32, u32)] = &[
     (Shape::Chain, 2, 5),
-    (Shape::Chain, 40, 3),
-    (Shape::Chain, 100, 30),
-    (Shape::Chain, 250, 1000),
+    (Shape::Chain, 30, 3),
+    (Shape::Chain, 40, 1000),
     (Shape::Star, 2, 5),
-    (Shape::Star, 30, 4),
-    (Shape::Star, 70, 40),
-    (Shape::Binary, 60, 9),
-    (Shape::Binary, 200, 500),
+    (Shape::Star, 30, 40),
+    (Shape::Binary, 40, 9),
     (Shape::Random, 1, 5),
     (Shape::Random, 3, 2),
     (Shape::Random, 12, 6),
-    (Shape::Random, 50, 8),
-    (Shape::Random, 90, 4_000_000),
-    (Shape::Random, 120, 20),
-    (Shape::Random, 200, 100),
+    (Shape::Random, 40, 20),
+    (Shape::Random, 50, 4_000_000),
 ];
 
 const THRESHOLDS: &[(u32, u32)] = &[
@@ -194,22 +194,9 @@ const THRESHOLDS: &[(u32, u32)] = &[
     (1, 1),
 ];
 
-/// The numbers of a tree's split: by the shipped program, or by the plain one.
-fn split_by(alloc: Global, shipped: bool, tree: &Tree, p: u32, q: u32) -> Result<Vec<u32>, Fail> {
-    if !is_sound(tree) || p == 0 || p > q || q > 1_000_000 {
-        return Err("no such tree")?;
-    }
-    let found = if shipped {
-        split(alloc, tree, p, q)?
-    } else {
-        plain_split(alloc, tree, p, q)?
-    };
-    Ok(numbers(alloc, &found)?)
-}
-
 fn are_alike(alloc: Global, tree: &Tree, p: u32, q: u32) -> Result<bool, Fail> {
-    let shipped = split_by(alloc, true, tree, p, q)?;
-    let plain = split_by(alloc, false, tree, p, q)?;
+    let shipped = divided(alloc, true, tree, p, q)?;
+    let plain = divided(alloc, false, tree, p, q)?;
     Ok(shipped.as_slice() == plain.as_slice())
 }
 

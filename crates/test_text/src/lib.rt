@@ -1,17 +1,10 @@
-//! The tests of texts: the program's words, script lines, tokens, queries with their kinds, terms and answers, replies, and CSV files
-//! (`ov_args`, `ov_cmd`, `ov_lex`, `ov_parse`, `ov_typing`, `ov_terms`, `ov_qrun`, `ov_reply`, `ov_csv`).
+//! The tests of texts that no script shows: the program's words, spans of tokens, lines and replies of commands to come, queries of
+//! lineages, and who may ask of which datasets (`ov_args`, `ov_lex`, `ov_cmd`, `ov_reply`, `ov_parse`, `ov_users`).
 //!
-//! In a crate of their own they are proved without proving those crates once more.
+//! In a crate of their own they are proved without proving those crates once more. What scripts show is held by the examples and by
+//! `scripts/limits`.
 #![tactic(auto)]
 
-#[cfg(test)]
-mod answer_texts;
-#[cfg(test)]
-mod answers;
-#[cfg(test)]
-mod asked;
-#[cfg(test)]
-mod files;
 #[cfg(test)]
 mod lines;
 #[cfg(test)]
@@ -19,18 +12,8 @@ mod queries;
 #[cfg(test)]
 mod replies;
 #[cfg(test)]
-mod scans;
-#[cfg(test)]
-mod schemas;
-#[cfg(test)]
-mod speed;
-#[cfg(test)]
-mod tables;
-#[cfg(test)]
-mod terms;
-#[cfg(test)]
 mod tokens;
 #[cfg(test)]
-mod typing;
+mod users;
 #[cfg(test)]
 mod words;

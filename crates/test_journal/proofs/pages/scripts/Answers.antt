@@ -1,7 +1,0 @@
-use Rattle.test_journal.proofs.pages.scripts.Goals as goal
-
-pub take-requires-clause-kept : goal.take-requires-clause-kept
-take-requires-clause-kept g c = c.loop.invariant
-
-pub give-freed-requires-clause-kept : goal.give-freed-requires-clause-kept
-give-freed-requires-clause-kept g c = c.loop.invariant

@@ -1,5 +1,0 @@
-use Rattle.ov_pages.specs.Live.{AreReserved}
-use Rattle.test_journal.proofs.pages.scripts.Given as goal
-
-abbrev pub invariant-loop : goal.invariant-loop
-invariant-loop g l = AreReserved l.live.items l.pages
