@@ -3,7 +3,7 @@
 use ov_value::Txt;
 
 /// What the words ask for.
-#[derive(Debug, Drop)]
+#[derive(Drop)]
 pub struct Options {
     /// The folder that holds the store.
     pub folder: Txt,
@@ -12,7 +12,7 @@ pub struct Options {
 }
 
 /// Why the words ask for nothing.
-#[derive(Debug, Clone, Copy, PartialEq, Eq)]
+#[derive(Clone, Copy, Debug, PartialEq, Eq)]
 pub enum WordsErr {
     /// They have none of the five forms.
     Usage,

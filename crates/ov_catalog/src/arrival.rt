@@ -4,7 +4,7 @@ use ov_event::Placed;
 use ov_host::Extent;
 
 /// What a commit's event says of its version, but for its message and its parents.
-#[derive(Clone, Copy, Debug)]
+#[derive(Clone, Copy)]
 pub struct Arrival {
     pub vid: u32,
     pub rows: u32,

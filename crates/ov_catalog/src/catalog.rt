@@ -44,7 +44,7 @@ use std::mem;
 
 /// All that the journal's events say of the live datasets. Contracts see their numbers, for which event there is room, and how
 /// far the half of the journal has come whose events were applied.
-#[derive(Debug, Drop)]
+#[derive(Drop)]
 pub struct Catalog {
     alloc: Global,
     /// The number that the next dataset gets.

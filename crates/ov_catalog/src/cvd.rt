@@ -6,7 +6,7 @@ use ov_layout::Layout;
 use ov_value::{Schema, Txt};
 
 /// A version.
-#[derive(Debug, Drop)]
+#[derive(Drop)]
 pub struct Version {
     /// Its parents, each a vid and the weight of the edge: how many records both versions have.
     pub parents: Items<(u32, u32)>,
@@ -20,7 +20,7 @@ pub struct Version {
 }
 
 /// One part of a plan, which will be a partition.
-#[derive(Debug, Drop)]
+#[derive(Drop)]
 pub struct Target {
     pub versions: Items<u32>,
     /// How many records its versions have together.
@@ -34,7 +34,7 @@ pub struct Target {
 }
 
 /// A running plan, under the threshold p / q.
-#[derive(Debug, Drop)]
+#[derive(Drop)]
 pub struct Plan {
     pub p: u32,
     pub q: u32,
@@ -48,7 +48,7 @@ pub struct Plan {
 }
 
 /// A dataset.
-#[derive(Debug, Drop)]
+#[derive(Drop)]
 pub struct Cvd {
     /// Its number, from 1 on, which no other dataset ever has.
     pub number: u32,

@@ -12,7 +12,7 @@ use ov_value::Txt;
 use std::alloc::{AllocError, Global};
 
 /// What a Whole says, in the lists that a dataset has.
-#[derive(Debug, Drop)]
+#[derive(Drop)]
 pub struct Draft {
     pub number: u32,
     pub name: Txt,

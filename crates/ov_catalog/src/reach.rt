@@ -10,7 +10,7 @@ use crate::field::Field;
 use crate::refusing::unless;
 
 /// How far the half of the journal has come whose events were applied: whether a Base or a Whole may come next.
-#[derive(Clone, Copy, Debug, PartialEq, Eq)]
+#[derive(Clone, Copy, PartialEq, Eq)]
 pub enum Reach {
     /// None was applied yet: a Base may come.
     AtStart,

@@ -6,7 +6,7 @@ use ov_layout::Layout;
 use ov_value::{Schema, Txt};
 
 /// What a dataset begins with: the message of its first version, its schema, and room for that version.
-#[derive(Debug, Drop)]
+#[derive(Drop)]
 pub struct Spare {
     pub message: Txt,
     pub schema: Schema,
@@ -15,7 +15,7 @@ pub struct Spare {
 }
 
 /// For which event there is room.
-#[derive(Debug, Drop)]
+#[derive(Drop)]
 pub enum Room {
     Nothing,
     /// For an Init with this schema.

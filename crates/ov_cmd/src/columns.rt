@@ -1,6 +1,6 @@
 //! Schema items.
 
-ghost use Rattle.std.specs.Prelude.{◌≡◌, IfOk, IfErr, Ok, map};
+ghost use Rattle.std.specs.Prelude.{◌≡◌, ◌≢◌, IfOk, IfErr, Ok, Some, None, map};
 ghost use Rattle.ov_model.specs.Values.{kind_of as kind_named, column_of as column_in, columns_from, comma_items as comma_items_of};
 ghost use Rattle.ov_cmd.specs.Errors.{Refuses};
 
@@ -34,20 +34,25 @@ fn column_of(alloc: Global, item: &str) -> Result<Option<Column>, AllocError>
     Ok(Some(Column { name, kind }))
 }
 
+/// The column of item `nth`.
+fn column_at(alloc: Global, nth: u64, item: &str) -> Result<Column, LineErr>
+    ensures ok { IfOk result (λ column. column_in item.now ≡ Some column) }
+    ensures none { IfErr result (λ e. e ≢ LineErr.Memory → column_in item.now ≡ None) }
+    ensures err { IfErr result (λ e. e ≢ LineErr.Memory → e ≡ LineErr.BadKind nth) }
+{
+    match column_of(alloc, item)? {
+        Some(column) => Ok(column),
+        None => Err(LineErr::BadKind { column: nth }),
+    }
+}
+
 fn columns_in(alloc: Global, items: &[&str]) -> Result<Seq<Column>, LineErr>
     ensures ok { IfOk result (λ columns. columns_from 1 (map (λ x. x.now) items.now) ≡ Ok columns) }
     ensures err { IfErr result (Refuses (columns_from 1 (map (λ x. x.now) items.now))) }
 {
     let mut columns = Vec::with_capacity(alloc, items.len())?;
     for (i, item) in items.iter().enumerate() {
-        match column_of(alloc, item)? {
-            Some(column) => columns.push(column)?,
-            None => {
-                return Err(LineErr::BadKind {
-                    column: i as u64 + 1,
-                });
-            }
-        }
+        columns.push(column_at(alloc, i as u64 + 1, item)?)?;
     }
     Ok(Seq::from_vec(columns))
 }

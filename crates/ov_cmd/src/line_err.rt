@@ -4,7 +4,7 @@ use ov_value::{SchemaErr, Txt};
 use std::alloc::{AllocError, AllocFailed};
 
 /// Why a line is refused, with the values of its text, or that there was no memory for reading it.
-#[derive(Debug, Drop)]
+#[derive(Drop)]
 pub enum LineErr {
     /// 51: the first word is no command.
     UnknownCommand,

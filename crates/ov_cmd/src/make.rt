@@ -1,10 +1,11 @@
 //! The command that the values of a line make.
 
-ghost use Rattle.std.specs.Prelude.{◌≡◌, IfOk, IfErr, Ok, Some, codes};
+ghost use Rattle.std.specs.Prelude.{◌≡◌, ◌≢◌, true, false, IfOk, IfErr, Ok, Some, codes};
 ghost use Rattle.std.specs.Option.{option_copied, option_map};
 ghost use Rattle.ov_model.specs.Values.{number_from as number_from_of};
-ghost use Rattle.ov_model.specs.Forms.{word_of, choice, text_in, vids_in, names_in, columns_in, count_in as count_in_of, before_in as before_in_of, own_in as own_in_of, over_in as over_in_of, under_in as under_in_of, user_in, table_in, make_init as init_of, make_checkout as checkout_of, make_commit as commit_of, make_commit_staged as commit_staged_of, make_optimize as optimize_of, make_advise as advise_of, make_generate as generate_of, some_columns as some_columns_of, or_schema_refusal};
+ghost use Rattle.ov_model.specs.Forms.{word_of, choice as choice_of, text_in, vids_in, names_in, columns_in, count_in as count_in_of, before_in as before_in_of, own_in as own_in_of, over_in as over_in_of, under_in as under_in_of, user_in, table_in, make_init as init_of, make_checkout as checkout_of, make_commit as commit_of, make_commit_staged as commit_staged_of, make_optimize as optimize_of, make_advise as advise_of, make_generate as generate_of, some_columns as some_columns_of, or_schema_refusal};
 ghost use Rattle.ov_value.specs.Making.{schema_of as schema_made};
+ghost use Rattle.ov_value.specs.Naming.{is_name as is_name_of};
 ghost use Rattle.ov_cmd.specs.Errors.{Refuses};
 ghost use Rattle.ov_cmd.specs.Gathered.{values_of};
 ghost use Rattle.ov_cmd.specs.declared.form.Maker.TheVariants as makes;
@@ -158,16 +159,23 @@ fn first_text(alloc: Global, values: &Values) -> Result<Txt, AllocError>
     copy_text(alloc, word(values, 0))
 }
 
-fn option_text(alloc: Global, values: &Values, letter: &str) -> Result<Txt, AllocError>
-    ensures { IfOk result (λ text. text ≡ text_in (choice (values_of values.now) letter.now)) }
+/// The value of an option.
+fn choice<'a>(values: &'a Values, letter: &str) -> Option<&'a Given>
+    ensures { option_copied result ≡ choice_of (values_of values.now) letter.now }
 {
-    copy_text(alloc, option(values.options.as_slice(), letter))
+    option(values.options.as_slice(), letter)
+}
+
+fn option_text(alloc: Global, values: &Values, letter: &str) -> Result<Txt, AllocError>
+    ensures { IfOk result (λ text. text ≡ text_in (choice_of (values_of values.now) letter.now)) }
+{
+    copy_text(alloc, choice(values, letter))
 }
 
 fn option_vids(alloc: Global, values: &Values) -> Result<Seq<u64>, AllocError>
-    ensures { IfOk result (λ vids. vids ≡ vids_in (choice (values_of values.now) (codes "-v"))) }
+    ensures { IfOk result (λ vids. vids ≡ vids_in (choice_of (values_of values.now) (codes "-v"))) }
 {
-    copy_vids(alloc, option(values.options.as_slice(), "-v"))
+    copy_vids(alloc, choice(values, "-v"))
 }
 
 /// The text of an option that may be missing.
@@ -191,18 +199,38 @@ fn schema_of(alloc: Global, columns: Vec<Column>, key: Vec<Txt>) -> Result<Schem
     }
 }
 
+/// The schema of the options.
+fn schema_in(alloc: Global, values: &Values) -> Result<Schema, LineErr>
+    ensures ok { IfOk result (λ schema. or_schema_refusal (schema_made (columns_in (choice_of (values_of values.now) (codes "-s"))) (names_in (choice_of (values_of values.now) (codes "-k")))) ≡ Ok schema) }
+    ensures err { IfErr result (Refuses (or_schema_refusal (schema_made (columns_in (choice_of (values_of values.now) (codes "-s"))) (names_in (choice_of (values_of values.now) (codes "-k")))))) }
+{
+    let columns = copy_columns(alloc, choice(values, "-s"))?;
+    let key = copy_names(alloc, choice(values, "-k"))?;
+    schema_of(alloc, columns, key)
+}
+
+/// The name of the dataset to make.
+fn new_name(alloc: Global, values: &Values) -> Result<Txt, LineErr>
+    ensures ok { IfOk result (λ cvd. cvd ≡ text_in (word_of (values_of values.now) 0)) }
+    ensures name { IfOk result (λ cvd. is_name_of cvd ≡ true) }
+    ensures no_name { IfErr result (λ e. e ≢ LineErr.Memory → is_name_of (text_in (word_of (values_of values.now) 0)) ≡ false) }
+    ensures err { IfErr result (λ e. e ≢ LineErr.Memory → e ≡ LineErr.BadName (text_in (word_of (values_of values.now) 0))) }
+{
+    let cvd = first_text(alloc, values)?;
+    if is_name(cvd.as_str()) {
+        Ok(cvd)
+    } else {
+        Err(LineErr::BadName { name: cvd })
+    }
+}
+
 fn make_init(alloc: Global, values: &Values) -> Result<Command, LineErr>
     ensures ok { IfOk result (λ command. init_of (values_of values.now) ≡ Ok command) }
     ensures err { IfErr result (Refuses (init_of (values_of values.now))) }
 {
-    let cvd = first_text(alloc, values)?;
-    if !is_name(cvd.as_str()) {
-        return Err(LineErr::BadName { name: cvd });
-    }
-    let columns = copy_columns(alloc, option(values.options.as_slice(), "-s"))?;
-    let key = copy_names(alloc, option(values.options.as_slice(), "-k"))?;
+    let cvd = new_name(alloc, values)?;
+    let schema = schema_in(alloc, values)?;
     let file = option_text(alloc, values, "-f")?;
-    let schema = schema_of(alloc, columns, key)?;
     Ok(Command::Init { cvd, schema, file })
 }
 
@@ -212,8 +240,8 @@ fn make_checkout(alloc: Global, values: &Values) -> Result<Command, LineErr>
 {
     let cvd = first_text(alloc, values)?;
     let vids = option_vids(alloc, values)?;
-    let file = text_if_given(alloc, option(values.options.as_slice(), "-f"))?;
-    let table = text_if_given(alloc, option(values.options.as_slice(), "-t"))?;
+    let file = text_if_given(alloc, choice(values, "-f"))?;
+    let table = text_if_given(alloc, choice(values, "-t"))?;
     Ok(Command::Checkout {
         cvd,
         vids,
@@ -237,20 +265,44 @@ fn some_columns(alloc: Global, given: Option<&Given>) -> Result<Option<Seq<Colum
     Ok(Some(Seq::from_vec(columns)))
 }
 
-fn make_commit(alloc: Global, values: &Values) -> Result<Command, LineErr>
-    ensures ok { IfOk result (λ command. commit_of (values_of values.now) ≡ Ok command) }
-    ensures err { IfErr result (Refuses (commit_of (values_of values.now))) }
+/// What each commit names.
+#[derive(Drop)]
+struct CommitParts {
+    cvd: Txt,
+    vids: Seq<u64>,
+    file: Txt,
+    message: Txt,
+}
+
+fn commit_parts(alloc: Global, values: &Values) -> Result<CommitParts, AllocError>
+    ensures cvd { IfOk result (λ parts. parts.cvd ≡ text_in (word_of (values_of values.now) 0)) }
+    ensures vids { IfOk result (λ parts. parts.vids ≡ vids_in (choice_of (values_of values.now) (codes "-v"))) }
+    ensures file { IfOk result (λ parts. parts.file ≡ text_in (choice_of (values_of values.now) (codes "-f"))) }
+    ensures message { IfOk result (λ parts. parts.message ≡ text_in (choice_of (values_of values.now) (codes "-m"))) }
 {
-    let added = some_columns(alloc, option(values.options.as_slice(), "-a"))?;
     let cvd = first_text(alloc, values)?;
     let vids = option_vids(alloc, values)?;
     let file = option_text(alloc, values, "-f")?;
     let message = option_text(alloc, values, "-m")?;
-    Ok(Command::Commit {
+    Ok(CommitParts {
         cvd,
         vids,
         file,
         message,
+    })
+}
+
+fn make_commit(alloc: Global, values: &Values) -> Result<Command, LineErr>
+    ensures ok { IfOk result (λ command. commit_of (values_of values.now) ≡ Ok command) }
+    ensures err { IfErr result (Refuses (commit_of (values_of values.now))) }
+{
+    let parts = commit_parts(alloc, values)?;
+    let added = some_columns(alloc, choice(values, "-a"))?;
+    Ok(Command::Commit {
+        cvd: parts.cvd,
+        vids: parts.vids,
+        file: parts.file,
+        message: parts.message,
         added,
     })
 }
@@ -259,8 +311,8 @@ fn make_commit_staged(alloc: Global, values: &Values) -> Result<Command, LineErr
     ensures ok { IfOk result (λ command. commit_staged_of (values_of values.now) ≡ Ok command) }
     ensures err { IfErr result (λ e. e ≡ LineErr.Memory) }
 {
-    let user = copy_user(alloc, option(values.options.as_slice(), "-t"))?;
-    let table = copy_table(alloc, option(values.options.as_slice(), "-t"))?;
+    let user = copy_user(alloc, choice(values, "-t"))?;
+    let table = copy_table(alloc, choice(values, "-t"))?;
     let message = option_text(alloc, values, "-m")?;
     Ok(Command::CommitStaged {
         user,
@@ -274,13 +326,13 @@ fn make_optimize(alloc: Global, values: &Values) -> Result<Command, LineErr>
     ensures err { IfErr result (λ e. e ≡ LineErr.Memory) }
 {
     let cvd = first_text(alloc, values)?;
-    let threshold = option(values.options.as_slice(), "-d");
+    let threshold = choice(values, "-d");
     if threshold.is_some() {
         let p = over_in(threshold);
         let q = under_in(threshold);
         return Ok(Command::Optimize { cvd, p, q });
     }
-    let budget = number_from(option(values.options.as_slice(), "-s"));
+    let budget = number_from(choice(values, "-s"));
     Ok(Command::OptimizeWithin { cvd, budget })
 }
 
@@ -289,8 +341,8 @@ fn make_advise(alloc: Global, values: &Values) -> Result<Command, LineErr>
     ensures err { IfErr result (λ e. e ≡ LineErr.Memory) }
 {
     let cvd = first_text(alloc, values)?;
-    let budget = number_from(option(values.options.as_slice(), "-s"));
-    let ratio = option(values.options.as_slice(), "-m");
+    let budget = number_from(choice(values, "-s"));
+    let ratio = choice(values, "-m");
     Ok(Command::Advise {
         cvd,
         budget,
@@ -303,10 +355,7 @@ fn make_generate(alloc: Global, values: &Values) -> Result<Command, LineErr>
     ensures ok { IfOk result (λ command. generate_of (values_of values.now) ≡ Ok command) }
     ensures err { IfErr result (Refuses (generate_of (values_of values.now))) }
 {
-    let cvd = first_text(alloc, values)?;
-    if !is_name(cvd.as_str()) {
-        return Err(LineErr::BadName { name: cvd });
-    }
+    let cvd = new_name(alloc, values)?;
     Ok(Command::Generate {
         cvd,
         seed: number_from(word(values, 1)),

@@ -1,6 +1,6 @@
 //! The next word of a text.
 
-ghost use Rattle.std.specs.Prelude.{◌≡◌, ◌≤◌, length, ◌==◌, ◌||◌, if◌then◌else◌, IfOk, OnOk, IsUtf8, [], ◌∷◌, ◌++◌, false};
+ghost use Rattle.std.specs.Prelude.{◌≡◌, ◌≢◌, ◌≤◌, ℕ, List, length, ◌==◌, ◌||◌, if◌then◌else◌, IfOk, OnOk, IsUtf8, [], ◌∷◌, ◌++◌, true, false};
 ghost use Rattle.std.specs.List.{position_or_len};
 ghost use Rattle.ov_model.specs.Words.{is_blank as is_blank_of, is_no_blank, without_blanks as without_blanks_of, plain as plain_of, quoted as quoted_of, next_word as next_word_of};
 ghost use Rattle.ov_cmd.specs.Following.{next_of, IsCut};
@@ -78,6 +78,30 @@ fn push_escaped(b: u8, word: &mut Vec<u8>) -> Result<(), AllocError>
     Ok(())
 }
 
+/// Whether a byte closes the word.
+fn closes(b: u8, escaped: bool) -> bool
+    ensures yes { result ≡ true → (escaped ≡ false) × (b ≡ 34) }
+    ensures no { result ≡ false → escaped ≡ false → b ≢ 34 }
+{
+    !escaped && b == b'"'
+}
+
+/// Takes a byte that doesn't close the word, and answers whether the next one stands behind a backslash.
+fn taken(b: u8, escaped: bool, word: &mut Vec<u8>) -> Result<bool, AllocError>
+    requires { escaped ≡ false → b ≢ 34 }
+    ensures { IfOk result (λ later. (rest : List ℕ) → quoted_of escaped word.old.items (b ∷ rest) ≡ quoted_of later word.new.items rest) }
+{
+    if escaped {
+        push_escaped(b, word)?;
+        return Ok(false);
+    }
+    if b == b'\\' {
+        return Ok(true);
+    }
+    word.push(b)?;
+    Ok(false)
+}
+
 /// A quoted word, behind its first quote.
 fn quoted<'a>(alloc: Global, text: &'a str) -> Result<Next<'a>, AllocError>
     ensures is { IfOk result (λ next. next_of next ≡ quoted_of false [] text.now) }
@@ -86,18 +110,12 @@ fn quoted<'a>(alloc: Global, text: &'a str) -> Result<Next<'a>, AllocError>
     let mut word = Vec::new(alloc);
     let mut escaped = false;
     for (i, b) in text.as_bytes().iter().enumerate() {
-        if escaped {
-            push_escaped(*b, &mut word)?;
-            escaped = false;
-        } else if *b == b'"' {
+        if closes(*b, escaped) {
             let behind = &text[i + 1..];
             let word = Word::own(text_of(word)?);
             return Ok(Next::Word { word, behind });
-        } else if *b == b'\\' {
-            escaped = true;
-        } else {
-            word.push(*b)?;
         }
+        escaped = taken(*b, escaped, &mut word)?;
     }
     Ok(Next::Unclosed)
 }

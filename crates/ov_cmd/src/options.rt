@@ -1,6 +1,6 @@
 //! Options and their values.
 
-ghost use Rattle.std.specs.Prelude.{◌≡◌, ◌≢◌, ◌+◌, ◌<◌, ◌^◌, IfOk, IfErr, Ok, map, length};
+ghost use Rattle.std.specs.Prelude.{◌≡◌, ◌≢◌, ◌+◌, ◌<◌, ◌^◌, [], ◌∷◌, ◌++◌, IfOk, IfErr, Ok, map, length};
 ghost use Rattle.std.specs.Option.{option_map};
 ghost use Rattle.ov_model.specs.Line.{choice_named as choice_named_of, may_follow as may_follow_of, option_at as option_at_of, one_option as one_option_of, read_options as read_options_of, missing as missing_of};
 ghost use Rattle.ov_cmd.specs.Errors.{Refuses};
@@ -56,6 +56,25 @@ fn option_at(
     }
 }
 
+/// The option that word `nth` names, and its value.
+fn chosen_at(
+    alloc: Global,
+    choices: &[Choice],
+    before: &[Given],
+    options: &[Chosen],
+    nth: u64,
+    letter: &str,
+    value: &str,
+) -> Result<Chosen, LineErr>
+    requires { nth + 1 < 2 ^ 64 }
+    ensures ok { IfOk result (λ chosen. one_option_of (map choice_of choices.now) before.now options.now nth letter.now value.now ≡ Ok (options.now ++ chosen ∷ [])) }
+    ensures err { IfErr result (Refuses (one_option_of (map choice_of choices.now) before.now options.now nth letter.now value.now)) }
+{
+    let choice = option_at(choices, options, nth, letter)?;
+    let given = read(alloc, choice.reads, nth + 1, before, value)?;
+    Ok((Word::slice(choice.letter), given))
+}
+
 /// The options with the one that word `nth` names and its value.
 fn one_option(
     alloc: Global,
@@ -70,10 +89,17 @@ fn one_option(
     ensures ok { IfOk result (λ more. one_option_of (map choice_of choices.now) before.now options.entry.items nth letter.now value.now ≡ Ok more.items) }
     ensures err { IfErr result (Refuses (one_option_of (map choice_of choices.now) before.now options.entry.items nth letter.now value.now)) }
 {
-    let choice = option_at(choices, options.as_slice(), nth, letter)?;
-    let given = read(alloc, choice.reads, nth + 1, before, value)?;
+    let chosen = chosen_at(
+        alloc,
+        choices,
+        before,
+        options.as_slice(),
+        nth,
+        letter,
+        value,
+    )?;
     let mut more = options;
-    more.push((Word::slice(choice.letter), given))?;
+    more.push(chosen)?;
     Ok(more)
 }
 

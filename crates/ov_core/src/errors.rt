@@ -4,7 +4,7 @@ use ov_journal::AppendErr;
 use std::alloc::AllocError;
 
 /// Why a change wasn't made. After any of these but `Host` all is as it was.
-#[derive(Clone, Copy, Debug, PartialEq, Eq)]
+#[derive(Clone, Copy, PartialEq, Eq)]
 pub enum ChangeErr {
     /// The host failed. What a stop leaves is the state before the change or the one after it, and the store is opened again.
     Host,

@@ -12,7 +12,7 @@ use std::marker::Model;
 
 /// A journal, the catalog of its events, and the pages of the catalog's live extents, which are reserved. Contracts see what
 /// the journal and the catalog keep; the reserved pages follow from it.
-#[derive(Debug, Drop)]
+#[derive(Drop)]
 pub struct Core {
     pub(crate) journal: Journal,
     pub(crate) pages: Pages,

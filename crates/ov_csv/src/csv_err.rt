@@ -5,7 +5,7 @@ use std::alloc::{AllocError, AllocFailed};
 
 /// Why the bytes of a file are no rows of a schema. `TooLong` and `BadHeader` come before all others; of the others the
 /// first row that has one counts, and within a row they come as they stand here. Rows are counted from 1, without the header.
-#[derive(Debug, Drop)]
+#[derive(Drop)]
 pub enum CsvErr {
     /// The file has over 67,108,864 bytes.
     TooLong,

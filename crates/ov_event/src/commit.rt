@@ -18,7 +18,7 @@ use ov_value::Txt;
 use std::alloc::{AllocError, Global};
 
 /// What a commit has behind its message and its columns.
-#[derive(Debug, Drop)]
+#[derive(Drop)]
 pub(crate) struct Tail {
     parents: Items<(u32, u32)>,
     rows: u32,

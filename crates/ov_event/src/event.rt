@@ -6,14 +6,14 @@ use ov_items::Items;
 use ov_value::{Column, Txt};
 
 /// The columns and the positions of the key columns, counted from 0. It may be one that `Schema::new` refuses.
-#[derive(Debug, Drop)]
+#[derive(Drop)]
 pub struct RawSchema {
     pub columns: Items<Column>,
     pub key: Items<u8>,
 }
 
 /// Where the records of a version that was committed went: a partition of its own, or the one of this number.
-#[derive(Clone, Copy, Debug, PartialEq, Eq)]
+#[derive(Clone, Copy, PartialEq, Eq)]
 pub enum Placed {
     Own,
     Join(u32),
@@ -21,7 +21,7 @@ pub enum Placed {
 
 /// A partition that a plan makes: how many records it will have, the partition that it is made of, the places
 /// of that one's segments which stay, and how many records those have.
-#[derive(Debug, Drop)]
+#[derive(Drop)]
 pub struct PlanTarget {
     pub size: u32,
     pub source: u32,
@@ -30,7 +30,7 @@ pub struct PlanTarget {
 }
 
 /// A record of the journal.
-#[derive(Debug, Drop)]
+#[derive(Drop)]
 pub enum Event {
     /// A dataset begins with its first version.
     Init {

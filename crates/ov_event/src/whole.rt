@@ -7,7 +7,7 @@ use ov_value::Txt;
 
 /// A dataset: its number, its name, its schema, how many records it has, the threshold p / q or 0 and 0 for
 /// none, the number that the next partition gets, and its versions from 1 on, its partitions and its migration.
-#[derive(Debug, Drop)]
+#[derive(Drop)]
 pub struct Whole {
     pub number: u32,
     pub name: Txt,
@@ -23,7 +23,7 @@ pub struct Whole {
 
 /// A version: its parents with their weights, its message, how many rows it has and how many of them were new,
 /// and where its list lies.
-#[derive(Debug, Drop)]
+#[derive(Drop)]
 pub struct RawVersion {
     pub parents: Items<(u32, u32)>,
     pub message: Txt,
@@ -34,7 +34,7 @@ pub struct RawVersion {
 
 /// A partition: its number, its versions, the versions that hold it, how many records it has, and where its
 /// segments lie.
-#[derive(Debug, Drop)]
+#[derive(Drop)]
 pub struct RawPart {
     pub id: u32,
     pub versions: Items<u32>,
@@ -45,7 +45,7 @@ pub struct RawPart {
 
 /// A migration: the target that is next, counted from 0, how many of its records are copied, the targets, and
 /// where the segments lie that it has written.
-#[derive(Debug, Drop)]
+#[derive(Drop)]
 pub struct RawPlan {
     pub at: u32,
     pub copied: u32,
@@ -54,7 +54,7 @@ pub struct RawPlan {
 }
 
 /// A target of a migration, with the versions that it will have.
-#[derive(Debug, Drop)]
+#[derive(Drop)]
 pub struct RawTarget {
     pub versions: Items<u32>,
     pub size: u32,

@@ -4,7 +4,7 @@ use crate::picks::{Picks, Vids};
 use ov_segment::RecordTable;
 
 /// The rows of some versions of one dataset. A record that several of them have stands here once.
-#[derive(Debug, Drop)]
+#[derive(Drop)]
 pub struct Scan {
     /// The versions' numbers, in the order that was asked for.
     pub vids: Vids,

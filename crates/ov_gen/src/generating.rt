@@ -15,7 +15,7 @@ use std::alloc::{AllocError, Global};
 use std::marker::Model;
 
 /// A generator: what the next number is drawn from, and the number of rows of the first version.
-#[derive(Debug, Drop)]
+#[derive(Drop)]
 pub struct Gen {
     state: u64,
     rows: u32,

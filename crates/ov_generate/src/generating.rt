@@ -27,7 +27,7 @@ use ov_value::Txt;
 use std::alloc::{AllocError, Global};
 
 /// A dataset that is asked for.
-#[derive(Debug, Drop)]
+#[derive(Drop)]
 pub struct Wanted {
     /// Its name.
     pub cvd: Txt,
@@ -40,7 +40,7 @@ pub struct Wanted {
 }
 
 /// A dataset that was made.
-#[derive(Clone, Copy, Debug, PartialEq, Eq)]
+#[derive(Clone, Copy, PartialEq, Eq)]
 pub struct Generated {
     /// How many versions it has.
     pub versions: u32,

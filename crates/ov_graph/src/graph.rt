@@ -11,14 +11,14 @@ use std::alloc::{AllocError, Global};
 use std::marker::Model;
 
 /// A version, with its parents as vids and weights.
-#[derive(Debug, Drop)]
+#[derive(Drop)]
 pub struct Entry {
     pub records: u32,
     pub parents: Vec<(u32, u32)>,
 }
 
 /// A graph of versions, which only grows. Contracts see it as the list of its versions.
-#[derive(Debug, Drop)]
+#[derive(Drop)]
 pub struct Graph {
     entries: Vec<Entry>,
 }

@@ -4,7 +4,7 @@ ghost use Rattle.std.specs.Prelude.{◌≡◌};
 ghost use Rattle.ov_graph.specs.Trees.{IsSound, all_records, all_members};
 
 /// One version of a tree.
-#[derive(Clone, Copy, Debug)]
+#[derive(Clone, Copy)]
 pub struct Node {
     /// How many records the version has.
     pub records: u32,
@@ -18,7 +18,7 @@ pub struct Node {
 ///
 /// It is sound where it has at most 65,535 nodes, the first has the parent 0 and the weight 0, and each later one has a
 /// parent below its own vid, from 1 on, and a weight of at most its own records and of its parent's.
-#[derive(Debug, Drop)]
+#[derive(Drop)]
 pub struct Tree {
     pub nodes: Vec<Node>,
 }

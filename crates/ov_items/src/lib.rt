@@ -7,7 +7,7 @@ use std::marker::Model;
 use std::mem;
 
 /// Items in order. Contracts see the list of them.
-#[derive(Debug, Drop)]
+#[derive(Drop)]
 pub struct Items<T> {
     items: Vec<T>,
 }

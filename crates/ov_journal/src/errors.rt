@@ -7,7 +7,7 @@ use ov_host::Failed;
 use std::alloc::{AllocError, AllocFailed};
 
 /// Why a record was not appended.
-#[derive(Clone, Copy, Debug, PartialEq, Eq)]
+#[derive(Clone, Copy, PartialEq, Eq)]
 pub enum AppendErr {
     /// The journal would pass 2^28 bytes. Nothing was written.
     JournalFull,
@@ -24,7 +24,7 @@ impl From<Failed> for AppendErr {
 }
 
 /// Why a journal was not opened.
-#[derive(Clone, Copy, Debug, PartialEq, Eq)]
+#[derive(Clone, Copy, PartialEq, Eq)]
 pub enum JournalErr {
     /// The host failed.
     Host,

@@ -12,7 +12,7 @@ use std::alloc::{AllocError, Global};
 use std::marker::Model;
 
 /// A record behind its gate: its payload's length and its payload, and a closed gate. Contracts see it as its payload.
-#[derive(Debug, Drop)]
+#[derive(Drop)]
 pub struct Framed {
     bytes: Vec<u8>,
 }

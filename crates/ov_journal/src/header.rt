@@ -17,7 +17,7 @@ pub const HEADER_BYTES: usize = 38;
 pub const TEXT: [u8; 11] = *b"orpheus-cvd";
 
 /// One of the header's two slots.
-#[derive(Clone, Copy, Debug)]
+#[derive(Clone, Copy)]
 pub enum Side {
     First,
     Second,
@@ -50,7 +50,7 @@ impl Side {
 pub const FORMAT: u32 = 2;
 
 /// The live slot: which one it is, its fields, and whether the other slot's gate is open.
-#[derive(Clone, Copy, Debug)]
+#[derive(Clone, Copy)]
 pub struct Live {
     pub side: Side,
     pub epoch: u32,

@@ -20,7 +20,7 @@ use std::marker::Model;
 pub const JOURNAL_BYTES: u64 = 1 << 28;
 
 /// The journal of a store: the place of its first closed gate, and its live slot.
-#[derive(Debug, Drop)]
+#[derive(Drop)]
 pub struct Journal {
     end: u64,
     live: Live,

@@ -4,7 +4,7 @@ ghost use Rattle.std.specs.Prelude.{◌≡◌, ◌≤◌, ◌^◌, length};
 use std::marker::Model;
 
 /// The records of a snapshot with open gates, and a closed gate behind them. Contracts see it as the list of its payloads.
-#[derive(Debug, Drop)]
+#[derive(Drop)]
 pub struct Snapshot {
     bytes: Vec<u8>,
 }

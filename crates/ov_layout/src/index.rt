@@ -8,7 +8,7 @@ use crate::part::Part;
 use std::alloc::{AllocError, Global};
 
 /// A version, and the number of the partition that serves it.
-#[derive(Clone, Copy, Debug)]
+#[derive(Clone, Copy)]
 pub struct Entry {
     pub vid: u32,
     pub part: u32,

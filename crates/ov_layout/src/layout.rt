@@ -20,7 +20,7 @@ use std::mem;
 
 /// The partitions of a dataset, in the order of their numbers. Which partition a version is in is kept as a list
 /// that is searched by halves.
-#[derive(Debug, Drop)]
+#[derive(Drop)]
 pub struct Layout {
     alloc: Global,
     parts: Vec<Part>,

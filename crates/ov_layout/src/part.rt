@@ -3,7 +3,7 @@
 use crate::lists::{Extents, Vids};
 
 /// A partition.
-#[derive(Debug, Drop)]
+#[derive(Drop)]
 pub struct Part {
     /// Its number, from 1 on, which no other partition of the dataset ever has.
     pub id: u32,

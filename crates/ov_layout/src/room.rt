@@ -1,7 +1,7 @@
 //! Room for a change.
 
 /// For which change there is room.
-#[derive(Clone, Copy, Debug)]
+#[derive(Clone, Copy)]
 pub enum Room {
     /// For none.
     Nothing,

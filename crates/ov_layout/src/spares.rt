@@ -8,7 +8,7 @@ use ov_host::Extent;
 use std::alloc::{AllocError, Global};
 
 /// The lists of a partition, empty, with room.
-#[derive(Debug, Drop)]
+#[derive(Drop)]
 pub struct Spares {
     pub versions: Vec<u32>,
     pub holds: Vec<u32>,

@@ -6,7 +6,7 @@ ghost use Rattle.ov_lex.specs.declared.token.LexErr.TheVariants.{Memory};
 use std::alloc::{AllocError, AllocFailed};
 
 /// What a token is.
-#[derive(Clone, Copy, Debug, PartialEq, Eq)]
+#[derive(Clone, Copy, PartialEq, Eq)]
 pub enum TokenKind {
     /// A letter or an underscore, then letters, digits and underscores, all ASCII: a keyword or a name.
     Word,
@@ -21,7 +21,7 @@ pub enum TokenKind {
 }
 
 /// A token of a text: its kind, and its spelling, which is the text's bytes from `at` up to `end`, `end` left out.
-#[derive(Clone, Copy, Debug, PartialEq, Eq)]
+#[derive(Clone, Copy, PartialEq, Eq)]
 pub struct Token {
     pub kind: TokenKind,
     /// Its first byte, counted from 0.

@@ -1,7 +1,7 @@
 //! What a split gives.
 
 /// How a tree of versions is divided.
-#[derive(Debug, Drop)]
+#[derive(Drop)]
 pub struct Split {
     /// The parts, by their least vids; the vids of a part ascend.
     pub parts: Vec<Vec<u32>>,

@@ -11,7 +11,7 @@ use ov_member::Members;
 use std::alloc::{AllocError, Global};
 
 /// An old partition that a target empties: its number, and the rids of each of its segments.
-#[derive(Debug, Drop)]
+#[derive(Drop)]
 pub struct Candidate {
     pub part: u32,
     pub segments: Vec<Members>,
@@ -19,7 +19,7 @@ pub struct Candidate {
 
 /// What a target begins with: the partition that it takes segments from, which of those it keeps, counted from 0, and how many
 /// records are in them.
-#[derive(Debug, Drop)]
+#[derive(Drop)]
 pub struct Choice {
     pub part: u32,
     pub kept: Vec<u32>,

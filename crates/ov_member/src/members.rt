@@ -18,7 +18,7 @@ pub const LAST_RID: u32 = 2_147_483_648;
 
 /// A set of record ids. It is kept as its ranges of successive rids, so that its size, and the time of the calls
 /// that take one or two sets, go by the number of ranges. Contracts see it as the list of its rids, ascending.
-#[derive(Debug, Drop)]
+#[derive(Drop)]
 pub struct Members {
     edges: Vec<u32>,
 }

@@ -3,7 +3,7 @@
 use ov_core::Brought;
 
 /// A migration step that is ready.
-#[derive(Debug, Drop)]
+#[derive(Drop)]
 pub enum Step {
     /// The event of a copy, with its segment.
     Copy(Brought),

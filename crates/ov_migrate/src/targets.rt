@@ -18,7 +18,7 @@ use ov_read::{lists_of, rids_together};
 use std::alloc::{AllocError, Global};
 
 /// What a target lacks, with the rids of each of its versions.
-#[derive(Debug, Drop)]
+#[derive(Drop)]
 pub(crate) struct Lacking {
     pub lists: Vec<Members>,
     pub rids: Members,

@@ -53,7 +53,7 @@ pub enum Src {
 }
 
 /// Which relatives of a version.
-#[derive(Clone, Copy, Debug, PartialEq, Eq)]
+#[derive(Clone, Copy, PartialEq, Eq)]
 pub enum LineageKind {
     Parents,
     Ancestors,
@@ -61,7 +61,7 @@ pub enum LineageKind {
 }
 
 /// A column. No query spells `Left` or `Right`: they are of joins.
-#[derive(Debug, Drop)]
+#[derive(Drop)]
 pub enum Col {
     /// The number of the row's version.
     Vid,
@@ -71,7 +71,7 @@ pub enum Col {
 }
 
 /// A column, or an aggregate over a group.
-#[derive(Debug, Drop)]
+#[derive(Drop)]
 pub enum Term {
     Plain(Col),
     /// How many pairs of version and row there are.
@@ -84,7 +84,7 @@ pub enum Term {
 }
 
 /// A key of ORDER BY.
-#[derive(Debug, Drop)]
+#[derive(Drop)]
 pub struct Key {
     pub term: Term,
     /// Whether the greatest comes first.
@@ -92,7 +92,7 @@ pub struct Key {
 }
 
 /// A side of a comparison.
-#[derive(Debug, Drop)]
+#[derive(Drop)]
 pub enum Operand {
     Term(Term),
     /// A value that is not NULL.
@@ -100,7 +100,7 @@ pub enum Operand {
 }
 
 /// How the sides of a comparison are compared.
-#[derive(Clone, Copy, Debug, PartialEq, Eq)]
+#[derive(Clone, Copy, PartialEq, Eq)]
 pub enum Sign {
     Eq,
     Ne,
@@ -127,7 +127,7 @@ pub enum Cond {
 }
 
 /// A side of a join.
-#[derive(Debug, Drop)]
+#[derive(Drop)]
 pub struct Side {
     pub vid: u64,
     pub cvd: Txt,
@@ -147,7 +147,7 @@ pub struct JoinQuery {
 }
 
 /// A keyword or a sign.
-#[derive(Clone, Copy, Debug, PartialEq, Eq)]
+#[derive(Clone, Copy, PartialEq, Eq)]
 pub enum Fixed {
     Select,
     From,
@@ -197,7 +197,7 @@ pub enum Fixed {
 }
 
 /// What a token says.
-#[derive(Debug, Drop)]
+#[derive(Drop)]
 pub enum Symbol {
     /// A keyword, in any case of letters, or a sign. `!=` says the same as `<>`.
     Fixed(Fixed),

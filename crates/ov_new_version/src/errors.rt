@@ -9,7 +9,7 @@ use ov_version_bytes::WriteErr;
 use std::alloc::AllocError;
 
 /// Why a version isn't committed.
-#[derive(Clone, Copy, Debug, PartialEq, Eq)]
+#[derive(Clone, Copy, PartialEq, Eq)]
 pub enum CommitErr {
     /// There was no memory.
     Memory,

@@ -10,7 +10,7 @@ use ov_pages::PagesErr;
 use std::alloc::AllocError;
 
 /// Why a store was not opened. Only at `Host` and `Memory` anything was written: at most the header of a new journal.
-#[derive(Clone, Copy, Debug, PartialEq, Eq)]
+#[derive(Clone, Copy, PartialEq, Eq)]
 pub enum OpenErr {
     /// The host failed.
     Host,

@@ -10,7 +10,7 @@ use ov_journal::Payload;
 use std::alloc::{AllocError, Global};
 
 /// Why payloads give no catalog.
-#[derive(Clone, Copy, Debug, PartialEq, Eq)]
+#[derive(Clone, Copy, PartialEq, Eq)]
 pub enum ReplayErr {
     /// The payload at this place, counted from 0, spells no event, or one that can't follow those before it.
     Damaged { nth: usize },

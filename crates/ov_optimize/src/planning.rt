@@ -39,7 +39,7 @@ use ov_targets::{Partition, targets_of};
 use std::alloc::{AllocError, Global};
 
 /// A plan that may begin: the event that says it, and what is told of it.
-#[derive(Debug, Drop)]
+#[derive(Drop)]
 pub struct Planned {
     pub event: Event,
     pub report: Report,

@@ -12,7 +12,7 @@ use ov_graph::Tree;
 use ov_lyre::Split;
 
 /// What an optimize tells: what will stand when its plan is done, and how many steps lead there.
-#[derive(Clone, Copy, Debug, PartialEq, Eq)]
+#[derive(Clone, Copy, PartialEq, Eq)]
 pub struct Report {
     /// The greatest number of cuts that lead to a part of the split.
     pub depth: u32,

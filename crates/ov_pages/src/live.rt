@@ -12,7 +12,7 @@ use ov_host::{Extent, PAGES};
 use std::alloc::{AllocError, Global};
 
 /// A run of pages, up to `past`, which is left out.
-#[derive(Clone, Copy, Debug)]
+#[derive(Clone, Copy)]
 pub struct Run {
     pub first: u32,
     pub past: u32,

@@ -25,7 +25,7 @@ const PAGE_BYTES: u64 = ov_host::PAGE_BYTES as u64;
 /// and the time of each call go by the number of runs. Contracts see the reserved pages, ascending, and the
 /// room: how many extents can still be freed. Each extent that is reserved makes room to free one, so freeing
 /// takes no memory.
-#[derive(Debug, Drop)]
+#[derive(Drop)]
 pub struct Pages {
     edges: Vec<u32>,
     room: usize,

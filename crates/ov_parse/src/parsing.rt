@@ -14,7 +14,7 @@ use ov_model::Query;
 use std::alloc::{AllocError, Global};
 
 /// Why tokens give no query.
-#[derive(Debug, Drop)]
+#[derive(Drop)]
 pub enum ParseErr {
     /// No query spells them.
     NotAQuery,

@@ -5,7 +5,7 @@ ghost use Rattle.ov_parse.specs.declared.stop.Stop.TheVariants.{Memory};
 
 use std::alloc::{AllocError, AllocFailed};
 
-#[derive(Debug, Drop)]
+#[derive(Drop)]
 pub(crate) enum Stop {
     Memory,
     /// The symbols spell nothing of the kind.

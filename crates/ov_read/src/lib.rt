@@ -21,5 +21,4 @@ mod scans;
 pub use held::PartRids;
 pub use lists::lists_of;
 pub use partitions::rids_together;
-pub use scanning::scan_of;
-pub use scans::{VersionsRead, has_version, read_versions, scan_versions};
+pub use scans::{VersionsRead, read_versions, scan_versions};

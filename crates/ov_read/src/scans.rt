@@ -1,6 +1,6 @@
 // The rows of versions.
 
-ghost use Rattle.std.specs.Prelude.{◌≡◌, ◌↔◌, ◌≤◌, ◌+◌, ℕ, true, [], IsTrue, All, IfOk, IfErr, IsErrOf, MatchResult};
+ghost use Rattle.std.specs.Prelude.{◌≡◌, ◌≤◌, ◌+◌, ℕ, true, [], All, IfOk, IfErr, IsErrOf, MatchResult};
 ghost use Rattle.std.specs.List.{AllZip};
 ghost use Rattle.ov_host.specs.Host.{Rose};
 ghost use Rattle.ov_catalog.specs.Sets.{set_in};
@@ -99,15 +99,4 @@ pub fn read_versions<H: Host>(
         picks: Picks::new(picks),
     };
     Ok(VersionsRead { scan, held })
-}
-
-/// Whether a dataset has a version, in a partition: what is asked of each version that is scanned. It takes the
-/// logarithm of the number of versions and partitions.
-pub fn has_version(d: &Cvd, vid: u32) -> bool
-    ensures { IsTrue result ↔ (IsThere (set_in d.now) vid × (is_served (set_in d.now) vid ≡ true)) }
-{
-    if vid == 0 || vid as usize > d.versions.len() {
-        return false;
-    }
-    d.layout.part_of(vid).is_some()
 }

@@ -4,7 +4,7 @@ use crate::numbers::Numbers;
 use std::alloc::AllocError;
 
 /// The rids of a commit's rows, and what they say of its parents.
-#[derive(Debug, Drop)]
+#[derive(Drop)]
 pub struct Assigned {
     /// The rid of each row, in the order of the rows.
     pub rids: Numbers,
@@ -15,7 +15,7 @@ pub struct Assigned {
 }
 
 /// Why rows get no rids.
-#[derive(Debug, Clone, Copy, PartialEq, Eq)]
+#[derive(Clone, Copy, PartialEq, Eq)]
 pub enum AssignErr {
     /// A new record's rid would pass 2^31.
     TooManyRecords,

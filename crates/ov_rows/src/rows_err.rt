@@ -4,7 +4,7 @@ use std::alloc::{AllocError, AllocFailed};
 
 /// Why the rows of a file are not those of a version. Of those that hold the first in this order is answered. Rows are
 /// counted from 1, without the header.
-#[derive(Clone, Copy, Debug, PartialEq, Eq)]
+#[derive(Clone, Copy, PartialEq, Eq)]
 pub enum RowsErr {
     /// There are over 1,000,000 rows.
     TooManyRows,

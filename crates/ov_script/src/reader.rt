@@ -21,7 +21,7 @@ const SCRIPT_BYTES: u64 = 1 << 32;
 pub const KEPT: usize = LINE_BYTES + 1;
 
 // Why a line wasn't read.
-#[derive(Clone, Copy, Debug, PartialEq, Eq)]
+#[derive(Clone, Copy, PartialEq, Eq)]
 pub enum ReadErr {
     // The source failed.
     Input,

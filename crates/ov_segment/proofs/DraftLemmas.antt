@@ -163,6 +163,9 @@ whole_marked d values w e few =
     ∙ rw some refl in
     (sym some, λ i. front i ++ kept_bytes d values w i)
 
--- in front of the old bytes
-pub behind_all : (old first bytes : List ℕ) (n : ℕ) → ((old ++ n ∷ []) ++ first) ++ bytes ≡ old ++ (n ∷ (first ++ bytes))
-behind_all old first bytes n = append_assoc (old ++ n ∷ []) first bytes ∙ append_assoc old (n ∷ []) (first ++ bytes)
+-- behind the old bytes
+pub behind_one : (old rest : List ℕ) (n : ℕ) → (old ++ n ∷ []) ++ rest ≡ old ++ (n ∷ rest)
+behind_one old rest n = append_assoc old (n ∷ []) rest
+
+pub behind_front : (old front rest : List ℕ) (n : ℕ) → (old ++ n ∷ front) ++ rest ≡ old ++ (n ∷ (front ++ rest))
+behind_front old front rest n = append_assoc old (n ∷ front) rest

@@ -5,7 +5,6 @@ pub mod WrittenLemmas
 pub mod TableLemmas
 pub mod SortLemmas
 pub mod SameLemmas
-pub mod SeekLemmas
 pub mod RowLemmas
 pub mod MovedLemmas
 pub mod DraftLemmas

@@ -5,5 +5,4 @@ pub mod Reading
 pub mod Runs
 pub mod Fronts
 pub mod Keeping
-pub mod Seeking
 pub mod Drafts

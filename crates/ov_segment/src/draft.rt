@@ -1,6 +1,7 @@
 //! A row in the making.
 
-ghost use Rattle.std.specs.Prelude.{◌≡◌, ◌≢◌, ◌<◌, ◌≤◌, ◌++◌, ◌∷◌, [], false, List, IfOk, OnOk, IsTrue, ◌↔◌, length, min, take};
+ghost use Rattle.std.specs.Prelude.{◌≡◌, ◌≢◌, ◌<◌, ◌≤◌, ◌+◌, ◌/◌, ◌++◌, ◌∷◌, [], false, List, IfOk, OnOk, IsTrue, ◌↔◌, length, min, take};
+ghost use Rattle.std.specs.Int.{w64, to_le_bytes};
 ghost use Rattle.std.specs.List.{list_any};
 ghost use Rattle.ov_value.specs.declared.value.Value.{Value as RowValue};
 ghost use Rattle.ov_value.specs.Cells.{value_of};
@@ -15,7 +16,7 @@ use std::marker::Model;
 /// A row in the making: its values come from the left, one after another, and `clear` begins another row in the same
 /// memory. Beside the values' bytes it keeps which of them are NULL, so that a table takes the row as it is. Of a row with
 /// more than 65,536 bytes only their number is kept.
-#[derive(Debug, Drop)]
+#[derive(Drop)]
 pub struct RowDraft {
     bytes: Vec<u8>,
     // The number of bytes of the values.
@@ -117,8 +118,7 @@ impl RowDraft {
             bytes.extend_from_slice(&self.bytes)?;
             return Ok(false);
         }
-        bytes.push(self.width as u8)?;
-        bytes.extend_from_slice(&self.marks.to_le_bytes()[..(self.width + 7) / 8])?;
+        push_marks(bytes, self.width, self.marks)?;
         bytes.extend_from_slice(&self.bytes)?;
         Ok(true)
     }
@@ -178,4 +178,15 @@ impl RowDraft {
         self.bytes.extend_from_slice(rest)?;
         Ok(())
     }
+}
+
+// Appends the number of a row's values and their marks.
+fn push_marks(bytes: &mut Vec<u8>, width: usize, marks: u64) -> Result<(), AllocError>
+    requires { width ≤ 64 }
+    ensures bytes { OnOk result (bytes.new.items ≡ bytes.old.items ++ width ∷ take ((width + 7) / 8) (to_le_bytes w64 marks)) }
+    ensures front { take (length bytes.old.items) bytes.new.items ≡ bytes.old.items }
+{
+    bytes.push(width as u8)?;
+    bytes.extend_from_slice(&marks.to_le_bytes()[..(width + 7) / 8])?;
+    Ok(())
 }

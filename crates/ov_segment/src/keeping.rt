@@ -11,7 +11,7 @@ use ov_value::{Schema, spells_row};
 use std::alloc::AllocError;
 
 /// What a reader passed: a record with this rid, whether it was wanted or not, or why there is none.
-#[derive(Clone, Copy, Debug, PartialEq, Eq)]
+#[derive(Clone, Copy, PartialEq, Eq)]
 pub enum Kept {
     /// The next record, whose rid this is.
     Record(u32),

@@ -22,7 +22,6 @@ mod record_table;
 mod records;
 mod row_ref;
 mod row_table;
-mod seeking;
 mod table;
 mod writing;
 
@@ -37,6 +36,5 @@ pub use record_table::RecordTable;
 pub use records::Records;
 pub use row_ref::RowRef;
 pub use row_table::RowTable;
-pub use seeking::Sought;
 pub use table::Table;
 pub use writing::{append_record, segment_bytes};

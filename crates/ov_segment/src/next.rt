@@ -3,7 +3,7 @@
 use crate::numbered::Record;
 
 /// What a reader of a segment answers when it is asked for the next record.
-#[derive(Debug, Drop)]
+#[derive(Drop)]
 pub enum Next {
     /// The next record.
     Record(Record),

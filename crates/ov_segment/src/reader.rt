@@ -3,12 +3,10 @@
 ghost use Rattle.std.specs.Prelude.{◌≡◌, ◌-◌, ◌+◌, ◌++◌, ◌≤◌, if◌then◌else◌, IfOk, OnErr, length, min, take, drop, vec_len, vec_capacity};
 ghost use Rattle.ov_segment.specs.Reading.{fresh, after_feed, Answers};
 ghost use Rattle.ov_segment.specs.Keeping.{Keeps};
-ghost use Rattle.ov_segment.specs.Seeking.{Seeks};
 
-use crate::at::{record_at, rid_of};
+use crate::at::record_at;
 use crate::keeping::{Front, Kept, front_at, put};
 use crate::next::Next;
-use crate::seeking::Sought;
 use crate::table::Table;
 use ov_member::Ahead;
 use ov_value::Schema;
@@ -133,56 +131,6 @@ impl SegmentReader {
                 self.last = rid;
                 self.start += 8 + len;
                 Ok(Kept::Record(rid))
-            }
-        }
-    }
-
-    /// The next record where `ahead` says that its rid is wanted, and else its rid alone; `ahead` then is what is ahead
-    /// from this rid on. Only a wanted record takes memory. After want of memory the reader is as before.
-    pub fn next_of(&mut self, schema: &Schema, ahead: &mut Ahead<'_>) -> Result<Sought, AllocError>
-        ensures found { IfOk result (λ found. Seeks schema.now self.old (record { inside = ahead.old.inside; edges = ahead.old.edges })
-            found self.new (record { inside = ahead.new.inside; edges = ahead.new.edges })) }
-        ensures err { OnErr result (self.new ≡ self.old) }
-    {
-        if self.over {
-            return Ok(Sought::Bad);
-        }
-        let held = &self.buffer[self.start..];
-        if held.len() < 8 {
-            return Ok(Sought::More);
-        }
-        let next = ahead.at(rid_of(held));
-        if next.is_inside() {
-            let alloc = *self.buffer.allocator();
-            let (found, taken) = record_at(alloc, schema, self.last, held)?;
-            match found {
-                Next::Record(one) => {
-                    *ahead = next;
-                    let rid = one.rid;
-                    self.last = rid;
-                    self.start += taken;
-                    Ok(Sought::Wanted(one))
-                }
-                Next::More => Ok(Sought::More),
-                Next::Bad => {
-                    self.over = true;
-                    Ok(Sought::Bad)
-                }
-            }
-        } else {
-            match front_at(schema, self.last, held) {
-                Front::Record(rid, _, row) => {
-                    let len = row.len();
-                    *ahead = next;
-                    self.last = rid;
-                    self.start += 8 + len;
-                    Ok(Sought::Other(rid))
-                }
-                Front::More => Ok(Sought::More),
-                Front::Bad => {
-                    self.over = true;
-                    Ok(Sought::Bad)
-                }
             }
         }
     }

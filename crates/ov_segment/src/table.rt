@@ -20,7 +20,7 @@ use std::marker::Model;
 
 /// Records of one schema, whose rows stay bytes in one buffer. Contracts see the schema's columns and the list of the
 /// records. Rows are read from the bytes where one is looked at, and no row has memory of its own.
-#[derive(Debug, Drop)]
+#[derive(Drop)]
 pub struct Table {
     columns: Vec<Column>,
     bytes: Vec<u8>,

@@ -11,7 +11,7 @@ use ov_value::Txt;
 use std::alloc::AllocError;
 
 /// Why a line ends the run.
-#[derive(Clone, Copy, Debug, PartialEq, Eq)]
+#[derive(Clone, Copy, PartialEq, Eq)]
 pub enum EndErr {
     /// The host failed.
     Host,

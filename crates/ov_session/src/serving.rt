@@ -41,7 +41,7 @@ use ov_value::Txt;
 use std::alloc::Global;
 
 /// What came of a line.
-#[derive(Clone, Copy, Debug, PartialEq, Eq)]
+#[derive(Clone, Copy, PartialEq, Eq)]
 pub enum Served {
     /// It is a comment, and has no reply.
     Comment,

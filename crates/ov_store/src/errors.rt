@@ -11,7 +11,7 @@ use ov_rows::RowsErr;
 use std::alloc::{AllocError, AllocFailed};
 
 /// Why a store's call wasn't done. After each of these but `Host` the store is as it was.
-#[derive(Clone, Copy, Debug, PartialEq, Eq)]
+#[derive(Clone, Copy, PartialEq, Eq)]
 pub enum StoreErr {
     /// The host failed. After a call that writes the store isn't usable, and is opened again.
     Host,

@@ -8,7 +8,7 @@ use ov_fetch::FetchErr;
 use ov_host::Area;
 
 /// Why no migration step was taken. After each of these but `Host` the store is as it was.
-#[derive(Clone, Copy, Debug, PartialEq, Eq)]
+#[derive(Clone, Copy, PartialEq, Eq)]
 pub enum StepErr {
     /// The host failed. The store isn't usable, and is opened again.
     Host,

@@ -37,7 +37,7 @@ use ov_host::Host;
 use ov_migrate::{Step, next_step};
 
 /// What a migration step did.
-#[derive(Clone, Copy, Debug, PartialEq, Eq)]
+#[derive(Clone, Copy, PartialEq, Eq)]
 pub enum Stepped {
     /// No plan runs, and nothing was done.
     Nothing,

@@ -51,7 +51,7 @@ use std::alloc::Global;
 use std::marker::Model;
 
 /// A version that was made.
-#[derive(Clone, Copy, Debug, PartialEq, Eq)]
+#[derive(Clone, Copy, PartialEq, Eq)]
 pub struct Committed {
     /// Its number.
     pub vid: u32,
@@ -63,7 +63,7 @@ pub struct Committed {
 
 /// A team's datasets, in the page file and the journal of a host. Contracts see what the store keeps of them, and whether it
 /// can be used: after a fault of the host in a call that writes it can't, and is opened again.
-#[derive(Debug, Drop)]
+#[derive(Drop)]
 pub struct Store {
     pub(crate) alloc: Global,
     pub(crate) core: Core,

@@ -12,7 +12,7 @@ use ov_rows::RowsErr;
 use ov_version_bytes::WriteErr;
 
 /// Why a version has no event, list and segment.
-#[derive(Clone, Copy, Debug, PartialEq, Eq)]
+#[derive(Clone, Copy, PartialEq, Eq)]
 pub(crate) enum Unready {
     /// It is refused, or memory is wanting.
     Off(StoreErr),

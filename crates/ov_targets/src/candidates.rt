@@ -10,7 +10,7 @@ use ov_member::Members;
 use std::alloc::{AllocError, Global};
 
 /// A partition that is there: its number, its versions, and the rids of each of its segments.
-#[derive(Debug, Drop)]
+#[derive(Drop)]
 pub struct Partition {
     pub id: u32,
     pub versions: Vec<u32>,

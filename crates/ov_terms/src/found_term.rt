@@ -8,7 +8,7 @@ use ov_model::Term;
 use ov_value::Schema;
 
 /// A term of a query, with where its column is found.
-#[derive(Clone, Copy, Debug, PartialEq, Eq)]
+#[derive(Clone, Copy, PartialEq, Eq)]
 pub enum FoundTerm {
     Plain(Lookup),
     CountAll,

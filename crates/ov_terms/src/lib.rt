@@ -25,7 +25,7 @@ pub use found_cond::{FoundCond, find_cond, find_guard, found_by_cases};
 pub use found_items::FoundItems;
 pub use found_operand::FoundOperand;
 pub use found_term::FoundTerm;
-pub use lineages::{free_by_cases, is_free, is_guard_free};
+pub use lineages::free_by_cases;
 pub use lookup::Lookup;
 pub use order::cmp_seen;
 pub use seen::Seen;

@@ -9,7 +9,7 @@ use ov_model::Col;
 use ov_value::{Column, Schema, Txt};
 
 /// Where the value of a column is found in a pair of a version and one of its rows.
-#[derive(Clone, Copy, Debug, PartialEq, Eq)]
+#[derive(Clone, Copy, PartialEq, Eq)]
 pub enum Lookup {
     /// It is the version's number.
     Vid,

@@ -9,7 +9,7 @@ use ov_session::EndErr;
 use std::alloc::AllocError;
 
 // Why the lines of a script weren't all served.
-#[derive(Clone, Copy, Debug, PartialEq, Eq)]
+#[derive(Clone, Copy, PartialEq, Eq)]
 pub enum RunErr {
     // The host failed.
     Host,

@@ -7,7 +7,7 @@ use ov_value::{Kind, Txt};
 use std::alloc::{AllocError, AllocFailed};
 
 /// Why a query doesn't fit a schema. Names are those of columns; a version's number is named `vid`.
-#[derive(Debug, Drop)]
+#[derive(Drop)]
 pub enum TypeErr {
     /// No column has this name.
     UnknownColumn { name: Txt },

@@ -13,7 +13,7 @@ use ov_model::Command;
 use ov_value::Txt;
 
 /// A command is denied by this rule, the least one that denies it. Rules are counted from 1.
-#[derive(Clone, Copy, Debug, PartialEq, Eq)]
+#[derive(Clone, Copy, PartialEq, Eq)]
 pub struct Denied {
     pub rule: u32,
 }

@@ -7,7 +7,7 @@ ghost use Rattle.ov_value.specs.Cells.{value_of};
 use std::cmp::Ordering;
 
 /// A value of a row, where it lies in the row's bytes. `value_of` says which value it is.
-#[derive(Debug, Clone, Copy)]
+#[derive(Clone, Copy)]
 pub enum CellRef<'a> {
     Int(i64),
     Text(&'a str),

@@ -8,7 +8,7 @@ use crate::value::Value;
 use std::alloc::{AllocError, Global};
 
 /// The kind of a column's values. NULL may stand in a column of any kind.
-#[derive(Debug, Clone, Copy, PartialEq, Eq)]
+#[derive(Clone, Copy, PartialEq, Eq)]
 pub enum Kind {
     Int,
     Text,
@@ -16,7 +16,7 @@ pub enum Kind {
 }
 
 /// A column: its name and its kind.
-#[derive(Debug, Drop)]
+#[derive(Drop)]
 pub struct Column {
     pub name: Txt,
     pub kind: Kind,

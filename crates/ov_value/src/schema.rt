@@ -19,7 +19,7 @@ use std::marker::Model;
 
 /// The columns of a dataset, 1 to 64 with names that differ, and the positions of its key columns, at least
 /// one and each once.
-#[derive(Debug, Drop)]
+#[derive(Drop)]
 pub struct Schema {
     columns: Vec<Column>,
     key: Vec<u8>,

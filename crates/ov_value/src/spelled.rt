@@ -7,7 +7,7 @@ pub type Bytes = Items<u8>;
 
 /// A row's bytes, and whether they begin with marks that say which values are NULL. The bytes do not say it
 /// themselves.
-#[derive(Debug, Drop)]
+#[derive(Drop)]
 pub struct RowBytes {
     pub marked: bool,
     pub bytes: Bytes,

@@ -15,7 +15,7 @@ use std::cmp::Ordering;
 ///
 /// Ints are ordered by number, texts by their bytes, false comes before true. Values of unlike kinds, which
 /// never stand in one column, are ordered as they are listed here.
-#[derive(Debug, Drop)]
+#[derive(Drop)]
 pub enum Value {
     Int(i64),
     Text(Txt),

@@ -15,5 +15,4 @@ mod write_err;
 pub use first::first_version;
 pub use laws::records_are_given;
 pub use next::{Next, next_version};
-pub use runs::are_given;
 pub use write_err::WriteErr;

@@ -1,6 +1,6 @@
 //! The list and the segment of a version.
 
-ghost use Rattle.std.specs.Prelude.{◌≡◌, ◌↔◌, ◌<◌, ◌≤◌, ◌^◌, length, map, min, IsTrue, IfOk, IfErr};
+ghost use Rattle.std.specs.Prelude.{◌≡◌, ◌<◌, ◌≤◌, ◌^◌, length, map, min, IfOk, IfErr};
 ghost use Rattle.std.specs.List.{All};
 ghost use Rattle.std.specs.List.Sorted.{IsNonDecreasingBy};
 ghost use Rattle.ov_value.specs.Shapes.{Shape};
@@ -14,7 +14,7 @@ ghost use Rattle.ov_core.specs.Rooms.{pages_for};
 ghost use Rattle.ov_version_bytes.specs.Positions.{left_of, record_at, records_at};
 ghost use Rattle.ov_version_bytes.specs.Written.{AreGiven, IsWhy, list_written, segment_written, not_held, numbered};
 
-use crate::order::{Listed, by_rid, rids_of, sort_rids};
+use crate::order::{Listed, by_rid, rids_of};
 use crate::write_err::WriteErr;
 use ov_host::Extent;
 use ov_member::Members;
@@ -67,18 +67,6 @@ pub(crate) fn runs_of(
         segment,
         added,
     })
-}
-
-/// Whether these can be the rids of the rows: as many as there are rows, from 1 to 2^31, and none twice.
-pub fn are_given(alloc: Global, rids: &[u32], rows: &RowTable) -> Result<bool, AllocError>
-    ensures { IfOk result (λ given. IsTrue given ↔ AreGiven rids.now rows.now) }
-{
-    let mut ordered = Vec::from_slice(alloc, rids)?;
-    sort_rids(&mut ordered)?;
-    match Members::of(alloc, ordered.as_slice())? {
-        Some(_) => Ok(rids.len() == rows.len()),
-        None => Ok(false),
-    }
 }
 
 // The bytes of the list of these records.

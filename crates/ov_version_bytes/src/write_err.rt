@@ -3,7 +3,7 @@
 use std::alloc::AllocError;
 
 /// Why a version's list and segment aren't written.
-#[derive(Debug, Clone, Copy, PartialEq, Eq)]
+#[derive(Clone, Copy, PartialEq, Eq)]
 pub enum WriteErr {
     /// There was no memory.
     Memory,
