@@ -17,11 +17,16 @@ MOST = 1 << 28
 # ---- runs
 
 
+def started(program, words, lines):
+    """Gives the exit of a script by a program that is started with these words, what it prints, and what it says on standard error."""
+    script = "".join(f"{line}\n" for line in lines).encode()
+    done = subprocess.run([program, *words], input=script, capture_output=True, check=False)
+    return done.returncode, done.stdout.decode().rstrip("\n"), done.stderr.decode().rstrip("\n")
+
+
 def ran(program, lines, *words):
     """Gives the exit of a script over the folder `store`, what it prints, and what it says on standard error."""
-    script = "".join(f"{line}\n" for line in lines).encode()
-    done = subprocess.run([program, "store", *words], input=script, capture_output=True, check=False)
-    return done.returncode, done.stdout.decode().rstrip("\n"), done.stderr.decode().rstrip("\n")
+    return started(program, ["store", *words], lines)
 
 
 def told(program, lines, *words):

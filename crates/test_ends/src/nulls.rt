@@ -10,22 +10,22 @@ const COVERED: [(u32, u32); 5] = [(0, 0), (1, 1), (4096, 1), (4097, 2), (u32::MA
 fn an_extent_covers_whole_pages(rt: HostRuntime) {
     for (bytes, pages) in COVERED {
         let extent = Extent { page: 3, bytes };
-        assert_eq!(rt; extent.pages(), pages);
+        assert!(rt; extent.pages() == pages);
     }
 }
 
 #[test]
 fn an_end_that_tells_nothing_answers(rt: HostRuntime) -> Result<(), Fail> {
     let mut host = NullHost::new(false);
-    assert_eq!(rt; host.len(Area::Pages)?, 0);
+    assert!(rt; host.len(Area::Pages)? == 0);
     host.write(Area::Journal, 5, b"gone")?;
     host.sync(Area::Journal)?;
     host.print(b"gone")?;
-    assert_eq!(rt; host.read(Area::Journal, 0, &mut [1, 2])?, 0);
-    assert_eq!(rt; NullSource::new(false).read(&mut [1, 2])?, 0);
+    assert!(rt; host.read(Area::Journal, 0, &mut [1, 2])? == 0);
+    assert!(rt; NullSource::new(false).read(&mut [1, 2])? == 0);
     let mut stage = NullStage::new(false);
-    assert_eq!(rt; stage.find("a.csv")?, Found::Yes);
-    assert_eq!(rt; stage.read(&mut [1, 2])?, 0);
+    assert!(rt; stage.find("a.csv")? == Found::Yes);
+    assert!(rt; stage.read(&mut [1, 2])? == 0);
     stage.create("b.csv")?;
     stage.write(b"gone")?;
     stage.finish()?;
@@ -35,8 +35,8 @@ fn an_end_that_tells_nothing_answers(rt: HostRuntime) -> Result<(), Fail> {
 #[test]
 fn an_end_that_fails_fails(rt: HostRuntime) {
     let mut host = NullHost::new(true);
-    assert_eq!(rt; host.len(Area::Pages), Err(Failed));
-    assert_eq!(rt; host.write(Area::Pages, 0, b"x"), Err(Failed));
-    assert_eq!(rt; NullSource::new(true).read(&mut [1, 2]), Err(Failed));
-    assert_eq!(rt; NullStage::new(true).find("a.csv"), Err(Failed));
+    assert!(rt; host.len(Area::Pages).is_err());
+    assert!(rt; host.write(Area::Pages, 0, b"x").is_err());
+    assert!(rt; NullSource::new(true).read(&mut [1, 2]).is_err());
+    assert!(rt; NullStage::new(true).find("a.csv").is_err());
 }

@@ -45,76 +45,71 @@ fn give(pages: &mut Pages, live: &mut Vec<Extent>, i: usize) -> Extent
     extent
 }
 
+// Extents, of a page and so many bytes each.
+fn extents(alloc: Global, places: &[(u32, u32)]) -> Result<Vec<Extent>, AllocError> {
+    let mut live = Vec::new(alloc);
+    for (page, bytes) in places {
+        live.push(extent(*page, *bytes))?;
+    }
+    Ok(live)
+}
+
+const FULL: [(u32, u32); 4] = [
+    (0, 4_294_967_295),
+    (1_048_576, 4_294_967_295),
+    (2_097_152, 4_294_967_295),
+    (3_145_728, 4_294_967_295),
+];
+
 #[test]
 fn a_full_page_file(rt: HostRuntime) -> Result<(), Fail> {
-    let mut live = Vec::new(rt.alloc());
-    for page in [0, 1_048_576, 2_097_152, 3_145_728] {
-        live.push(extent(page, 4_294_967_295))?;
-    }
+    let mut live = extents(rt.alloc(), &FULL)?;
     let mut pages = Pages::of(rt.alloc(), &live).ok().ok_or("pages")?;
-    assert_eq!(rt; pages.highest(), 4_194_304);
-    assert_eq!(rt; live.len(), 4);
-    assert_eq!(rt; give(&mut pages, &mut live, 1).page, 1_048_576);
-    assert_eq!(rt; pages.reserve(1), Ok(1_048_576));
-    assert_eq!(rt; pages.reserve(1_048_575), Ok(1_048_577));
-    assert_eq!(rt; pages.reserve(1), Err(PageErr::Full));
+    assert!(rt; pages.highest() == 4_194_304);
+    assert!(rt; live.len() == 4);
+    assert!(rt; give(&mut pages, &mut live, 1).page == 1_048_576);
+    assert!(rt; pages.reserve(1) == Ok(1_048_576));
+    assert!(rt; pages.reserve(1_048_575) == Ok(1_048_577));
+    assert!(rt; pages.reserve(1) == Err(PageErr::Full));
     Ok(())
 }
 
+// Which pages two extents have in common is told by `scripts/damage`. One past the greatest page comes before these.
+const REFUSED: [(&[(u32, u32)], u32); 2] = [
+    (
+        &[(9, 1), (9, 1), (4_194_303, 4097), (4_194_304, 1)],
+        4_194_303,
+    ),
+    (&[(4_294_967_295, 4_294_967_295)], 4_294_967_295),
+];
+
 #[test]
-fn refused(rt: HostRuntime) -> Result<(), Fail> {
-    let cases: [(&[Extent], Option<PagesErr>); 8] = [
-        (&[], None),
-        (&[extent(0, 0), extent(0, 1), extent(0, 0)], None),
-        (&[extent(3, 4096), extent(1, 8192), extent(4, 1)], None),
-        (
-            &[extent(5, 8193), extent(7, 1)],
-            Some(PagesErr::Overlap { page: 7 }),
-        ),
-        (
-            &[extent(7, 1), extent(5, 8193), extent(2, 4097), extent(3, 1)],
-            Some(PagesErr::Overlap { page: 3 }),
-        ),
-        (
-            &[extent(9, 4096), extent(9, 4096), extent(9, 4096)],
-            Some(PagesErr::Overlap { page: 9 }),
-        ),
-        (
-            &[
-                extent(9, 1),
-                extent(9, 1),
-                extent(4_194_303, 4097),
-                extent(4_194_304, 1),
-            ],
-            Some(PagesErr::TooHigh { page: 4_194_303 }),
-        ),
-        (
-            &[extent(4_294_967_295, 4_294_967_295)],
-            Some(PagesErr::TooHigh {
-                page: 4_294_967_295,
-            }),
-        ),
-    ];
-    for (live, refusal) in cases {
-        assert_eq!(rt; Pages::of(rt.alloc(), live).err(), refusal, "{live:?}");
+fn an_extent_may_be_too_high(rt: HostRuntime) -> Result<(), Fail> {
+    for (places, page) in REFUSED {
+        let live = extents(rt.alloc(), places)?;
+        assert!(rt; Pages::of(rt.alloc(), &live).err() == Some(PagesErr::TooHigh { page }));
     }
     Ok(())
 }
+
+const THREE: [(u32, u32); 3] = [(2, 4096), (5, 4096), (6, 8192)];
+
+// Numbers of pages, and the first page of the lowest run beside these.
+const RUNS: [(u32, u32); 4] = [(1, 0), (2, 0), (3, 8), (1_048_575, 8)];
 
 #[test]
 fn the_lowest_run(rt: HostRuntime) -> Result<(), Fail> {
-    let live = [extent(2, 4096), extent(5, 4096), extent(6, 8192)];
-    let cases = [(1, 0), (2, 0), (3, 8), (1_048_575, 8)];
-    for (n, first) in cases {
+    let live = extents(rt.alloc(), &THREE)?;
+    for (n, first) in RUNS {
         let mut pages = Pages::of(rt.alloc(), &live).ok().ok_or("pages")?;
-        assert_eq!(rt; pages.reserve(n), Ok(first), "{n}");
+        assert!(rt; 1 <= n && pages.reserve(n) == Ok(first));
     }
     let mut pages = Pages::of(rt.alloc(), &live).ok().ok_or("pages")?;
-    assert_eq!(rt; pages.reserve(1_048_576), Err(PageErr::Full));
+    assert!(rt; pages.reserve(1_048_576) == Err(PageErr::Full));
     for first in [0, 1, 3, 4, 8, 9] {
-        assert_eq!(rt; pages.reserve(1), Ok(first));
+        assert!(rt; pages.reserve(1) == Ok(first));
     }
-    assert_eq!(rt; pages.highest(), 10);
+    assert!(rt; pages.highest() == 10);
     Ok(())
 }
 
@@ -164,7 +159,7 @@ fn scripts(rt: HostRuntime) -> Result<(), Fail> {
         if live.is_empty() || at % 7 < 4 {
             let n = (pick >> 20) % 9 + 1;
             let first = lowest(&held, n);
-            assert_eq!(rt; take(&mut pages, &mut live, n)?, Some(first));
+            assert!(rt; take(&mut pages, &mut live, n)? == Some(first));
             mark(&mut held, first, n, true);
         } else {
             let i = at % live.len();
@@ -176,7 +171,7 @@ fn scripts(rt: HostRuntime) -> Result<(), Fail> {
         .iter()
         .rposition(|page| *page)
         .map_or(0, |page| page + 1);
-    assert_eq!(rt; pages.highest() as usize, last);
+    assert!(rt; pages.highest() as usize == last);
     Ok(())
 }
 
@@ -188,10 +183,10 @@ fn many_extents(rt: HostRuntime) -> Result<(), Fail> {
         live.push(extent(i.wrapping_mul(7_919) % 100_000 * 2, 1))?;
     }
     let mut pages = Pages::of(rt.alloc(), &live).ok().ok_or("pages")?;
-    assert_eq!(rt; pages.highest(), 199_999);
+    assert!(rt; pages.highest() == 199_999);
     for first in [1, 3, 5] {
-        assert_eq!(rt; pages.reserve(1), Ok(first));
+        assert!(rt; pages.reserve(1) == Ok(first));
     }
-    assert_eq!(rt; pages.reserve(2), Ok(199_999));
+    assert!(rt; pages.reserve(2) == Ok(199_999));
     Ok(())
 }

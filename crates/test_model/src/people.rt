@@ -56,7 +56,12 @@ pub fn rows(alloc: Global, schema: &Schema, file: &[u8]) -> Result<Seq<Row>, Fai
 fn version(alloc: Global, schema: &Schema, parents: &[u32], file: &[u8]) -> Result<Version, Fail> {
     let rows = rows(alloc, schema, file)?;
     let parents = Seq::from_slice(alloc, parents)?;
-    Ok(Version::new(parents, Txt::new(alloc, "more")?, rows))
+    let message = Txt::new(alloc, "more")?;
+    Ok(Version {
+        parents,
+        message,
+        rows,
+    })
 }
 
 /// The versions.

@@ -13,7 +13,13 @@ use std::test::*;
 fn people(alloc: Global) -> Result<Cvd, Fail> {
     let schema = schema(alloc)?;
     let versions = versions(alloc, &schema)?;
-    Ok(Cvd::new(1, Txt::new(alloc, "people")?, schema, versions))
+    let name = Txt::new(alloc, "people")?;
+    Ok(Cvd {
+        number: 1,
+        name,
+        schema,
+        versions,
+    })
 }
 
 /// The query of a text.
@@ -69,7 +75,7 @@ fn word_of(kind: &Kind) -> &'static str {
 
 /// The kinds, and the rows of the answer behind them.
 fn answered(alloc: Global, cvd: &Cvd, query: &Query, found: &[Kind]) -> Result<String, Fail> {
-    if cvd.versions().len() > 65_535 {
+    if cvd.versions.len() > 65_535 {
         return Err("too many versions")?;
     }
     let rows = answer(alloc, query, cvd)?;
@@ -94,7 +100,7 @@ fn refused(refusal: &Refusal) -> &'static str {
 
 fn shown(alloc: Global, cvd: &Cvd, text: &str) -> Result<String, Fail> {
     let query = query_of(alloc, text)?;
-    match kinds(alloc, &query, cvd.schema()) {
+    match kinds(alloc, &query, &cvd.schema) {
         Ok(found) => answered(alloc, cvd, &query, found.as_slice()),
         Err(KindsErr::Refused(refusal)) => {
             let mut said = String::new(alloc);

@@ -65,7 +65,7 @@ fn shared(
 fn edges(alloc: Global, versions: &[Version], at: usize) -> Result<Seq<(u32, u32)>, Fail> {
     let each = each(alloc, versions)?;
     match versions.get(at) {
-        Some(version) => shared(alloc, each.as_slice(), at, version.parents()),
+        Some(version) => shared(alloc, each.as_slice(), at, version.parents.as_slice()),
         None => Err("no such version")?,
     }
 }

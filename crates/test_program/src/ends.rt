@@ -1,5 +1,4 @@
-//! Ends in memory, and runs over them, as the tests of runs and of files make them.
-use crate::scripts::{FILES, File};
+//! Ends in memory with their files, and runs over them.
 use ov_memhost::{MemHost, MemSource, MemStage};
 use ov_top::{Status, run};
 use ov_value::Txt;
@@ -8,42 +7,65 @@ use std::alloc::{AllocError, Global};
 /// A number that no call has.
 pub const NEVER: u64 = u64::MAX;
 
-/// A list of this number.
-pub fn only(alloc: Global, number: u64) -> Result<Vec<u64>, AllocError> {
-    Vec::from_slice(alloc, &[number])
-}
+/// The bytes of `a.csv`.
+pub const PEOPLE: &[u8] = b"id,name,score\n1,ann,10\n2,bob,20\n";
 
-/// The files of the scripts.
+const FILES: [(&str, &[u8]); 4] = [
+    ("a.csv", PEOPLE),
+    ("b.csv", b"id,name,score\n1,ann,10\n2,bob,25\n3,cy,30\n"),
+    ("h.csv", b"id,name,score\n"),
+    // The rows of version 1 and a new one.
+    ("m.csv", b"id,name,score\n1,ann,10\n2,bob,20\n3,cy,30\n"),
+];
+
+/// The files of all scripts.
 pub fn files(alloc: Global) -> Result<Vec<(String, Vec<u8>)>, AllocError> {
-    files_of(alloc, &FILES)
-}
-
-/// These files.
-pub fn files_of(alloc: Global, list: &[File]) -> Result<Vec<(String, Vec<u8>)>, AllocError> {
     let mut all = Vec::new(alloc);
-    for (name, bytes) in list {
-        let name = String::from_str(alloc, *name)?;
-        all.push((name, Vec::from_slice(alloc, *bytes)?))?;
+    for (name, bytes) in FILES {
+        let name = String::from_str(alloc, name)?;
+        all.push((name, Vec::from_slice(alloc, bytes)?))?;
     }
     Ok(all)
 }
 
-fn words_of(alloc: Global, list: &[&str]) -> Result<Vec<Txt>, AllocError> {
+/// Empty areas, of which the call of this number fails.
+pub fn host_of(alloc: Global, fails: u64) -> Result<MemHost, AllocError> {
+    let fails = Vec::from_slice(alloc, &[fails])?;
+    Ok(MemHost::new(alloc, Vec::new(alloc), Vec::new(alloc), fails))
+}
+
+/// A stage of all files, of which the call of this number fails.
+pub fn stage_of(alloc: Global, fails: u64) -> Result<MemStage, AllocError> {
+    let fails = Vec::from_slice(alloc, &[fails])?;
+    Ok(MemStage::new(alloc, files(alloc)?, fails))
+}
+
+fn source_of(alloc: Global, script: &[u8], fails: u64) -> Result<MemSource, AllocError> {
+    let fails = Vec::from_slice(alloc, &[fails])?;
+    Ok(MemSource::new(alloc, Vec::from_slice(alloc, script)?, fails))
+}
+
+// The words of a run, with a step behind each reply or none.
+fn words(alloc: Global, steps: bool) -> Result<Vec<Txt>, AllocError> {
     let mut words = Vec::new(alloc);
-    for word in list {
-        words.push(Txt::new(alloc, word)?)?;
+    words.push(Txt::new(alloc, "s")?)?;
+    if steps {
+        words.push(Txt::new(alloc, "--steps=1")?)?;
     }
     Ok(words)
 }
 
-/// A run with these words over a host, a source and a stage.
-pub fn run_words(
+/// Runs a script over a host, with the calls of these numbers of its source and of its stage failing.
+pub fn run_on(
     alloc: Global,
-    list: &[&str],
     host: &mut MemHost,
-    source: &mut MemSource,
-    stage: &mut MemStage,
+    steps: bool,
+    script: &[u8],
+    source: u64,
+    stage: u64,
 ) -> Result<Status, AllocError> {
-    let words = words_of(alloc, list)?;
-    Ok(run(alloc, words.as_slice(), host, source, stage))
+    let words = words(alloc, steps)?;
+    let mut source = source_of(alloc, script, source)?;
+    let mut stage = stage_of(alloc, stage)?;
+    Ok(run(alloc, words.as_slice(), host, &mut source, &mut stage))
 }

@@ -1,4 +1,4 @@
-//! Whole runs over ends in memory, and the tests of the program's parts (`ov_top`, `ov_files`, `ov_listing`, `ov_script`).
+//! Whole runs over ends in memory: a stop within each call, and each call failing.
 //!
 //! A run takes a script and its files, and what is printed and what lies on the disk come out. The clause of `run_fresh` is
 //! that of `run`, with its premises met: it shows that they can be.
@@ -10,23 +10,13 @@ ghost use Rattle.ov_top.specs.Ending.{Plays};
 ghost use Rattle.test_program.specs.Fresh.{ends_of, fresh_ends};
 
 #[cfg(test)]
-mod checkpoints;
+mod courses;
 #[cfg(test)]
 mod ends;
 #[cfg(test)]
-mod files;
+mod faults;
 #[cfg(test)]
-mod layouts;
-#[cfg(test)]
-mod lines;
-#[cfg(test)]
-mod listings;
-#[cfg(test)]
-mod migrations;
-#[cfg(test)]
-mod runs;
-#[cfg(test)]
-mod scripts;
+mod fresh;
 #[cfg(test)]
 mod stops;
 

@@ -1,12 +1,10 @@
-//! Rows fetched from pages in memory, a scan of them, the parts of a scan, and rids that can't be those of rows.
+//! Rows fetched from pages in memory, and the parts of a scan.
 
 use ov_fetch::{FetchErr, Pick, Picks, Scan, Vids, list_of, rows_of};
 use ov_host::Extent;
 use ov_memhost::MemHost;
-use ov_read::scan_of;
-use ov_segment::{RecordTable, RowTable, Table};
+use ov_segment::{RecordTable, Table};
 use ov_value::{Column, Kind, Schema, Txt};
-use ov_version_bytes::are_given;
 use std::alloc::{AllocError, Global};
 use std::test::Fail;
 
@@ -47,14 +45,13 @@ fn schema_of(alloc: Global) -> Result<Schema, Fail> {
     Ok(Schema::new(alloc, columns, key)?)
 }
 
-// A scan of no version that has the records of both.
-fn fetched(alloc: Global, host: &mut MemHost, schema: &Schema) -> Result<Scan, FetchErr> {
+// The records of both.
+fn fetched(alloc: Global, host: &mut MemHost, schema: &Schema) -> Result<RecordTable, FetchErr> {
     let members = [
         list_of(alloc, host, LISTS[0])?,
         list_of(alloc, host, LISTS[1])?,
     ];
-    let records = rows_of(alloc, host, schema, &SEGMENTS, &LISTS, &members)?;
-    Ok(scan_of(alloc, schema, Vids::new(Vec::new(alloc)), records, &[])?)
+    rows_of(alloc, host, schema, &SEGMENTS, &LISTS, &members)
 }
 
 fn rids(alloc: Global, records: &RecordTable) -> Result<Vec<u32>, AllocError> {
@@ -70,12 +67,8 @@ fn records_are_fetched_once_in_the_order_of_their_rids(rt: HostRuntime) -> Resul
     let alloc = rt.alloc();
     let schema = schema_of(alloc)?;
     let mut host = host_of(alloc)?;
-    let scan = fetched(alloc, &mut host, &schema)?;
-    assert_eq!(rt;
-        rids(alloc, &scan.records)?.as_slice(),
-        [1, 2, 3].as_slice()
-    );
-    assert_eq!(rt; scan.picks.as_slice().len(), 0);
+    let records = fetched(alloc, &mut host, &schema)?;
+    assert_eq!(rt; rids(alloc, &records)?.as_slice(), [1, 2, 3].as_slice());
     // Each list and each segment is read once.
     assert_eq!(rt; host.calls(), 4);
     Ok(())
@@ -106,19 +99,6 @@ fn the_lists_of_a_scan_are_given_back(rt: HostRuntime) -> Result<(), Fail> {
     for pick in picks.into_vec() {
         assert_eq!(rt; pick.as_slice(), [4, 0].as_slice());
         assert_eq!(rt; pick.into_vec().len(), 2);
-    }
-    Ok(())
-}
-
-// Rids, and whether they can be those of no rows.
-const GIVEN: [(&[u32], bool); 3] = [(&[], true), (&[1], false), (&[0, 0], false)];
-
-#[test]
-fn rids_are_as_many_as_the_rows(rt: HostRuntime) -> Result<(), Fail> {
-    let alloc = rt.alloc();
-    let rows = RowTable::new(Table::new(alloc, &schema_of(alloc)?)?);
-    for (rids, given) in GIVEN {
-        assert_eq!(rt; are_given(alloc, rids, &rows)?, given, "{rids:?}");
     }
     Ok(())
 }

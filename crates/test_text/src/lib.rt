@@ -1,8 +1,8 @@
-//! The tests of texts that no script shows: the program's words, spans of tokens, lines and replies of commands to come, queries of
-//! lineages, and who may ask of which datasets (`ov_args`, `ov_lex`, `ov_cmd`, `ov_reply`, `ov_parse`, `ov_users`).
+//! The tests of texts that no script shows: spans of tokens, lines and replies of commands to come, queries of lineages, and who may
+//! ask of which datasets (`ov_lex`, `ov_cmd`, `ov_reply`, `ov_parse`, `ov_users`).
 //!
-//! In a crate of their own they are proved without proving those crates once more. What scripts show is held by the examples and by
-//! `scripts/limits`.
+//! In a crate of their own they are proved without proving those crates once more. What scripts show is held by the examples, by
+//! `scripts/limits` and, of the program's words, by `scripts/words`.
 #![tactic(auto)]
 
 #[cfg(test)]
@@ -15,5 +15,3 @@ mod replies;
 mod tokens;
 #[cfg(test)]
 mod users;
-#[cfg(test)]
-mod words;
