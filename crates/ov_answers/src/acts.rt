@@ -1,39 +1,29 @@
 //! What a checkout gives, why a commit is refused, and what `ls` tells.
 
-ghost use Rattle.std.specs.Prelude.{◌≡◌, ◌+◌, ◌++◌, ◌^◌, ◌<◌, ◌≤◌, [], length, IfOk, OnOk};
+ghost use Rattle.std.specs.Prelude.{◌≡◌, ◌^◌, ◌<◌, ◌≤◌, length, IfOk};
 ghost use Rattle.ov_model.specs.Act.{rows_listed, merge_of, commit_refusal, records_refusal, ls_line};
 ghost use Rattle.ov_model.specs.Records.{order_of};
 
 use crate::pairing::rows_at;
-use crate::refusals::{add_rows, vids_refusal};
+use crate::refusals::vids_refusal;
 use ov_model::{CvdLine, Refusal, Seq};
-use ov_plain::{Cvd, Dataset, Version, merged, order_of};
+use ov_plain::{Cvd, Dataset, Version, copies_of, merged, onto, order_of};
 use ov_value::Row;
 use std::alloc::{AllocError, Global};
 
-/// Copies of these rows.
-fn copies_of(alloc: Global, rows: &[Row]) -> Result<Seq<Row>, AllocError>
-    ensures { IfOk result (λ copies. copies ≡ rows.now) }
-{
-    let mut copies = Seq::new(alloc);
-    add_rows(alloc, rows, &mut copies)?;
-    Ok(copies)
-}
-
-/// Adds the rows of each of the listed versions.
-fn add_listed(
+/// The rows of each of the listed versions.
+fn rows_listed(
     alloc: Global,
     versions: &[Version],
     vids: &[u64],
-    found: &mut Seq<Seq<Row>>,
-) -> Result<(), AllocError>
-    ensures { OnOk result (found.new ≡ found.old ++ rows_listed versions.now vids.now) }
+) -> Result<Seq<Seq<Row>>, AllocError>
+    ensures { IfOk result (λ lists. lists ≡ rows_listed versions.now vids.now) }
 {
     match vids {
-        [] => Ok(()),
+        [] => Ok(Seq::new(alloc)),
         [vid, rest @ ..] => {
-            found.push(copies_of(alloc, rows_at(versions, *vid))?)?;
-            add_listed(alloc, versions, rest, found)
+            let later = rows_listed(alloc, versions, rest)?;
+            onto(alloc, copies_of(alloc, rows_at(versions, *vid))?, later)
         }
     }
 }
@@ -42,9 +32,8 @@ fn add_listed(
 pub fn merge_of(alloc: Global, cvd: &Cvd, vids: &[u64]) -> Result<Seq<Row>, AllocError>
     ensures { IfOk result (λ rows. rows ≡ merge_of cvd.now vids.now) }
 {
-    let mut lists = Seq::new(alloc);
-    add_listed(alloc, cvd.versions(), vids, &mut lists)?;
-    merged(alloc, cvd.schema(), lists.as_slice())
+    let lists = rows_listed(alloc, cvd.versions.as_slice(), vids)?;
+    merged(alloc, &cvd.schema, lists.as_slice())
 }
 
 /// Why a dataset takes no version with these parents.
@@ -55,12 +44,12 @@ pub fn commit_refusal(
 ) -> Result<Option<Refusal>, AllocError>
     ensures { IfOk result (λ refusal. refusal ≡ commit_refusal set.now parents.now) }
 {
-    let count = set.cvd().versions().len();
+    let count = set.cvd.versions.len();
     match vids_refusal(alloc, count as u64, &[], parents)? {
         Some(refusal) => Ok(Some(refusal)),
         None => {
             if 65_535 <= count {
-                let cvd = set.cvd().name().copy(alloc)?;
+                let cvd = set.cvd.name.copy(alloc)?;
                 Ok(Some(Refusal::TooManyVersions { cvd }))
             } else {
                 Ok(None)
@@ -78,9 +67,9 @@ pub fn records_refusal(
     requires { length set.now.cvd.versions ≤ 65535 }
     ensures { IfOk result (λ refusal. refusal ≡ records_refusal set.now fresh) }
 {
-    let all = order_of(alloc, set.cvd().versions())?;
+    let all = order_of(alloc, set.cvd.versions.as_slice())?;
     if 2_147_483_648 < all.len() as u128 + fresh as u128 {
-        let cvd = set.cvd().name().copy(alloc)?;
+        let cvd = set.cvd.name.copy(alloc)?;
         return Ok(Some(Refusal::TooManyRecords { cvd }));
     }
     Ok(None)
@@ -92,10 +81,10 @@ pub fn ls_line(alloc: Global, set: &Dataset) -> Result<CvdLine, AllocError>
     requires records { length (order_of set.now.cvd.versions) < 2 ^ 32 }
     ensures { IfOk result (λ line. line ≡ ls_line set.now) }
 {
-    let all = order_of(alloc, set.cvd().versions())?;
+    let all = order_of(alloc, set.cvd.versions.as_slice())?;
     Ok(CvdLine {
-        name: set.cvd().name().copy(alloc)?,
-        versions: set.cvd().versions().len() as u32,
+        name: set.cvd.name.copy(alloc)?,
+        versions: set.cvd.versions.len() as u32,
         records: all.len() as u32,
     })
 }

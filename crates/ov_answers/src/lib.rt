@@ -6,7 +6,6 @@
 
 mod acts;
 mod answering;
-mod cells;
 mod groups;
 mod kinds_err;
 mod lineage;

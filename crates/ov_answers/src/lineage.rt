@@ -1,12 +1,12 @@
 //! The relatives of a version.
 
-ghost use Rattle.std.specs.Prelude.{◌≡◌, ◌==◌, ◌||◌, ◌+◌, ◌++◌, ◌≤◌, [], filter, length, map, slice_index_or, IfOk, OnOk};
+ghost use Rattle.std.specs.Prelude.{◌≡◌, ◌==◌, ◌||◌, ◌+◌, ◌≤◌, [], filter, length, map, slice_index_or, IfOk};
 ghost use Rattle.std.specs.List.{list_any};
 ghost use Rattle.ov_model.specs.Lineages.{parents_at, is_parent, is_above_in, is_ancestor, is_relative, relatives};
 ghost use Rattle.ov_model.specs.Records.{counted};
 
 use ov_model::{LineageKind, Seq};
-use ov_plain::{Cvd, Version};
+use ov_plain::{Cvd, Version, onto};
 use std::alloc::{AllocError, Global};
 
 /// The parents of the version at this place, counted from 0; none where there is no such version.
@@ -17,7 +17,7 @@ fn parents_in(versions: &[Version], at: u64) -> &[u32]
         [] => &[],
         [version, rest @ ..] => {
             if at == 0 {
-                version.parents()
+                version.parents.as_slice()
             } else {
                 parents_in(rest, at - 1)
             }
@@ -92,26 +92,27 @@ fn is_relative(versions: &[Version], kind: LineageKind, vid: u64, other: u64) ->
     }
 }
 
-/// Adds those of these versions that are relatives of a version: so many, from one on.
-fn add_relatives(
+/// Those of these versions that are relatives of a version: so many, from one on.
+fn relatives_from(
+    alloc: Global,
     versions: &[Version],
     kind: LineageKind,
     vid: u64,
     first: u64,
     count: u64,
-    found: &mut Seq<u64>,
-) -> Result<(), AllocError>
+) -> Result<Seq<u64>, AllocError>
     requires { first + count ≤ 4294967296 }
-    ensures { OnOk result (found.new ≡ found.old ++ filter (is_relative versions.now kind vid) (counted first count)) }
+    ensures { IfOk result (λ found. found ≡ filter (is_relative versions.now kind vid) (counted first count)) }
 {
     if count == 0 {
-        return Ok(());
+        return Ok(Seq::new(alloc));
     }
+    let later = relatives_from(alloc, versions, kind, vid, first + 1, count - 1)?;
     if is_relative(versions, kind, vid, first) {
-        found.push(first)?;
-        add_relatives(versions, kind, vid, first + 1, count - 1, found)
+        let all = onto(alloc, first, later)?;
+        Ok(all)
     } else {
-        add_relatives(versions, kind, vid, first + 1, count - 1, found)
+        Ok(later)
     }
 }
 
@@ -125,8 +126,6 @@ pub fn relatives(
     requires { length cvd.now.versions ≤ 65535 }
     ensures { IfOk result (λ found. found ≡ relatives cvd.now kind vid) }
 {
-    let mut found = Seq::new(alloc);
-    let versions = cvd.versions();
-    add_relatives(versions, kind, vid, 1, versions.len() as u64, &mut found)?;
-    Ok(found)
+    let versions = cvd.versions.as_slice();
+    relatives_from(alloc, versions, kind, vid, 1, versions.len() as u64)
 }

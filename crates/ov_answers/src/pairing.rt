@@ -1,6 +1,6 @@
 //! The pairs of a version and one of its rows that a query reads.
 
-ghost use Rattle.std.specs.Prelude.{◌≡◌, ◌+◌, ◌++◌, ◌≤◌, ◌<◌, [], length, map, slice_index_or, IfOk, OnOk};
+ghost use Rattle.std.specs.Prelude.{◌≡◌, ◌+◌, ◌≤◌, ◌<◌, [], length, map, slice_index_or, IfOk};
 ghost use Rattle.std.specs.List.{flat_map};
 ghost use Rattle.ov_model.specs.Answers.{pairs_of, source_vids, pairs};
 ghost use Rattle.ov_model.specs.Lineages.{relatives};
@@ -8,16 +8,16 @@ ghost use Rattle.ov_model.specs.Records.{rows_at, counted};
 
 use crate::lineage::relatives;
 use ov_model::{Seq, Src};
-use ov_plain::{Cvd, Version};
+use ov_plain::{Copies, Cvd, Version, both, onto};
 use ov_value::Row;
 use std::alloc::{AllocError, Global};
 use std::marker::Model;
 
 /// A version's number and one of its rows.
-#[derive(Debug, Drop)]
+#[derive(Drop)]
 pub struct Pair {
-    vid: u32,
-    row: Row,
+    pub vid: u32,
+    pub row: Row,
 }
 
 impl Model for Pair {
@@ -28,34 +28,12 @@ impl Model for Pair {
     ghost view = { λ p. record { vid = p.vid; row = p.row } };
 }
 
-impl Pair {
-    /// The pair of a version's number and a row.
-    pub fn new(vid: u32, row: Row) -> Pair
-        ensures { result ≡ record { vid = vid; row = row } }
-    {
-        Pair { vid, row }
-    }
-
-    /// The version's number.
-    pub fn vid(&self) -> u32
-        ensures { result ≡ self.now.vid }
-    {
-        self.vid
-    }
-
-    /// The row.
-    pub fn row(&self) -> &Row
-        ensures { result.now ≡ self.now.row }
-    {
-        &self.row
-    }
-
-    /// A copy of it.
-    pub fn copy(&self, alloc: Global) -> Result<Pair, AllocError>
-        ensures { IfOk result (λ made. made ≡ self.now) }
-    {
-        let row = self.row.copy(alloc)?;
-        Ok(Pair { vid: self.vid, row })
+impl Copies for Pair {
+    fn copied(&self, alloc: Global) -> Result<Pair, AllocError> {
+        Ok(Pair {
+            vid: self.vid,
+            row: self.row.copy(alloc)?,
+        })
     }
 }
 
@@ -68,7 +46,7 @@ fn rows_in(versions: &[Version], at: u64) -> &[Row]
         [] => &[],
         [version, rest @ ..] => {
             if at == 0 {
-                version.rows()
+                version.rows.as_slice()
             } else {
                 rows_in(rest, at - 1)
             }
@@ -76,15 +54,16 @@ fn rows_in(versions: &[Version], at: u64) -> &[Row]
     }
 }
 
-/// Adds the pairs of a version's number and each of these rows.
-fn add_rows(alloc: Global, vid: u32, rows: &[Row], found: &mut Seq<Pair>) -> Result<(), AllocError>
-    ensures { OnOk result (found.new ≡ found.old ++ map (λ row. record { vid = vid; row = row }) rows.now) }
+/// The pairs of a version's number and each of these rows.
+fn pairs_with(alloc: Global, vid: u32, rows: &[Row]) -> Result<Seq<Pair>, AllocError>
+    ensures { IfOk result (λ found. found ≡ map (λ row. record { vid = vid; row = row }) rows.now) }
 {
     match rows {
-        [] => Ok(()),
+        [] => Ok(Seq::new(alloc)),
         [row, rest @ ..] => {
-            found.push(Pair::new(vid, row.copy(alloc)?))?;
-            add_rows(alloc, vid, rest, found)
+            let later = pairs_with(alloc, vid, rest)?;
+            let row = row.copy(alloc)?;
+            onto(alloc, Pair { vid, row }, later)
         }
     }
 }
@@ -97,47 +76,43 @@ pub fn rows_at(versions: &[Version], vid: u64) -> &[Row]
     rows_in(versions, vid.saturating_sub(1))
 }
 
-/// Adds the pairs of a version.
-fn add_pairs_of(alloc: Global, cvd: &Cvd, vid: u64, found: &mut Seq<Pair>) -> Result<(), AllocError>
+/// The pairs of a version.
+fn pairs_of(alloc: Global, cvd: &Cvd, vid: u64) -> Result<Seq<Pair>, AllocError>
     requires { length cvd.now.versions ≤ 65535 }
-    ensures { OnOk result (found.new ≡ found.old ++ pairs_of cvd.now vid) }
+    ensures { IfOk result (λ found. found ≡ pairs_of cvd.now vid) }
 {
-    let rows = rows_at(cvd.versions(), vid);
+    let rows = rows_at(cvd.versions.as_slice(), vid);
     if vid > 65_535 {
-        return Ok(());
+        return Ok(Seq::new(alloc));
     }
-    add_rows(alloc, vid as u32, rows, found)
+    pairs_with(alloc, vid as u32, rows)
 }
 
-/// Adds the pairs of these versions, version by version.
-fn add_pairs(
-    alloc: Global,
-    cvd: &Cvd,
-    vids: &[u64],
-    found: &mut Seq<Pair>,
-) -> Result<(), AllocError>
+/// The pairs of these versions, version by version.
+fn all_pairs(alloc: Global, cvd: &Cvd, vids: &[u64]) -> Result<Seq<Pair>, AllocError>
     requires { length cvd.now.versions ≤ 65535 }
-    ensures { OnOk result (found.new ≡ found.old ++ flat_map (pairs_of cvd.now) vids.now) }
+    ensures { IfOk result (λ found. found ≡ flat_map (pairs_of cvd.now) vids.now) }
 {
     match vids {
-        [] => Ok(()),
+        [] => Ok(Seq::new(alloc)),
         [vid, rest @ ..] => {
-            add_pairs_of(alloc, cvd, *vid, found)?;
-            add_pairs(alloc, cvd, rest, found)
+            let later = all_pairs(alloc, cvd, rest)?;
+            both(pairs_of(alloc, cvd, *vid)?, later)
         }
     }
 }
 
-/// Adds so many numbers, from one on.
-fn add_counted(first: u64, count: u64, found: &mut Seq<u64>) -> Result<(), AllocError>
+/// So many numbers, from one on.
+fn counted(alloc: Global, first: u64, count: u64) -> Result<Seq<u64>, AllocError>
     requires { first + count ≤ 4294967296 }
-    ensures { OnOk result (found.new ≡ found.old ++ counted first count) }
+    ensures { IfOk result (λ found. found ≡ counted first count) }
 {
     if count == 0 {
-        return Ok(());
+        return Ok(Seq::new(alloc));
     }
-    found.push(first)?;
-    add_counted(first + 1, count - 1, found)
+    let later = counted(alloc, first + 1, count - 1)?;
+    let all = onto(alloc, first, later)?;
+    Ok(all)
 }
 
 /// The versions that a query reads, in their order.
@@ -147,11 +122,7 @@ fn source_vids(alloc: Global, cvd: &Cvd, source: &Src) -> Result<Seq<u64>, Alloc
 {
     match source {
         Src::Listed { vids, .. } => Seq::from_slice(alloc, vids.as_slice()),
-        Src::Whole { .. } => {
-            let mut all = Seq::new(alloc);
-            add_counted(1, cvd.versions().len() as u64, &mut all)?;
-            Ok(all)
-        }
+        Src::Whole { .. } => counted(alloc, 1, cvd.versions.len() as u64),
         Src::Lineage { kind, vid, .. } => relatives(alloc, cvd, *kind, *vid),
     }
 }
@@ -162,7 +133,5 @@ pub fn pairs(alloc: Global, cvd: &Cvd, source: &Src) -> Result<Seq<Pair>, AllocE
     ensures { IfOk result (λ found. found ≡ pairs (relatives cvd.now) cvd.now source.now) }
 {
     let vids = source_vids(alloc, cvd, source)?;
-    let mut found = Seq::new(alloc);
-    add_pairs(alloc, cvd, vids.as_slice(), &mut found)?;
-    Ok(found)
+    all_pairs(alloc, cvd, vids.as_slice())
 }

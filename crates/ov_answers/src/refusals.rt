@@ -1,13 +1,13 @@
 //! Why a command is refused: of versions that are listed, and of the rows of a file.
 
-ghost use Rattle.std.specs.Prelude.{◌≡◌, ◌+◌, ◌++◌, ◌^◌, ◌<◌, ◌∷◌, length, IfOk, OnOk};
+ghost use Rattle.std.specs.Prelude.{◌≡◌, ◌+◌, ◌^◌, ◌<◌, length, IfOk};
 ghost use Rattle.std.specs.List.{list_any};
 ghost use Rattle.ov_value.specs.Rows.{is_null};
-ghost use Rattle.ov_model.specs.Merge.{has_key};
 ghost use Rattle.ov_model.specs.Act.{vids_refusal, repeated_key, null_row, format_refusal, format_one, rows_refusal};
 ghost use Rattle.ov_model.specs.World.{World, is_one};
 
 use ov_model::{Refusal, Seq};
+use ov_plain::{has_key, onto, with_first};
 use ov_value::{Row, Schema, Value};
 use std::alloc::{AllocError, Global};
 
@@ -19,16 +19,6 @@ fn is_listed(vids: &[u64], vid: u64) -> bool
         [] => false,
         [first, rest @ ..] => *first == vid || is_listed(rest, vid),
     }
-}
-
-/// A number and these behind it.
-fn with_first(alloc: Global, vid: u64, vids: &[u64]) -> Result<Seq<u64>, AllocError>
-    ensures { IfOk result (λ all. all ≡ vid ∷ vids.now) }
-{
-    let mut all = Seq::new(alloc);
-    all.push(vid)?;
-    all.append(Seq::from_slice(alloc, vids)?)?;
-    Ok(all)
 }
 
 /// Why versions of so many can't be listed so: one isn't there, or stands twice. `before` are those listed before them.
@@ -49,43 +39,10 @@ pub fn vids_refusal(
             if is_listed(before, *vid) {
                 return Ok(Some(Refusal::RepeatedVersion { vid: *vid }));
             }
-            let seen = with_first(alloc, *vid, before)?;
+            let seen = onto(alloc, *vid, Seq::from_slice(alloc, before)?)?;
             vids_refusal(alloc, count, seen.as_slice(), rest)
         }
     }
-}
-
-/// Whether one of these rows has the row's key.
-fn has_key(schema: &Schema, rows: &[Row], row: &Row) -> bool
-    ensures { result ≡ has_key schema.now rows.now row.now }
-{
-    match rows {
-        [] => false,
-        [first, rest @ ..] => schema.cmp_key(row, first).is_eq() || has_key(schema, rest, row),
-    }
-}
-
-/// Adds copies of these rows.
-pub fn add_rows(alloc: Global, rows: &[Row], found: &mut Seq<Row>) -> Result<(), AllocError>
-    ensures { OnOk result (found.new ≡ found.old ++ rows.now) }
-{
-    match rows {
-        [] => Ok(()),
-        [row, rest @ ..] => {
-            found.push(row.copy(alloc)?)?;
-            add_rows(alloc, rest, found)
-        }
-    }
-}
-
-/// A row and these behind it.
-fn with_first_row(alloc: Global, row: &Row, rows: &[Row]) -> Result<Seq<Row>, AllocError>
-    ensures { IfOk result (λ all. all ≡ row.now ∷ rows.now) }
-{
-    let mut all = Seq::new(alloc);
-    all.push(row.copy(alloc)?)?;
-    add_rows(alloc, rows, &mut all)?;
-    Ok(all)
 }
 
 /// The refusal of the first of these rows, numbered from `nth` on, that has the key of an earlier one; `before` are those before
@@ -93,21 +50,21 @@ fn with_first_row(alloc: Global, row: &Row, rows: &[Row]) -> Result<Seq<Row>, Al
 fn repeated_key(
     alloc: Global,
     schema: &Schema,
-    before: &[Row],
+    before: Seq<Row>,
     nth: u64,
     rows: &[Row],
 ) -> Result<Option<Refusal>, AllocError>
     requires { nth + length rows.now < 2 ^ 64 }
-    ensures { IfOk result (λ refusal. refusal ≡ repeated_key schema.now before.now nth rows.now) }
+    ensures { IfOk result (λ refusal. refusal ≡ repeated_key schema.now before nth rows.now) }
 {
     match rows {
         [] => Ok(None),
         [row, rest @ ..] => {
-            if has_key(schema, before, row) {
+            if has_key(schema, before.as_slice(), row) {
                 return Ok(Some(Refusal::DuplicateKey { row: nth }));
             }
-            let seen = with_first_row(alloc, row, before)?;
-            repeated_key(alloc, schema, seen.as_slice(), nth + 1, rest)
+            let seen = with_first(alloc, row, before)?;
+            repeated_key(alloc, schema, seen, nth + 1, rest)
         }
     }
 }
@@ -181,7 +138,7 @@ pub fn rows_refusal(
     if rows.len() > 1_000_000 {
         return Ok(Some(Refusal::TooManyRows));
     }
-    match repeated_key(alloc, schema, &[], 1, rows)? {
+    match repeated_key(alloc, schema, Seq::new(alloc), 1, rows)? {
         Some(refusal) => Ok(Some(refusal)),
         None => Ok(format_one(format, adds, rows)),
     }

@@ -1,14 +1,16 @@
 //! What a term is over a group of pairs.
 
-ghost use Rattle.std.specs.Prelude.{◌≡◌, ◌≤◌, ◌++◌, length, slice_index_or, IfOk, OnOk};
+ghost use Rattle.std.specs.Prelude.{◌≡◌, ◌≤◌, length, slice_index_or, IfOk};
 ghost use Rattle.ov_model.specs.Answers.{value_in, is_present, present, group_value, term_of_group};
 ghost use Rattle.std.specs.List.{position_or_len};
 ghost use Rattle.std.specs.Str.{bytes_eq};
+ghost use Rattle.ov_model.specs.declared.query.Term.TheVariants.{Count, Sum, Min, Max};
 ghost use Rattle.ov_value.specs.declared.value.Value.TheVariants.{Null};
 
 use crate::pairing::Pair;
 use crate::sums::{greatest_cell, least_cell, sum_cell};
 use ov_model::{Cell, Col, Seq, Term};
+use ov_plain::onto;
 use ov_value::{Column, Schema, Txt, Value};
 use std::alloc::{AllocError, Global};
 
@@ -34,12 +36,8 @@ pub fn value_in(alloc: Global, schema: &Schema, pair: &Pair, col: &Col) -> Resul
     ensures { IfOk result (λ value. value ≡ value_in schema.now pair.now col.now) }
 {
     match col {
-        Col::Vid => Ok(Value::Int(i64::from(pair.vid()))),
-        Col::Name(name) => value_at(
-            alloc,
-            pair.row().values(),
-            column_at(schema.columns(), name),
-        ),
+        Col::Vid => Ok(Value::Int(i64::from(pair.vid))),
+        Col::Name(name) => value_at(alloc, pair.row.values(), column_at(schema.columns(), name)),
         _ => Ok(Value::Null),
     }
 }
@@ -64,28 +62,6 @@ fn is_present(value: &Value) -> bool
     }
 }
 
-/// Adds the values of a column in these pairs that aren't NULL.
-fn add_present(
-    alloc: Global,
-    schema: &Schema,
-    group: &[Pair],
-    col: &Col,
-    found: &mut Seq<Value>,
-) -> Result<(), AllocError>
-    ensures { OnOk result (found.new ≡ found.old ++ present schema.now group.now col.now) }
-{
-    match group {
-        [] => Ok(()),
-        [pair, rest @ ..] => {
-            let value = value_in(alloc, schema, pair, col)?;
-            if is_present(&value) {
-                found.push(value)?;
-            }
-            add_present(alloc, schema, rest, col, found)
-        }
-    }
-}
-
 /// The values of a column in these pairs that aren't NULL.
 fn present(
     alloc: Global,
@@ -95,9 +71,18 @@ fn present(
 ) -> Result<Seq<Value>, AllocError>
     ensures { IfOk result (λ values. values ≡ present schema.now group.now col.now) }
 {
-    let mut found = Seq::new(alloc);
-    add_present(alloc, schema, group, col, &mut found)?;
-    Ok(found)
+    match group {
+        [] => Ok(Seq::new(alloc)),
+        [pair, rest @ ..] => {
+            let later = present(alloc, schema, rest, col)?;
+            let value = value_in(alloc, schema, pair, col)?;
+            if is_present(&value) {
+                onto(alloc, value, later)
+            } else {
+                Ok(later)
+            }
+        }
+    }
 }
 
 /// The value of a group's column; nothing where the group is empty.
@@ -115,6 +100,43 @@ fn group_value(
     }
 }
 
+/// How many values a column has in these pairs.
+fn count_in(alloc: Global, schema: &Schema, group: &[Pair], col: &Col) -> Result<Cell, AllocError>
+    ensures { IfOk result (λ cell. cell ≡ term_of_group schema.now group.now (Count col.now)) }
+{
+    let values = present(alloc, schema, group, col)?;
+    Ok(Cell::Sum(values.len() as i128))
+}
+
+/// The sum of a column in these pairs.
+fn sum_in(alloc: Global, schema: &Schema, group: &[Pair], col: &Col) -> Result<Cell, AllocError>
+    ensures { IfOk result (λ cell. cell ≡ term_of_group schema.now group.now (Sum col.now)) }
+{
+    let values = present(alloc, schema, group, col)?;
+    Ok(sum_cell(values.as_slice()))
+}
+
+/// The least value of a column in these pairs.
+fn least_in(alloc: Global, schema: &Schema, group: &[Pair], col: &Col) -> Result<Cell, AllocError>
+    ensures { IfOk result (λ cell. cell ≡ term_of_group schema.now group.now (Min col.now)) }
+{
+    let values = present(alloc, schema, group, col)?;
+    least_cell(alloc, values.as_slice())
+}
+
+/// The greatest value of a column in these pairs.
+fn greatest_in(
+    alloc: Global,
+    schema: &Schema,
+    group: &[Pair],
+    col: &Col,
+) -> Result<Cell, AllocError>
+    ensures { IfOk result (λ cell. cell ≡ term_of_group schema.now group.now (Max col.now)) }
+{
+    let values = present(alloc, schema, group, col)?;
+    greatest_cell(alloc, values.as_slice())
+}
+
 /// What a term is over a group of pairs.
 pub fn term_of_group(
     alloc: Global,
@@ -127,21 +149,9 @@ pub fn term_of_group(
     match term {
         Term::Plain(col) => group_value(alloc, schema, group, col),
         Term::CountAll => Ok(Cell::Sum(group.len() as i128)),
-        Term::Count(col) => {
-            let values = present(alloc, schema, group, col)?;
-            Ok(Cell::Sum(values.len() as i128))
-        }
-        Term::Sum(col) => {
-            let values = present(alloc, schema, group, col)?;
-            Ok(sum_cell(values.as_slice()))
-        }
-        Term::Min(col) => {
-            let values = present(alloc, schema, group, col)?;
-            least_cell(alloc, values.as_slice())
-        }
-        Term::Max(col) => {
-            let values = present(alloc, schema, group, col)?;
-            greatest_cell(alloc, values.as_slice())
-        }
+        Term::Count(col) => count_in(alloc, schema, group, col),
+        Term::Sum(col) => sum_in(alloc, schema, group, col),
+        Term::Min(col) => least_in(alloc, schema, group, col),
+        Term::Max(col) => greatest_in(alloc, schema, group, col),
     }
 }

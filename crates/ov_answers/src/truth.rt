@@ -1,8 +1,8 @@
 //! What a condition says of a group of pairs.
 
-ghost use Rattle.std.specs.Prelude.{◌≡◌, ◌==◌, ◌≤◌, length, map, IfOk};
+ghost use Rattle.std.specs.Prelude.{◌≡◌, ◌≤◌, length, map, Some, IfOk};
 ghost use Rattle.std.specs.List.{list_any};
-ghost use Rattle.ov_model.specs.Answers.{operand_in, is_version, version_among, compared, cell_order, is_null_cell, truth, term_of_group};
+ghost use Rattle.ov_model.specs.Answers.{operand_in, is_version, version_among, compared, cell_order, is_null_cell, truth, term_of_group, turned_if};
 ghost use Rattle.ov_model.specs.Lineages.{relatives};
 ghost use Rattle.ov_model.specs.declared.query.Col.TheVariants.{Vid};
 ghost use Rattle.ov_model.specs.declared.query.Term.TheVariants.{Plain};
@@ -28,7 +28,7 @@ fn operand_in(
     ensures { IfOk result (λ cell. cell ≡ operand_in (here cvd.now group.now) operand.now) }
 {
     match operand {
-        Operand::Term(term) => term_of_group(alloc, cvd.schema(), group, term),
+        Operand::Term(term) => term_of_group(alloc, &cvd.schema, group, term),
         Operand::Literal(value) => Ok(Cell::Value(value.copy(alloc)?)),
     }
 }
@@ -49,12 +49,18 @@ fn compares(
     Ok(compared(sign, cell_order(&a, &b)))
 }
 
-/// Whether an operand is NULL or nothing.
-fn is_null(alloc: Global, cvd: &Cvd, group: &[Pair], operand: &Operand) -> Result<bool, AllocError>
-    ensures { IfOk result (λ null. null ≡ is_null_cell (operand_in (here cvd.now group.now) operand.now)) }
+/// Whether an operand is NULL or nothing, or its opposite.
+fn is_null(
+    alloc: Global,
+    cvd: &Cvd,
+    group: &[Pair],
+    operand: &Operand,
+    negated: bool,
+) -> Result<Option<bool>, AllocError>
+    ensures { IfOk result (λ truth. truth ≡ Some (turned_if negated (is_null_cell (operand_in (here cvd.now group.now) operand.now)))) }
 {
     let cell = operand_in(alloc, cvd, group, operand)?;
-    Ok(is_null_cell(&cell))
+    Ok(Some(turned_if(negated, is_null_cell(&cell))))
 }
 
 /// Whether a cell is this version's number.
@@ -91,31 +97,38 @@ fn is_listed_version(cell: &Cell, vids: &[u32]) -> bool
 fn version_of(alloc: Global, cvd: &Cvd, group: &[Pair]) -> Result<Cell, AllocError>
     ensures { IfOk result (λ cell. cell ≡ term_of_group cvd.now.schema group.now (Plain Vid)) }
 {
-    term_of_group(alloc, cvd.schema(), group, &Term::Plain(Col::Vid))
+    term_of_group(alloc, &cvd.schema, group, &Term::Plain(Col::Vid))
 }
 
-/// Whether the version of a group is in this lineage of a version.
+/// Whether the version of a group is in this lineage of a version, or its opposite.
 fn is_related(
     alloc: Global,
     cvd: &Cvd,
     group: &[Pair],
     kind: LineageKind,
     vid: u64,
-) -> Result<bool, AllocError>
+    negated: bool,
+) -> Result<Option<bool>, AllocError>
     requires { length cvd.now.versions ≤ 65535 }
-    ensures { IfOk result (λ found. found ≡ version_among (here cvd.now group.now) (relatives cvd.now kind vid)) }
+    ensures { IfOk result (λ truth. truth ≡ Some (turned_if negated (version_among (here cvd.now group.now) (relatives cvd.now kind vid)))) }
 {
     let cell = version_of(alloc, cvd, group)?;
     let vids = relatives(alloc, cvd, kind, vid)?;
-    Ok(is_one_version(&cell, vids.as_slice()))
+    Ok(Some(turned_if(negated, is_one_version(&cell, vids.as_slice()))))
 }
 
-/// Whether the version of a group is one of these.
-fn is_listed(alloc: Global, cvd: &Cvd, group: &[Pair], vids: &[u32]) -> Result<bool, AllocError>
-    ensures { IfOk result (λ found. found ≡ version_among (here cvd.now group.now) vids.now) }
+/// Whether the version of a group is one of these, or its opposite.
+fn is_listed(
+    alloc: Global,
+    cvd: &Cvd,
+    group: &[Pair],
+    vids: &[u32],
+    negated: bool,
+) -> Result<Option<bool>, AllocError>
+    ensures { IfOk result (λ truth. truth ≡ Some (turned_if negated (version_among (here cvd.now group.now) vids.now))) }
 {
     let cell = version_of(alloc, cvd, group)?;
-    Ok(is_listed_version(&cell, vids))
+    Ok(Some(turned_if(negated, is_listed_version(&cell, vids))))
 }
 
 /// What a condition says of a group of pairs.
@@ -132,18 +145,11 @@ pub fn truth(
     truth_by_cases();
     match cond {
         Cond::Compare(left, sign, right) => compares(alloc, cvd, group, left, *sign, right),
-        Cond::IsNull(tested, negated) => {
-            let null = is_null(alloc, cvd, group, tested)?;
-            Ok(Some(turned_if(*negated, null)))
-        }
+        Cond::IsNull(tested, negated) => is_null(alloc, cvd, group, tested, *negated),
         Cond::InLineage(kind, vid, negated) => {
-            let related = is_related(alloc, cvd, group, *kind, *vid)?;
-            Ok(Some(turned_if(*negated, related)))
+            is_related(alloc, cvd, group, *kind, *vid, *negated)
         }
-        Cond::InList(vids, negated) => {
-            let listed = is_listed(alloc, cvd, group, vids.as_slice())?;
-            Ok(Some(turned_if(*negated, listed)))
-        }
+        Cond::InList(vids, negated) => is_listed(alloc, cvd, group, vids.as_slice(), *negated),
         Cond::Not(inner) => Ok(truth_not(truth(alloc, cvd, group, inner.get())?)),
         Cond::Every(conds) => {
             let each = truths(alloc, cvd, group, conds.as_slice())?;

@@ -1,16 +1,18 @@
 //! The kinds of a query's terms over a schema, and the first refusal of a query.
 
-ghost use Rattle.std.specs.Prelude.{◌≡◌, ◌++◌, ◌∷◌, map, None, IfOk, OnOk};
+ghost use Rattle.std.specs.Prelude.{◌≡◌, ◌∷◌, map, None, Ok, IfOk};
 ghost use Rattle.std.specs.List.{list_any};
 ghost use Rattle.ov_model.specs.Kinds.{is_same_col, name_of, kind_named, or_unknown, col_kind, grouped_or, int_or, term_kind, literal_kind, operand_kind, is_same_kind, same_or, compared, tested, count_all, counted, guard_counts, terms_kinds, items_kinds, cols_kinds, kinds};
 ghost use Rattle.ov_model.specs.declared.query.Col.TheVariants.{Vid};
 ghost use Rattle.ov_model.specs.declared.query.Items.TheVariants.{Everything};
+ghost use Rattle.ov_model.specs.declared.query.Term.TheVariants.{Plain, Count, Sum};
 ghost use Rattle.ov_value.specs.declared.column.Kind.TheVariants.{Int};
 ghost use Rattle.ov_answers.specs.Refusing.{at, Gives};
 
 use crate::answering::is_grouped;
 use crate::kinds_err::KindsErr;
 use ov_model::{Col, Cond, Items, Key, Operand, Query, Refusal, Seq, Term, comparisons_by_cases};
+use ov_plain::onto;
 use ov_value::{Column, Kind, Schema, Txt, Value};
 use std::alloc::{AllocError, Global};
 
@@ -121,6 +123,52 @@ fn int_or(alloc: Global, col: &Col, kind: Kind) -> Result<Kind, KindsErr>
     }))
 }
 
+/// The kind of a plain column, or its first refusal.
+fn plain_kind(
+    alloc: Global,
+    schema: &Schema,
+    grouped: bool,
+    groups: &[Col],
+    col: &Col,
+) -> Result<Kind, KindsErr>
+    ensures { Gives result (term_kind (at schema.now grouped groups.now) (Plain col.now)) }
+{
+    let kind = col_kind(alloc, schema, col)?;
+    grouped_or(alloc, schema, grouped, groups, col, kind)
+}
+
+/// The kind of a count, or its column's refusal.
+fn count_kind(
+    alloc: Global,
+    schema: &Schema,
+    grouped: bool,
+    groups: &[Col],
+    col: &Col,
+) -> Result<Kind, KindsErr>
+    ensures { Gives result (term_kind (at schema.now grouped groups.now) (Count col.now)) }
+{
+    let _ = grouped;
+    let _ = groups;
+    let _ = col_kind(alloc, schema, col)?;
+    Ok(Kind::Int)
+}
+
+/// The kind of a sum, or its first refusal.
+fn sum_kind(
+    alloc: Global,
+    schema: &Schema,
+    grouped: bool,
+    groups: &[Col],
+    col: &Col,
+) -> Result<Kind, KindsErr>
+    ensures { Gives result (term_kind (at schema.now grouped groups.now) (Sum col.now)) }
+{
+    let _ = grouped;
+    let _ = groups;
+    let kind = col_kind(alloc, schema, col)?;
+    int_or(alloc, col, kind)
+}
+
 /// The kind of a term, or its first refusal: its column, and then that a sum is of ints, or that a plain column is grouped.
 fn term_kind(
     alloc: Global,
@@ -132,19 +180,10 @@ fn term_kind(
     ensures { Gives result (term_kind (at schema.now grouped groups.now) term.now) }
 {
     match term {
-        Term::Plain(col) => {
-            let kind = col_kind(alloc, schema, col)?;
-            grouped_or(alloc, schema, grouped, groups, col, kind)
-        }
+        Term::Plain(col) => plain_kind(alloc, schema, grouped, groups, col),
         Term::CountAll => Ok(Kind::Int),
-        Term::Count(col) => {
-            let _ = col_kind(alloc, schema, col)?;
-            Ok(Kind::Int)
-        }
-        Term::Sum(col) => {
-            let kind = col_kind(alloc, schema, col)?;
-            int_or(alloc, col, kind)
-        }
+        Term::Count(col) => count_kind(alloc, schema, grouped, groups, col),
+        Term::Sum(col) => sum_kind(alloc, schema, grouped, groups, col),
         Term::Min(col) => col_kind(alloc, schema, col),
         Term::Max(col) => col_kind(alloc, schema, col),
     }
@@ -301,13 +340,10 @@ fn guard_counts(
 }
 
 /// A kind and these behind it.
-fn onto(alloc: Global, kind: Kind, later: Seq<Kind>) -> Result<Seq<Kind>, AllocError>
-    ensures { IfOk result (λ all. all ≡ kind ∷ later) }
+fn onto_kinds(alloc: Global, kind: Kind, later: Seq<Kind>) -> Result<Seq<Kind>, KindsErr>
+    ensures { Gives result (Ok (kind ∷ later)) }
 {
-    let mut all = Seq::new(alloc);
-    all.push(kind)?;
-    all.append(later)?;
-    Ok(all)
+    Ok(onto(alloc, kind, later)?)
 }
 
 /// The kinds of these terms, or their first refusal.
@@ -325,7 +361,7 @@ fn terms_kinds(
         [term, rest @ ..] => {
             let own = term_kind(alloc, schema, grouped, groups, term)?;
             let later = terms_kinds(alloc, schema, grouped, groups, rest)?;
-            Ok(onto(alloc, own, later)?)
+            onto_kinds(alloc, own, later)
         }
     }
 }
@@ -345,7 +381,7 @@ fn keys_kinds(
         [key, rest @ ..] => {
             let own = term_kind(alloc, schema, grouped, groups, &key.term)?;
             let later = keys_kinds(alloc, schema, grouped, groups, rest)?;
-            Ok(onto(alloc, own, later)?)
+            onto_kinds(alloc, own, later)
         }
     }
 }
@@ -359,20 +395,20 @@ fn cols_kinds(alloc: Global, schema: &Schema, cols: &[Col]) -> Result<Seq<Kind>,
         [col, rest @ ..] => {
             let own = col_kind(alloc, schema, col)?;
             let later = cols_kinds(alloc, schema, rest)?;
-            Ok(onto(alloc, own, later)?)
+            onto_kinds(alloc, own, later)
         }
     }
 }
 
-/// Adds the kinds of these columns.
-fn add_kinds(columns: &[Column], found: &mut Seq<Kind>) -> Result<(), AllocError>
-    ensures { OnOk result (found.new ≡ found.old ++ map (λ c. c.kind) columns.now) }
+/// The kinds of these columns.
+fn kinds_of(alloc: Global, columns: &[Column]) -> Result<Seq<Kind>, AllocError>
+    ensures { IfOk result (λ found. found ≡ map (λ c. c.kind) columns.now) }
 {
     match columns {
-        [] => Ok(()),
+        [] => Ok(Seq::new(alloc)),
         [column, rest @ ..] => {
-            found.push(column.kind)?;
-            add_kinds(rest, found)
+            let later = kinds_of(alloc, rest)?;
+            onto(alloc, column.kind, later)
         }
     }
 }
@@ -391,9 +427,7 @@ fn all_kinds(
             name: Txt::new(alloc, "*")?,
         }));
     }
-    let mut found = Seq::new(alloc);
-    add_kinds(schema.columns(), &mut found)?;
-    Ok(found)
+    Ok(kinds_of(alloc, schema.columns())?)
 }
 
 /// The kinds of the items, or their first refusal.

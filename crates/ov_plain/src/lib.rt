@@ -5,6 +5,7 @@
 //! programs, which keep running counts in place of lists, are compared with them on cases too large to compute by hand.
 #![tactic(auto)]
 
+mod copies;
 mod cuts;
 mod dataset;
 mod merge;
@@ -20,15 +21,16 @@ mod steps;
 mod tree;
 mod trees;
 
-pub use dataset::{Cvd, Dataset, Part, Pieces, Plan, Target};
-pub use merge::merged;
+pub use copies::{Copies, both, copies_of, onto, onto_if, with_first, with_last};
+pub use dataset::{Cvd, Dataset, Part, Plan, Target};
+pub use merge::{has_key, in_key_order, merged};
 pub use moves::{new_set, placed_at, with_version};
 pub use placement::{heaviest, plain_place};
 pub use plans::{held, planned, records_in};
 pub use rec::{Rec, Version};
-pub use records::{order_of, records_of, recs, rid_in, weights};
+pub use records::{fresh_in, joined, order_of, own_records, records_of, recs, rid_in, weights};
 pub use sizes::{cost, stored};
-pub use small::{is_small, is_small_plan, serve_few};
+pub use small::{is_small_plan, serve_few};
 pub use split::plain_split;
 pub use steps::{copied_more, current, flipped, is_complete, missing, missing_of, plan_steps};
 pub use trees::{depth_at, parts_at, tree_members, tree_records};

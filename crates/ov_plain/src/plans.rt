@@ -1,17 +1,18 @@
 //! Plans: which targets a dataset's versions are divided into, and what each keeps of an old partition.
 
-ghost use Rattle.std.specs.Prelude.{◌≡◌, ◌+◌, ◌++◌, ◌≤◌, ◌<◌, ◌*◌, ◌^◌, [], filter, length, map, slice_index_or, IfOk, OnOk, Some, None};
+ghost use Rattle.std.specs.Prelude.{◌≡◌, ◌+◌, ◌≤◌, ◌<◌, ◌*◌, ◌^◌, [], filter, length, map, slice_index_or, IfOk, Some, None};
 ghost use Rattle.std.specs.List.{list_all, list_any};
 ghost use Rattle.ov_model.specs.Lists.{joined};
 ghost use Rattle.ov_model.specs.Plans.{records_in, meets, empties, modification, cheaper, cheapest, source_of, pieces_of, places_within, pieces_at, target_of, targets_of, planned, parts_at};
-ghost use Rattle.ov_model.specs.Records.{of_version, is_among};
+ghost use Rattle.ov_model.specs.Records.{of_version, is_among, lacking};
 ghost use Rattle.ov_model.specs.World.{is_one, held};
 ghost use Rattle.ov_plain.specs.Choosing.{is_of_one};
 ghost use Rattle.ov_plain.specs.Small.{IsSmall};
 
-use crate::dataset::{Cvd, Dataset, Part, Pieces, Plan, Target};
+use crate::copies::{copies_of, onto, onto_if};
+use crate::dataset::{Cvd, Dataset, Part, Plan, Target};
 use crate::rec::Rec;
-use crate::records::{add_pieces, copies_of, is_among, lacking, of_version, order_of, recs};
+use crate::records::{is_among, joined, lacking, of_version, order_of, recs};
 use crate::trees::parts_at;
 use sqlite_items::Items;
 use std::alloc::{AllocError, Global};
@@ -39,23 +40,21 @@ fn is_in_one(each: &[Items<Rec>], vids: &[u32], wanted: &Rec) -> bool
     }
 }
 
-/// Adds those of these records that are of one of the versions.
-fn add_in(
+/// Those of these records that are of one of the versions.
+fn chosen(
     alloc: Global,
     each: &[Items<Rec>],
     vids: &[u32],
     all: &[Rec],
-    found: &mut Items<Rec>,
-) -> Result<(), AllocError>
-    ensures { OnOk result (found.new ≡ found.old ++ filter (is_of_one each.now vids.now) all.now) }
+) -> Result<Items<Rec>, AllocError>
+    ensures { IfOk result (λ found. found ≡ filter (is_of_one each.now vids.now) all.now) }
 {
     match all {
-        [] => Ok(()),
-        [first, rest @ ..] if is_in_one(each, vids, first) => {
-            found.push(first.copy(alloc)?)?;
-            add_in(alloc, each, vids, rest, found)
+        [] => Ok(Items::new(alloc)),
+        [first, rest @ ..] => {
+            let later = chosen(alloc, each, vids, rest)?;
+            onto_if(alloc, is_in_one(each, vids, first), first, later)
         }
-        [_, rest @ ..] => add_in(alloc, each, vids, rest, found),
     }
 }
 
@@ -65,10 +64,9 @@ pub fn records_in(alloc: Global, cvd: &Cvd, vids: &[u32]) -> Result<Items<Rec>, 
     requires { length cvd.now.versions ≤ 65535 }
     ensures { IfOk result (λ found. found ≡ records_in cvd.now vids.now) }
 {
-    let each = recs(alloc, cvd.versions(), Items::new(alloc))?;
-    let all = order_of(alloc, cvd.versions())?;
-    let mut found = Items::new(alloc);
-    add_in(alloc, each.as_slice(), vids, all.as_slice(), &mut found)?;
+    let each = recs(alloc, cvd.versions.as_slice(), Items::new(alloc))?;
+    let all = order_of(alloc, cvd.versions.as_slice())?;
+    let found = chosen(alloc, each.as_slice(), vids, all.as_slice())?;
     Ok(found)
 }
 
@@ -96,16 +94,23 @@ fn one_meets(lists: &[Items<u32>], versions: &[u32]) -> bool
 fn empties(versions: &[u32], later: &[Items<u32>], part: &Part) -> bool
     ensures { result ≡ empties versions.now later.now part.now }
 {
-    meets(versions, part.versions()) && !one_meets(later, part.versions())
+    meets(versions, part.versions.as_slice()) && !one_meets(later, part.versions.as_slice())
 }
 
 /// All pieces of a partition together.
 pub fn held(alloc: Global, part: &Part) -> Result<Items<Rec>, AllocError>
     ensures { IfOk result (λ all. all ≡ held part.now) }
 {
-    let mut all = Items::new(alloc);
-    add_pieces(alloc, part.pieces(), &mut all)?;
-    Ok(all)
+    joined(alloc, part.pieces.as_slice())
+}
+
+/// How many of these records aren't among the others.
+fn count_lacking(alloc: Global, recs: &[Rec], others: &[Rec]) -> Result<u128, AllocError>
+    ensures is { IfOk result (λ count. count ≡ length (lacking recs.now others.now)) }
+    ensures few { IfOk result (λ count. count ≤ 2 ^ 64) }
+{
+    let left = lacking(alloc, recs, others)?;
+    Ok(left.len() as u128)
 }
 
 /// The records that have to come and those that have to go, to make these of a partition.
@@ -113,9 +118,9 @@ fn modification(alloc: Global, wanted: &[Rec], part: &Part) -> Result<u128, Allo
     ensures { IfOk result (λ cost. cost ≡ modification wanted.now part.now) }
 {
     let old = held(alloc, part)?;
-    let come = lacking(alloc, wanted, old.as_slice())?;
-    let go = lacking(alloc, old.as_slice(), wanted)?;
-    Ok(come.len() as u128 + go.len() as u128)
+    let come = count_lacking(alloc, wanted, old.as_slice())?;
+    let go = count_lacking(alloc, old.as_slice(), wanted)?;
+    Ok(come + go)
 }
 
 /// Of two partitions with their costs the cheaper one, ties to the first.
@@ -138,7 +143,7 @@ fn cheaper_of(
     ensures { IfOk result (λ kept. kept ≡ cheaper (part.now.id, modification wanted.now part.now) best) }
 {
     let cost = modification(alloc, wanted, part)?;
-    Ok(cheaper((part.id(), cost), best))
+    Ok(cheaper((part.id, cost), best))
 }
 
 /// The cheapest one of the partitions that a target empties, with its cost.
@@ -181,8 +186,8 @@ pub fn pieces_of(parts: &[Part], id: u32) -> &[Items<Rec>]
     match parts {
         [] => &[],
         [part, rest @ ..] => {
-            if part.id() == id {
-                part.pieces()
+            if part.id == id {
+                part.pieces.as_slice()
             } else {
                 pieces_of(rest, id)
             }
@@ -200,23 +205,26 @@ fn is_within(wanted: &[Rec], piece: &[Rec]) -> bool
     }
 }
 
-/// Adds the places, counted from `at` on, of those pieces that lie within these records.
-fn add_places(
+/// The places, counted from `at` on, of those pieces that lie within these records.
+fn places_from(
+    alloc: Global,
     at: u64,
     wanted: &[Rec],
     pieces: &[Items<Rec>],
-    found: &mut Items<u64>,
-) -> Result<(), AllocError>
+) -> Result<Items<u64>, AllocError>
     requires { at + length pieces.now < 2 ^ 64 }
-    ensures { OnOk result (found.new ≡ found.old ++ places_within at wanted.now pieces.now) }
+    ensures { IfOk result (λ places. places ≡ places_within at wanted.now pieces.now) }
 {
     match pieces {
-        [] => Ok(()),
-        [piece, rest @ ..] if is_within(wanted, piece.as_slice()) => {
-            found.push(at)?;
-            add_places(at + 1, wanted, rest, found)
+        [] => Ok(Items::new(alloc)),
+        [piece, rest @ ..] => {
+            let later = places_from(alloc, at + 1, wanted, rest)?;
+            if is_within(wanted, piece.as_slice()) {
+                onto(alloc, at, later)
+            } else {
+                Ok(later)
+            }
         }
-        [_, rest @ ..] => add_places(at + 1, wanted, rest, found),
     }
 }
 
@@ -228,29 +236,10 @@ fn places_within(
 ) -> Result<Items<u64>, AllocError>
     ensures { IfOk result (λ places. places ≡ places_within 0 wanted.now pieces.now) }
 {
-    let mut found = Items::new(alloc);
     let count = pieces.len();
-    add_places(0, wanted, pieces, &mut found)?;
+    let found = places_from(alloc, 0, wanted, pieces)?;
     prove!(count == pieces.len());
     Ok(found)
-}
-
-/// Adds copies of the pieces at these places; of none where there is no piece.
-fn add_pieces_at(
-    alloc: Global,
-    pieces: &[Items<Rec>],
-    places: &[u64],
-    found: &mut Items<Items<Rec>>,
-) -> Result<(), AllocError>
-    ensures { OnOk result (found.new ≡ found.old ++ map (λ place. slice_index_or pieces.now place []) places.now) }
-{
-    match places {
-        [] => Ok(()),
-        [place, rest @ ..] => {
-            found.push(copies_of(alloc, piece_at(pieces, *place))?)?;
-            add_pieces_at(alloc, pieces, rest, found)
-        }
-    }
 }
 
 /// The piece at a place; an empty one where there is none.
@@ -271,9 +260,13 @@ pub fn pieces_at(
 ) -> Result<Items<Items<Rec>>, AllocError>
     ensures { IfOk result (λ found. found ≡ pieces_at pieces.now places.now) }
 {
-    let mut found = Items::new(alloc);
-    add_pieces_at(alloc, pieces, places, &mut found)?;
-    Ok(found)
+    match places {
+        [] => Ok(Items::new(alloc)),
+        [place, rest @ ..] => {
+            let later = pieces_at(alloc, pieces, rest)?;
+            onto(alloc, copies_of(alloc, piece_at(pieces, *place))?, later)
+        }
+    }
 }
 
 /// How many records the pieces at these places have.
@@ -281,9 +274,43 @@ fn records_at(alloc: Global, pieces: &[Items<Rec>], places: &[u64]) -> Result<u6
     ensures { IfOk result (λ count. count ≡ length (joined (pieces_at pieces.now places.now))) }
 {
     let found = pieces_at(alloc, pieces, places)?;
-    let mut all = Items::new(alloc);
-    add_pieces(alloc, found.as_slice(), &mut all)?;
+    let all = joined(alloc, found.as_slice())?;
     Ok(all.len() as u64)
+}
+
+/// The partition that a target of these versions takes its pieces from; 0 for none.
+fn source_for(
+    alloc: Global,
+    set: &Dataset,
+    wanted: &[Rec],
+    versions: &[u32],
+    later: &[Items<u32>],
+) -> Result<u32, AllocError>
+    ensures { IfOk result (λ source. source ≡ source_of (length wanted.now) (cheapest wanted.now versions.now later.now set.now.parts)) }
+{
+    let best = cheapest(alloc, wanted, versions, later, set.parts.as_slice())?;
+    Ok(source_of(wanted.len() as u128, best))
+}
+
+/// The target of these versions, which keeps those pieces of its source that lie within these records.
+fn target_from(
+    alloc: Global,
+    versions: &[u32],
+    wanted: &[Rec],
+    source: u32,
+    pieces: &[Items<Rec>],
+) -> Result<Target, AllocError>
+    ensures { IfOk result (λ target. target ≡ record { versions = versions.now; source = source; kept = places_within 0 wanted.now pieces.now; kept_records = length (joined (pieces_at pieces.now (places_within 0 wanted.now pieces.now))) }) }
+{
+    let versions = Items::from_slice(alloc, versions)?;
+    let kept = places_within(alloc, wanted, pieces)?;
+    let kept_records = records_at(alloc, pieces, kept.as_slice())?;
+    Ok(Target {
+        versions,
+        source,
+        kept,
+        kept_records,
+    })
 }
 
 /// The target of these versions; `later` are those behind it.
@@ -296,30 +323,30 @@ fn target_of(
     requires { length set.now.cvd.versions ≤ 65535 }
     ensures { IfOk result (λ target. target ≡ target_of set.now versions.now later.now) }
 {
-    let wanted = records_in(alloc, set.cvd(), versions)?;
-    let best = cheapest(alloc, wanted.as_slice(), versions, later, set.parts())?;
-    let source = source_of(wanted.len() as u128, best);
-    let pieces = pieces_of(set.parts(), source);
-    let kept = places_within(alloc, wanted.as_slice(), pieces)?;
-    let count = records_at(alloc, pieces, kept.as_slice())?;
-    Ok(Target::new(Items::from_slice(alloc, versions)?, source, kept, count))
+    let wanted = records_in(alloc, &set.cvd, versions)?;
+    let source = source_for(alloc, set, wanted.as_slice(), versions, later)?;
+    let pieces = pieces_of(set.parts.as_slice(), source);
+    target_from(alloc, versions, wanted.as_slice(), source, pieces)
 }
 
-/// Adds the targets of these lists of versions.
-fn add_targets(
+/// The targets of these lists of versions.
+fn targets_of(
     alloc: Global,
     set: &Dataset,
     lists: &[Items<u32>],
-    found: &mut Items<Target>,
-) -> Result<(), AllocError>
+) -> Result<Items<Target>, AllocError>
     requires { length set.now.cvd.versions ≤ 65535 }
-    ensures { OnOk result (found.new ≡ found.old ++ targets_of set.now lists.now) }
+    ensures { IfOk result (λ targets. targets ≡ targets_of set.now lists.now) }
 {
     match lists {
-        [] => Ok(()),
-        [versions, later @ ..] => {
-            found.push(target_of(alloc, set, versions.as_slice(), later)?)?;
-            add_targets(alloc, set, later, found)
+        [] => Ok(Items::new(alloc)),
+        [versions, behind @ ..] => {
+            let later = targets_of(alloc, set, behind)?;
+            onto(
+                alloc,
+                target_of(alloc, set, versions.as_slice(), behind)?,
+                later,
+            )
         }
     }
 }
@@ -330,9 +357,7 @@ fn all_targets(alloc: Global, set: &Dataset, p: u32, q: u32) -> Result<Items<Tar
     ensures { IfOk result (λ targets. targets ≡ targets_of set.now (parts_at set.now p q)) }
 {
     let parts = parts_at(alloc, set, p, q)?;
-    let mut targets = Items::new(alloc);
-    add_targets(alloc, set, parts.as_slice(), &mut targets)?;
-    Ok(targets)
+    targets_of(alloc, set, parts.as_slice())
 }
 
 /// The dataset when a plan at the threshold p/q has begun, whose targets are the parts of the split of all versions.
@@ -341,18 +366,15 @@ pub fn planned(alloc: Global, p: u32, q: u32, set: Dataset) -> Result<Dataset, A
     ensures { IfOk result (λ begun. begun ≡ planned p q set) }
 {
     let targets = all_targets(alloc, &set, p, q)?;
-    let Pieces {
-        cvd,
-        parts,
-        next_part,
-        threshold: _threshold,
-        plan: _plan,
-    } = set.into_pieces();
-    Ok(Dataset::new(Pieces {
-        cvd,
-        parts,
-        next_part,
+    Ok(Dataset {
         threshold: Some((p, q)),
-        plan: Some(Plan::new(p, q, targets, 0, Items::new(alloc))),
-    }))
+        plan: Some(Plan {
+            p,
+            q,
+            targets,
+            at: 0,
+            copied: Items::new(alloc),
+        }),
+        ..set
+    })
 }

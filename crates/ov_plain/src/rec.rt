@@ -1,19 +1,19 @@
 //! Records and versions, as the definitions have them.
 
-ghost use Rattle.std.specs.Prelude.{◌≡◌, IfOk};
+ghost use Rattle.std.specs.Prelude.{◌≡◌};
 ghost use Rattle.ov_model.specs.Records.{is_same_rec};
 
-use crate::merge::add_rows;
+use crate::copies::Copies;
 use ov_value::{Row, Txt};
 use sqlite_items::Items;
 use std::alloc::{AllocError, Global};
 use std::marker::Model;
 
 /// A row, with the version that first had it among those that it came down from.
-#[derive(Debug, Drop)]
+#[derive(Drop)]
 pub struct Rec {
-    origin: u32,
-    row: Row,
+    pub origin: u32,
+    pub row: Row,
 }
 
 impl Model for Rec {
@@ -24,39 +24,16 @@ impl Model for Rec {
     ghost view = { λ r. record { origin = r.origin; row = r.row } };
 }
 
-impl Rec {
-    /// The record of a row that a version had first.
-    pub fn new(origin: u32, row: Row) -> Rec
-        ensures { result ≡ record { origin = origin; row = row } }
-    {
-        Rec { origin, row }
-    }
-
-    /// The version that first had the row.
-    pub fn origin(&self) -> u32
-        ensures { result ≡ self.now.origin }
-    {
-        self.origin
-    }
-
-    /// The row.
-    pub fn row(&self) -> &Row
-        ensures { result.now ≡ self.now.row }
-    {
-        &self.row
-    }
-
-    /// A copy of it.
-    pub fn copy(&self, alloc: Global) -> Result<Rec, AllocError>
-        ensures { IfOk result (λ made. made ≡ self.now) }
-    {
-        let row = self.row.copy(alloc)?;
+impl Copies for Rec {
+    fn copied(&self, alloc: Global) -> Result<Rec, AllocError> {
         Ok(Rec {
             origin: self.origin,
-            row,
+            row: self.row.copy(alloc)?,
         })
     }
+}
 
+impl Rec {
     /// Whether both are one record: an equal row of one origin.
     pub fn is_same(&self, other: &Rec) -> bool
         ensures { result ≡ is_same_rec self.now other.now }
@@ -66,11 +43,11 @@ impl Rec {
 }
 
 /// A version: its parents in the order in which they were listed, its message, and its rows in key order.
-#[derive(Debug, Drop)]
+#[derive(Drop)]
 pub struct Version {
-    parents: Items<u32>,
-    message: Txt,
-    rows: Items<Row>,
+    pub parents: Items<u32>,
+    pub message: Txt,
+    pub rows: Items<Row>,
 }
 
 impl Model for Version {
@@ -81,51 +58,15 @@ impl Model for Version {
     ghost view = { λ v. record { parents = v.parents; message = v.message; rows = v.rows } };
 }
 
-impl Version {
-    /// A version of these parents, message and rows.
-    pub fn new(parents: Items<u32>, message: Txt, rows: Items<Row>) -> Version
-        ensures { result ≡ record { parents = parents; message = message; rows = rows } }
-    {
-        Version {
-            parents,
-            message,
-            rows,
-        }
-    }
-
-    /// A copy of it.
-    pub fn copy(&self, alloc: Global) -> Result<Version, AllocError>
-        ensures { IfOk result (λ made. made ≡ self.now) }
-    {
+impl Copies for Version {
+    fn copied(&self, alloc: Global) -> Result<Version, AllocError> {
         let parents = Items::from_slice(alloc, self.parents.as_slice())?;
         let message = self.message.copy(alloc)?;
-        let mut rows = Items::new(alloc);
-        add_rows(alloc, self.rows.as_slice(), &mut rows)?;
+        let rows = self.rows.copied(alloc)?;
         Ok(Version {
             parents,
             message,
             rows,
         })
-    }
-
-    /// Its parents, in the order in which they were listed.
-    pub fn parents(&self) -> &[u32]
-        ensures { result.now ≡ self.now.parents }
-    {
-        self.parents.as_slice()
-    }
-
-    /// Its message.
-    pub fn message(&self) -> &Txt
-        ensures { result.now ≡ self.now.message }
-    {
-        &self.message
-    }
-
-    /// Its rows.
-    pub fn rows(&self) -> &[Row]
-        ensures { result.now ≡ self.now.rows }
-    {
-        self.rows.as_slice()
     }
 }

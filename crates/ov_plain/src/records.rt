@@ -1,9 +1,10 @@
 //! Which rows of a dataset's versions are one record, and the numbers of records.
 
-ghost use Rattle.std.specs.Prelude.{◌≡◌, ◌+◌, ◌++◌, ◌≤◌, ◌<◌, [], ◌∷◌, length, map, IfOk, OnOk};
+ghost use Rattle.std.specs.Prelude.{◌≡◌, ◌+◌, ◌++◌, ◌≤◌, ◌<◌, [], ◌∷◌, length, map, IfOk};
 ghost use Rattle.ov_model.specs.Lists.{joined};
 ghost use Rattle.ov_model.specs.Records.{origin_in, of_version, origin_by, record_of, records_of, recs, fresh_in, order, order_of, rid_in, weight, is_among, in_order, ordered_records, lacking, weights};
 
+use crate::copies::{Copies, both, copies_of, onto, onto_if, with_last};
 use crate::rec::{Rec, Version};
 use ov_value::Row;
 use sqlite_items::Items;
@@ -16,8 +17,8 @@ fn origin_in(recs: &[Rec], row: &Row) -> Option<u32>
     match recs {
         [] => None,
         [first, rest @ ..] => {
-            if *row == *first.row() {
-                Some(first.origin())
+            if *row == first.row {
+                Some(first.origin)
             } else {
                 origin_in(rest, row)
             }
@@ -61,28 +62,33 @@ fn record_of(
     let own = done.len() as u32 + 1;
     let row_copy = row.copy(alloc)?;
     match origin_by(parents, done, row) {
-        None => Ok(Rec::new(own, row_copy)),
-        Some(origin) => Ok(Rec::new(origin, row_copy)),
+        None => Ok(Rec {
+            origin: own,
+            row: row_copy,
+        }),
+        Some(origin) => Ok(Rec {
+            origin,
+            row: row_copy,
+        }),
     }
 }
 
-/// Adds the records of these rows of the next version.
-fn add_records(
+/// The records of these rows of the next version.
+fn records_from(
     alloc: Global,
     parents: &[u32],
     done: &[Items<Rec>],
     rows: &[Row],
-    found: &mut Items<Rec>,
-) -> Result<(), AllocError>
+) -> Result<Items<Rec>, AllocError>
     requires { length done.now < 65535 }
-    ensures is { OnOk result (found.new ≡ found.old ++ map (record_of parents.now done.now) rows.now) }
-    ensures count { OnOk result (length found.new ≡ length found.old + length rows.now) }
+    ensures is { IfOk result (λ found. found ≡ map (record_of parents.now done.now) rows.now) }
+    ensures count { IfOk result (λ found. length found ≡ length rows.now) }
 {
     match rows {
-        [] => Ok(()),
+        [] => Ok(Items::new(alloc)),
         [row, rest @ ..] => {
-            found.push(record_of(alloc, parents, done, row)?)?;
-            add_records(alloc, parents, done, rest, found)
+            let later = records_from(alloc, parents, done, rest)?;
+            onto(alloc, record_of(alloc, parents, done, row)?, later)
         }
     }
 }
@@ -97,16 +103,19 @@ pub fn records_of(
     ensures is { IfOk result (λ found. found ≡ records_of version.now done.now) }
     ensures count { IfOk result (λ found. length found ≡ length version.now.rows) }
 {
-    let mut found = Items::new(alloc);
-    add_records(alloc, version.parents(), done, version.rows(), &mut found)?;
-    Ok(found)
+    records_from(
+        alloc,
+        version.parents.as_slice(),
+        done,
+        version.rows.as_slice(),
+    )
 }
 
 /// The records of each version, in order, after those of the versions before; at most 65,535 versions in all.
 pub fn recs(
     alloc: Global,
     versions: &[Version],
-    mut done: Items<Items<Rec>>,
+    done: Items<Items<Rec>>,
 ) -> Result<Items<Items<Rec>>, AllocError>
     requires { length done + length versions.now ≤ 65535 }
     ensures is { IfOk result (λ all. all ≡ recs versions.now done) }
@@ -116,46 +125,48 @@ pub fn recs(
         [] => Ok(done),
         [version, rest @ ..] => {
             let own = records_of(alloc, version, done.as_slice())?;
-            done.push(own)?;
-            recs(alloc, rest, done)
+            recs(alloc, rest, with_last(done, own)?)
         }
     }
 }
 
-/// Adds those of one origin.
-fn add_fresh(
+/// The records of the version that comes behind these, in the order of its rows.
+pub fn own_records(
     alloc: Global,
-    recs: &[Rec],
-    origin: u32,
-    found: &mut Items<Rec>,
-) -> Result<(), AllocError>
-    ensures { OnOk result (found.new ≡ found.old ++ fresh_in recs.now origin) }
+    versions: &[Version],
+    version: &Version,
+) -> Result<Items<Rec>, AllocError>
+    requires { length versions.now < 65535 }
+    ensures is { IfOk result (λ own. own ≡ records_of version.now (recs versions.now [])) }
+    ensures count { IfOk result (λ own. length own ≡ length version.now.rows) }
+{
+    let done = recs(alloc, versions, Items::new(alloc))?;
+    records_of(alloc, version, done.as_slice())
+}
+
+/// Those of one origin.
+pub fn fresh_in(alloc: Global, recs: &[Rec], origin: u32) -> Result<Items<Rec>, AllocError>
+    ensures { IfOk result (λ found. found ≡ fresh_in recs.now origin) }
 {
     match recs {
-        [] => Ok(()),
-        [first, rest @ ..] if first.origin() == origin => {
-            found.push(first.copy(alloc)?)?;
-            add_fresh(alloc, rest, origin, found)
+        [] => Ok(Items::new(alloc)),
+        [first, rest @ ..] => {
+            let later = fresh_in(alloc, rest, origin)?;
+            onto_if(alloc, first.origin == origin, first, later)
         }
-        [_, rest @ ..] => add_fresh(alloc, rest, origin, found),
     }
 }
 
-/// Adds the fresh records of each version, in order; `n` is the first version's number.
-fn add_order(
-    alloc: Global,
-    versions: &[Items<Rec>],
-    n: u32,
-    found: &mut Items<Rec>,
-) -> Result<(), AllocError>
+/// The fresh records of each version, in order; `n` is the first version's number.
+fn order(alloc: Global, versions: &[Items<Rec>], n: u32) -> Result<Items<Rec>, AllocError>
     requires { n + length versions.now ≤ 65536 }
-    ensures { OnOk result (found.new ≡ found.old ++ order versions.now n) }
+    ensures { IfOk result (λ found. found ≡ order versions.now n) }
 {
     match versions {
-        [] => Ok(()),
+        [] => Ok(Items::new(alloc)),
         [first, rest @ ..] => {
-            add_fresh(alloc, first.as_slice(), n, found)?;
-            add_order(alloc, rest, n + 1, found)
+            let later = order(alloc, rest, n + 1)?;
+            both(fresh_in(alloc, first.as_slice(), n)?, later)
         }
     }
 }
@@ -166,28 +177,33 @@ pub fn order_of(alloc: Global, versions: &[Version]) -> Result<Items<Rec>, Alloc
     ensures { IfOk result (λ all. all ≡ order_of versions.now) }
 {
     let each = recs(alloc, versions, Items::new(alloc))?;
-    let mut found = Items::new(alloc);
-    add_order(alloc, each.as_slice(), 1, &mut found)?;
-    Ok(found)
+    order(alloc, each.as_slice(), 1)
 }
 
-/// Adds those of all that are among these, in the order of all.
-fn add_in_order(
-    alloc: Global,
-    all: &[Rec],
-    recs: &[Rec],
-    found: &mut Items<Rec>,
-) -> Result<(), AllocError>
-    ensures { OnOk result (found.new ≡ found.old ++ in_order all.now recs.now) }
+/// Those of all that are among these, in the order of all.
+fn in_order(alloc: Global, all: &[Rec], recs: &[Rec]) -> Result<Items<Rec>, AllocError>
+    ensures { IfOk result (λ found. found ≡ in_order all.now recs.now) }
 {
     match all {
-        [] => Ok(()),
-        [first, rest @ ..] if is_among(recs, first) => {
-            found.push(first.copy(alloc)?)?;
-            add_in_order(alloc, rest, recs, found)
+        [] => Ok(Items::new(alloc)),
+        [first, rest @ ..] => {
+            let later = in_order(alloc, rest, recs)?;
+            onto_if(alloc, is_among(recs, first), first, later)
         }
-        [_, rest @ ..] => add_in_order(alloc, rest, recs, found),
     }
+}
+
+/// All records with those of one version more.
+fn order_with(
+    alloc: Global,
+    versions: &[Version],
+    version: &Version,
+) -> Result<Items<Rec>, AllocError>
+    requires { length versions.now < 65535 }
+    ensures { IfOk result (λ all. all ≡ order_of (versions.now ++ version.now ∷ [])) }
+{
+    let all = with_last(copies_of(alloc, versions)?, version.copied(alloc)?)?;
+    order_of(alloc, all.as_slice())
 }
 
 /// The records of the version that comes behind these, in the order of their rids.
@@ -199,14 +215,9 @@ pub fn ordered_records(
     requires { length versions.now < 65535 }
     ensures { IfOk result (λ found. found ≡ ordered_records versions.now version.now) }
 {
-    let mut done = recs(alloc, versions, Items::new(alloc))?;
-    let own = records_of(alloc, version, done.as_slice())?;
-    done.push(copies_of(alloc, own.as_slice())?)?;
-    let mut all = Items::new(alloc);
-    add_order(alloc, done.as_slice(), 1, &mut all)?;
-    let mut found = Items::new(alloc);
-    add_in_order(alloc, all.as_slice(), own.as_slice(), &mut found)?;
-    Ok(found)
+    let all = order_with(alloc, versions, version)?;
+    let own = own_records(alloc, versions, version)?;
+    in_order(alloc, all.as_slice(), own.as_slice())
 }
 
 /// A record's place among these, from 1; one past the last where it isn't there.
@@ -255,32 +266,17 @@ pub fn weight(a: &[Rec], b: &[Rec]) -> u32
     }
 }
 
-/// Adds those that aren't among the others.
-fn add_lacking(
-    alloc: Global,
-    recs: &[Rec],
-    others: &[Rec],
-    found: &mut Items<Rec>,
-) -> Result<(), AllocError>
-    ensures { OnOk result (found.new ≡ found.old ++ lacking recs.now others.now) }
-{
-    match recs {
-        [] => Ok(()),
-        [first, rest @ ..] if is_among(others, first) => { add_lacking(alloc, rest, others, found) }
-        [first, rest @ ..] => {
-            found.push(first.copy(alloc)?)?;
-            add_lacking(alloc, rest, others, found)
-        }
-    }
-}
-
 /// Those that aren't among the others.
 pub fn lacking(alloc: Global, recs: &[Rec], others: &[Rec]) -> Result<Items<Rec>, AllocError>
     ensures { IfOk result (λ found. found ≡ lacking recs.now others.now) }
 {
-    let mut found = Items::new(alloc);
-    add_lacking(alloc, recs, others, &mut found)?;
-    Ok(found)
+    match recs {
+        [] => Ok(Items::new(alloc)),
+        [first, rest @ ..] => {
+            let later = lacking(alloc, rest, others)?;
+            onto_if(alloc, !is_among(others, first), first, later)
+        }
+    }
 }
 
 /// A parent with the weight of its edge.
@@ -289,25 +285,6 @@ fn edge_to(parent: u32, recs: &[Rec], done: &[Items<Rec>]) -> (u32, u32)
     ensures { result ≡ (parent, weight recs.now (of_version done.now parent)) }
 {
     (parent, weight(recs, of_version(done, parent)))
-}
-
-/// Adds the parents with the weights of their edges, in the order in which they were listed.
-fn add_weights(
-    parents: &[u32],
-    recs: &[Rec],
-    done: &[Items<Rec>],
-    found: &mut Items<(u32, u32)>,
-) -> Result<(), AllocError>
-    requires { length recs.now < 4294967295 }
-    ensures { OnOk result (found.new ≡ found.old ++ weights parents.now recs.now done.now) }
-{
-    match parents {
-        [] => Ok(()),
-        [parent, rest @ ..] => {
-            found.push(edge_to(*parent, recs, done))?;
-            add_weights(rest, recs, done, found)
-        }
-    }
 }
 
 /// The parents with the weights of their edges, in the order in which they were listed.
@@ -320,75 +297,24 @@ pub fn weights(
     requires { length recs.now < 4294967295 }
     ensures { IfOk result (λ found. found ≡ weights parents.now recs.now done.now) }
 {
-    let mut found = Items::new(alloc);
-    add_weights(parents, recs, done, &mut found)?;
-    Ok(found)
-}
-
-/// Copies of these records.
-pub fn copies_of(alloc: Global, recs: &[Rec]) -> Result<Items<Rec>, AllocError>
-    ensures { IfOk result (λ copies. copies ≡ recs.now) }
-{
-    let mut copies = Items::new(alloc);
-    add_copies(alloc, recs, &mut copies)?;
-    Ok(copies)
-}
-
-/// Adds copies of these records.
-pub fn add_copies(alloc: Global, recs: &[Rec], found: &mut Items<Rec>) -> Result<(), AllocError>
-    ensures { OnOk result (found.new ≡ found.old ++ recs.now) }
-{
-    match recs {
-        [] => Ok(()),
-        [first, rest @ ..] => {
-            found.push(first.copy(alloc)?)?;
-            add_copies(alloc, rest, found)
+    match parents {
+        [] => Ok(Items::new(alloc)),
+        [parent, rest @ ..] => {
+            let later = weights(alloc, rest, recs, done)?;
+            onto(alloc, edge_to(*parent, recs, done), later)
         }
     }
 }
 
-/// Adds the records of these pieces, one piece after another.
-pub fn add_pieces(
-    alloc: Global,
-    pieces: &[Items<Rec>],
-    found: &mut Items<Rec>,
-) -> Result<(), AllocError>
-    ensures { OnOk result (found.new ≡ found.old ++ joined pieces.now) }
+/// The records of these pieces, one piece after another.
+pub fn joined(alloc: Global, pieces: &[Items<Rec>]) -> Result<Items<Rec>, AllocError>
+    ensures { IfOk result (λ all. all ≡ joined pieces.now) }
 {
     match pieces {
-        [] => Ok(()),
+        [] => Ok(Items::new(alloc)),
         [piece, rest @ ..] => {
-            add_copies(alloc, piece.as_slice(), found)?;
-            add_pieces(alloc, rest, found)
+            let later = joined(alloc, rest)?;
+            both(piece.copied(alloc)?, later)
         }
     }
-}
-
-/// Adds copies of these pieces.
-pub fn add_copies_of_pieces(
-    alloc: Global,
-    pieces: &[Items<Rec>],
-    found: &mut Items<Items<Rec>>,
-) -> Result<(), AllocError>
-    ensures { OnOk result (found.new ≡ found.old ++ pieces.now) }
-{
-    match pieces {
-        [] => Ok(()),
-        [piece, rest @ ..] => {
-            found.push(copies_of(alloc, piece.as_slice())?)?;
-            add_copies_of_pieces(alloc, rest, found)
-        }
-    }
-}
-
-/// Copies of these pieces.
-pub fn copies_of_pieces(
-    alloc: Global,
-    pieces: &[Items<Rec>],
-) -> Result<Items<Items<Rec>>, AllocError>
-    ensures { IfOk result (λ copies. copies ≡ pieces.now) }
-{
-    let mut copies = Items::new(alloc);
-    add_copies_of_pieces(alloc, pieces, &mut copies)?;
-    Ok(copies)
 }

@@ -7,8 +7,7 @@ ghost use Rattle.ov_plain.specs.Small.{ServeFew};
 
 use crate::dataset::{Dataset, Part, Plan};
 use crate::plans::held;
-use crate::records::add_pieces;
-use sqlite_items::Items;
+use crate::records::joined;
 use std::alloc::{AllocError, Global};
 
 /// The records of a partition.
@@ -44,8 +43,7 @@ fn copied_records(alloc: Global, plan: &Option<Plan>) -> Result<u128, AllocError
     match plan {
         None => Ok(0),
         Some(plan) => {
-            let mut all = Items::new(alloc);
-            add_pieces(alloc, plan.copied(), &mut all)?;
+            let all = joined(alloc, plan.copied.as_slice())?;
             Ok(all.len() as u128)
         }
     }
@@ -56,7 +54,7 @@ pub fn stored(alloc: Global, set: &Dataset) -> Result<u128, AllocError>
     requires { length set.now.parts ≤ 65535 }
     ensures { IfOk result (λ all. all ≡ stored set.now) }
 {
-    Ok(stored_in(alloc, set.parts())? + copied_records(alloc, set.plan())?)
+    Ok(stored_in(alloc, set.parts.as_slice())? + copied_records(alloc, &set.plan)?)
 }
 
 /// A number of versions times one of records.
@@ -79,7 +77,7 @@ fn cost_of(alloc: Global, parts: &[Part]) -> Result<u128, AllocError>
     match parts {
         [] => Ok(0),
         [part, rest @ ..] => {
-            let own = read_by(part.versions().len(), count_of(alloc, part)?);
+            let own = read_by(part.versions.len(), count_of(alloc, part)?);
             let others = cost_of(alloc, rest)?;
             Ok(own + others)
         }
@@ -92,5 +90,5 @@ pub fn cost(alloc: Global, set: &Dataset) -> Result<u128, AllocError>
     requires serve { ServeFew set.now.parts }
     ensures { IfOk result (λ all. all ≡ cost set.now) }
 {
-    cost_of(alloc, set.parts())
+    cost_of(alloc, set.parts.as_slice())
 }

@@ -2,27 +2,9 @@
 
 ghost use Rattle.std.specs.Prelude.{◌<◌, ◌≤◌, length, IfSome};
 ghost use Rattle.std.specs.Bool.{OnTrue};
-ghost use Rattle.ov_plain.specs.Small.{HaveFewRows, IsSmall, ServeFew};
+ghost use Rattle.ov_plain.specs.Small.{ServeFew};
 
-use crate::dataset::{Cvd, Part, Plan};
-use crate::rec::Version;
-
-/// Whether each version has fewer than 2^32 - 1 rows.
-fn have_few_rows(versions: &[Version]) -> bool
-    ensures { OnTrue result (HaveFewRows versions.now) }
-{
-    match versions {
-        [] => true,
-        [version, rest @ ..] => version.rows().len() < 4_294_967_295 && have_few_rows(rest),
-    }
-}
-
-/// Whether there are at most 65,535 versions, of fewer than 2^32 - 1 rows each.
-pub fn is_small(cvd: &Cvd) -> bool
-    ensures { OnTrue result (IsSmall cvd.now) }
-{
-    cvd.versions().len() <= 65_535 && have_few_rows(cvd.versions())
-}
+use crate::dataset::{Part, Plan};
 
 /// Whether each partition serves at most 65,535 versions.
 pub fn serve_few(parts: &[Part]) -> bool
@@ -30,7 +12,7 @@ pub fn serve_few(parts: &[Part]) -> bool
 {
     match parts {
         [] => true,
-        [part, rest @ ..] => part.versions().len() <= 65_535 && serve_few(rest),
+        [part, rest @ ..] => part.versions.len() <= 65_535 && serve_few(rest),
     }
 }
 
@@ -41,6 +23,6 @@ pub fn is_small_plan(plan: &Option<Plan>) -> bool
 {
     match plan {
         None => true,
-        Some(plan) => plan.at() < 65_535 && plan.targets().len() <= 65_535,
+        Some(plan) => plan.at < 65_535 && plan.targets.len() <= 65_535,
     }
 }

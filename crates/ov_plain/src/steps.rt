@@ -1,14 +1,15 @@
 //! The steps of a running plan: copies and flips.
 
-ghost use Rattle.std.specs.Prelude.{◌≡◌, ◌==◌, ◌+◌, ◌++◌, ◌≤◌, ◌<◌, ◌*◌, ◌^◌, [], ◌∷◌, filter, length, map, not, take, slice_index_or, IfOk, OnOk, IfSome};
+ghost use Rattle.std.specs.Prelude.{◌≡◌, ◌==◌, ◌+◌, ◌++◌, ◌≤◌, ◌<◌, ◌*◌, ◌^◌, [], ◌∷◌, filter, length, map, not, take, IfOk, IfSome};
 ghost use Rattle.ov_model.specs.Lists.{joined};
 ghost use Rattle.ov_model.specs.Plans.{pieces_of, kept_pieces, missing_of, current, missing, copied_for, copied_more, leaving, left_parts, target_part, next_target, flipped_by, flipped, steps_for, target_steps, plan_steps_of, plan_steps};
 ghost use Rattle.ov_model.specs.World.{is_one, targets_from};
 
-use crate::dataset::{Dataset, Part, Pieces, Plan, Target};
+use crate::copies::{Copies, both, onto, with_first, with_last};
+use crate::dataset::{Dataset, Part, Plan, Target};
 use crate::plans::{is_one, pieces_at, pieces_of, records_in};
 use crate::rec::Rec;
-use crate::records::{add_copies_of_pieces, add_pieces, copies_of_pieces, lacking};
+use crate::records::{joined, lacking};
 use sqlite_items::Items;
 use std::alloc::{AllocError, Global};
 
@@ -22,8 +23,8 @@ pub fn kept_pieces(
 {
     pieces_at(
         alloc,
-        pieces_of(set.parts(), target.source()),
-        target.kept(),
+        pieces_of(set.parts.as_slice(), target.source),
+        target.kept.as_slice(),
     )
 }
 
@@ -37,10 +38,8 @@ fn there_already(
     ensures { IfOk result (λ there. there ≡ joined (kept_pieces set.now target.now) ++ joined copied.now) }
 {
     let kept = kept_pieces(alloc, set, target)?;
-    let mut there = Items::new(alloc);
-    add_pieces(alloc, kept.as_slice(), &mut there)?;
-    add_pieces(alloc, copied, &mut there)?;
-    Ok(there)
+    let there = joined(alloc, kept.as_slice())?;
+    both(there, joined(alloc, copied)?)
 }
 
 /// The records of a target that are in no kept piece and not among those that were copied for it.
@@ -53,7 +52,7 @@ pub fn missing_of(
     requires { length set.now.cvd.versions ≤ 65535 }
     ensures { IfOk result (λ found. found ≡ missing_of set.now target.now copied.now) }
 {
-    let wanted = records_in(alloc, set.cvd(), target.versions())?;
+    let wanted = records_in(alloc, &set.cvd, target.versions.as_slice())?;
     let there = there_already(alloc, set, target, copied)?;
     lacking(alloc, wanted.as_slice(), there.as_slice())
 }
@@ -62,9 +61,14 @@ pub fn missing_of(
 pub fn current(alloc: Global, plan: &Plan) -> Result<Target, AllocError>
     ensures { IfOk result (λ target. target ≡ current plan.now) }
 {
-    match plan.targets().get(plan.at() as usize) {
-        None => Ok(Target::new(Items::new(alloc), 0, Items::new(alloc), 0)),
-        Some(target) => target.copy(alloc),
+    match plan.targets.as_slice().get(plan.at as usize) {
+        None => Ok(Target {
+            versions: Items::new(alloc),
+            source: 0,
+            kept: Items::new(alloc),
+            kept_records: 0,
+        }),
+        Some(target) => target.copied(alloc),
     }
 }
 
@@ -74,7 +78,7 @@ pub fn missing(alloc: Global, set: &Dataset, plan: &Plan) -> Result<Items<Rec>, 
     ensures { IfOk result (λ found. found ≡ missing set.now plan.now) }
 {
     let target = current(alloc, plan)?;
-    missing_of(alloc, set, &target, plan.copied())
+    missing_of(alloc, set, &target, plan.copied.as_slice())
 }
 
 /// Whether the current target misses no record, so that the next step is its flip.
@@ -86,21 +90,16 @@ pub fn is_complete(alloc: Global, set: &Dataset, plan: &Plan) -> Result<bool, Al
     Ok(left.len() == 0)
 }
 
-/// Adds the first so many of these records, or all of them.
-fn add_first(
-    alloc: Global,
-    count: u32,
-    recs: &[Rec],
-    found: &mut Items<Rec>,
-) -> Result<(), AllocError>
-    ensures { OnOk result (found.new ≡ found.old ++ take count recs.now) }
+/// The first so many of these records, or all of them.
+fn first_of(alloc: Global, count: u32, recs: &[Rec]) -> Result<Items<Rec>, AllocError>
+    ensures { IfOk result (λ found. found ≡ take count recs.now) }
 {
     match recs {
         [first, rest @ ..] if 0 < count => {
-            found.push(first.copy(alloc)?)?;
-            add_first(alloc, count - 1, rest, found)
+            let later = first_of(alloc, count - 1, rest)?;
+            with_first(alloc, first, later)
         }
-        _ => Ok(()),
+        _ => Ok(Items::new(alloc)),
     }
 }
 
@@ -110,9 +109,16 @@ fn next_piece(alloc: Global, set: &Dataset, plan: &Plan) -> Result<Items<Rec>, A
     ensures { IfOk result (λ piece. piece ≡ take 256 (missing set.now plan.now)) }
 {
     let all = missing(alloc, set, plan)?;
-    let mut piece = Items::new(alloc);
-    add_first(alloc, 256, all.as_slice(), &mut piece)?;
-    Ok(piece)
+    first_of(alloc, 256, all.as_slice())
+}
+
+/// A plan with one copied piece more.
+fn with_copied(alloc: Global, plan: &Plan, piece: Items<Rec>) -> Result<Plan, AllocError>
+    ensures { IfOk result (λ after. after ≡ record plan.now { copied = plan.now.copied ++ piece ∷ [] }) }
+{
+    let mut after = plan.copied(alloc)?;
+    after.copied.push(piece)?;
+    Ok(after)
 }
 
 /// The plan after a copy.
@@ -120,11 +126,11 @@ fn copied_for(alloc: Global, set: &Dataset) -> Result<Option<Plan>, AllocError>
     requires { length set.now.cvd.versions ≤ 65535 }
     ensures { IfOk result (λ after. after ≡ copied_for set.now set.now.plan) }
 {
-    match set.plan() {
+    match &set.plan {
         None => Ok(None),
         Some(plan) => {
             let piece = next_piece(alloc, set, plan)?;
-            Ok(Some(plan.with_copied(alloc, piece)?))
+            Ok(Some(with_copied(alloc, plan, piece)?))
         }
     }
 }
@@ -135,32 +141,22 @@ pub fn copied_more(alloc: Global, set: Dataset) -> Result<Dataset, AllocError>
     ensures { IfOk result (λ after. after ≡ copied_more set) }
 {
     let plan = copied_for(alloc, &set)?;
-    let Pieces {
-        cvd,
-        parts,
-        next_part,
-        threshold,
-        plan: _plan,
-    } = set.into_pieces();
-    Ok(Dataset::new(Pieces {
-        cvd,
-        parts,
-        next_part,
-        threshold,
-        plan,
-    }))
+    Ok(Dataset { plan, ..set })
 }
 
-/// Adds those of these versions that aren't among the leaving ones.
-fn add_staying(leaving: &[u32], versions: &[u32], found: &mut Items<u32>) -> Result<(), AllocError>
-    ensures { OnOk result (found.new ≡ found.old ++ filter (λ vid. not (is_one leaving.now vid)) versions.now) }
+/// Those of these versions that aren't among the leaving ones.
+fn staying(alloc: Global, leaving: &[u32], versions: &[u32]) -> Result<Items<u32>, AllocError>
+    ensures { IfOk result (λ left. left ≡ filter (λ vid. not (is_one leaving.now vid)) versions.now) }
 {
     match versions {
-        [] => Ok(()),
-        [vid, rest @ ..] if is_one(leaving, *vid) => add_staying(leaving, rest, found),
+        [] => Ok(Items::new(alloc)),
         [vid, rest @ ..] => {
-            found.push(*vid)?;
-            add_staying(leaving, rest, found)
+            let later = staying(alloc, leaving, rest)?;
+            if is_one(leaving, *vid) {
+                Ok(later)
+            } else {
+                onto(alloc, *vid, later)
+            }
         }
     }
 }
@@ -169,34 +165,40 @@ fn add_staying(leaving: &[u32], versions: &[u32], found: &mut Items<u32>) -> Res
 fn leaving(alloc: Global, versions: &[u32], part: &Part) -> Result<Part, AllocError>
     ensures { IfOk result (λ left. left ≡ leaving versions.now part.now) }
 {
-    let mut staying = Items::new(alloc);
-    add_staying(versions, part.versions(), &mut staying)?;
-    let holds = Items::from_slice(alloc, part.holds())?;
-    let pieces = copies_of_pieces(alloc, part.pieces())?;
-    Ok(Part::new(part.id(), staying, holds, pieces))
+    let left = part.copied(alloc)?;
+    let versions = staying(alloc, versions, part.versions.as_slice())?;
+    Ok(Part { versions, ..left })
 }
 
-/// Adds the partitions without these versions, and without those that have no other version.
-fn add_left(
-    alloc: Global,
-    versions: &[u32],
-    parts: &[Part],
-    found: &mut Items<Part>,
-) -> Result<(), AllocError>
-    ensures { OnOk result (found.new ≡ found.old ++ left_parts versions.now parts.now) }
+/// The partitions without these versions, and without those that have no other version.
+fn left_parts(alloc: Global, versions: &[u32], parts: &[Part]) -> Result<Items<Part>, AllocError>
+    ensures { IfOk result (λ left. left ≡ left_parts versions.now parts.now) }
 {
     match parts {
-        [] => Ok(()),
+        [] => Ok(Items::new(alloc)),
         [part, rest @ ..] => {
+            let later = left_parts(alloc, versions, rest)?;
             let left = leaving(alloc, versions, part)?;
-            if left.versions().len() == 0 {
-                add_left(alloc, versions, rest, found)
+            if left.versions.len() == 0 {
+                Ok(later)
             } else {
-                found.push(left)?;
-                add_left(alloc, versions, rest, found)
+                onto(alloc, left, later)
             }
         }
     }
+}
+
+/// The pieces of the current target: the kept ones and then the copied ones.
+fn target_pieces(
+    alloc: Global,
+    set: &Dataset,
+    target: &Target,
+    plan: &Plan,
+) -> Result<Items<Items<Rec>>, AllocError>
+    ensures { IfOk result (λ pieces. pieces ≡ kept_pieces set.now target.now ++ plan.now.copied) }
+{
+    let kept = kept_pieces(alloc, set, target)?;
+    both(kept, plan.copied.copied(alloc)?)
 }
 
 /// The current target as a partition: its pieces are the kept ones and then the copied ones.
@@ -204,11 +206,14 @@ fn target_part(alloc: Global, set: &Dataset, plan: &Plan) -> Result<Part, AllocE
     ensures { IfOk result (λ part. part ≡ target_part set.now plan.now) }
 {
     let target = current(alloc, plan)?;
-    let mut pieces = kept_pieces(alloc, set, &target)?;
-    add_copies_of_pieces(alloc, plan.copied(), &mut pieces)?;
-    let versions = Items::from_slice(alloc, target.versions())?;
-    let holds = Items::from_slice(alloc, target.versions())?;
-    Ok(Part::new(set.next_part(), versions, holds, pieces))
+    let pieces = target_pieces(alloc, set, &target, plan)?;
+    let holds = Items::from_slice(alloc, target.versions.as_slice())?;
+    Ok(Part {
+        id: set.next_part,
+        versions: target.versions,
+        holds,
+        pieces,
+    })
 }
 
 /// The plan with the next target as the current one; none after the last one.
@@ -216,8 +221,14 @@ fn next_target(alloc: Global, plan: &Plan) -> Result<Option<Plan>, AllocError>
     requires { plan.now.at < 65535 }
     ensures { IfOk result (λ next. next ≡ next_target plan.now) }
 {
-    if (plan.at() as usize) + 1 < plan.targets().len() {
-        Ok(Some(plan.with_next(alloc)?))
+    if (plan.at as usize) + 1 < plan.targets.len() {
+        Ok(Some(Plan {
+            p: plan.p,
+            q: plan.q,
+            targets: plan.targets.copied(alloc)?,
+            at: plan.at + 1,
+            copied: Items::new(alloc),
+        }))
     } else {
         Ok(None)
     }
@@ -228,10 +239,8 @@ fn parts_after(alloc: Global, set: &Dataset, plan: &Plan) -> Result<Items<Part>,
     ensures { IfOk result (λ parts. parts ≡ left_parts (current plan.now).versions set.now.parts ++ target_part set.now plan.now ∷ []) }
 {
     let target = current(alloc, plan)?;
-    let mut parts = Items::new(alloc);
-    add_left(alloc, target.versions(), set.parts(), &mut parts)?;
-    parts.push(target_part(alloc, set, plan)?)?;
-    Ok(parts)
+    let left = left_parts(alloc, target.versions.as_slice(), set.parts.as_slice())?;
+    with_last(left, target_part(alloc, set, plan)?)
 }
 
 /// The dataset with the next partition's number taken.
@@ -239,20 +248,12 @@ fn with_parts(set: Dataset, parts: Items<Part>, plan: Option<Plan>) -> Dataset
     requires { set.next_part < 4294967295 }
     ensures { result ≡ record set { parts = parts; next_part = set.next_part + 1; plan = plan } }
 {
-    let Pieces {
-        cvd,
-        parts: _parts,
-        next_part,
-        threshold,
-        plan: _plan,
-    } = set.into_pieces();
-    Dataset::new(Pieces {
-        cvd,
+    Dataset {
         parts,
-        next_part: next_part + 1,
-        threshold,
+        next_part: set.next_part + 1,
         plan,
-    })
+        ..set
+    }
 }
 
 /// The dataset after a flip: the current target is a partition, and its versions have left their old ones.
@@ -261,7 +262,7 @@ pub fn flipped(alloc: Global, set: Dataset) -> Result<Dataset, AllocError>
     requires plan { IfSome set.plan (λ plan. plan.at < 65535) }
     ensures { IfOk result (λ after. after ≡ flipped set) }
 {
-    match set.plan() {
+    match &set.plan {
         None => Ok(set),
         Some(plan) => {
             let parts = parts_after(alloc, &set, plan)?;
@@ -333,13 +334,13 @@ pub fn plan_steps(alloc: Global, set: &Dataset) -> Result<u128, AllocError>
     requires targets { IfSome set.now.plan (λ plan. length plan.targets ≤ 65535) }
     ensures { IfOk result (λ steps. steps ≡ plan_steps set.now) }
 {
-    match set.plan() {
+    match &set.plan {
         None => Ok(0),
         Some(plan) => target_steps(
             alloc,
             set,
-            targets_from(plan.at(), plan.targets()),
-            plan.copied(),
+            targets_from(plan.at, plan.targets.as_slice()),
+            plan.copied.as_slice(),
         ),
     }
 }

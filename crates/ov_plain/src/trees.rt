@@ -8,6 +8,7 @@ ghost use Rattle.ov_model.specs.Plans.{graph_of, nodes_of_set, parts_at, depth_a
 ghost use Rattle.ov_model.specs.Records.{weights};
 ghost use Rattle.ov_plain.specs.Small.{HaveFewRows, IsSmall};
 
+use crate::copies::onto;
 use crate::dataset::Dataset;
 use crate::placement::heaviest;
 use crate::rec::{Rec, Version};
@@ -29,10 +30,10 @@ fn node_of(
     requires own { length own.now < 4294967295 }
     ensures { IfOk result (λ node. node ≡ node_of (record { records = length version.now.rows; parents = weights version.now.parents own.now done.now })) }
 {
-    let edges = weights(alloc, version.parents(), own, done)?;
+    let edges = weights(alloc, version.parents.as_slice(), own, done)?;
     let (parent, weight) = heaviest(edges.as_slice());
     Ok(Node {
-        records: version.rows().len() as u32,
+        records: version.rows.len() as u32,
         parent,
         weight,
     })
@@ -68,23 +69,24 @@ pub fn tree_of_set(alloc: Global, set: &Dataset) -> Result<Tree, AllocError>
     ensures count { IfOk result (λ tree. length tree.nodes.items ≤ 65535) }
 {
     let mut nodes = Vec::new(alloc);
-    add_nodes(alloc, set.cvd().versions(), Items::new(alloc), &mut nodes)?;
+    add_nodes(
+        alloc,
+        set.cvd.versions.as_slice(),
+        Items::new(alloc),
+        &mut nodes,
+    )?;
     Ok(Tree { nodes })
 }
 
-/// Adds copies of these lists of vids.
-fn add_lists(
-    alloc: Global,
-    lists: &[Vec<u32>],
-    found: &mut Items<Items<u32>>,
-) -> Result<(), AllocError>
-    ensures { OnOk result (found.new ≡ found.old ++ lists_of lists.now) }
+/// Copies of these lists of vids.
+fn copies_of_lists(alloc: Global, lists: &[Vec<u32>]) -> Result<Items<Items<u32>>, AllocError>
+    ensures { IfOk result (λ found. found ≡ lists_of lists.now) }
 {
     match lists {
-        [] => Ok(()),
-        [list, rest @ ..] => {
-            found.push(Items::from_slice(alloc, list)?)?;
-            add_lists(alloc, rest, found)
+        [] => Ok(Items::new(alloc)),
+        [first, rest @ ..] => {
+            let later = copies_of_lists(alloc, rest)?;
+            onto(alloc, Items::from_slice(alloc, first)?, later)
         }
     }
 }
@@ -101,9 +103,7 @@ pub fn parts_at(
 {
     let tree = tree_of_set(alloc, set)?;
     let split = plain_split(alloc, &tree, p, q)?;
-    let mut found = Items::new(alloc);
-    add_lists(alloc, &split.parts, &mut found)?;
-    Ok(found)
+    copies_of_lists(alloc, &split.parts)
 }
 
 /// The depth of that split.

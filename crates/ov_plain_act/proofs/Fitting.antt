@@ -1,5 +1,5 @@
 -- A dataset of at most 65,535 rows a version is small for the programs that compute its tree.
-use Rattle.std.proofs.Common.{◌≤◌, List, [], ◌∷◌, length, arith}
+use Rattle.std.proofs.Common.{List, [], ◌∷◌, arith}
 use Rattle.ov_model.specs.Book.{Version}
 use Rattle.ov_model.specs.World.{Dataset}
 use Rattle.ov_plain.specs.Small as plain

@@ -1,10 +1,10 @@
 -- What comes of a deed where there is room for its moves, and the steps behind its reply.
 use Rattle.std.proofs.Common.{◌≡◌, ℕ, zero, suc, ◌+◌, ◌-◌, ◌<◌, ◌≤◌, List, [], ◌∷◌, ◌++◌, length, map, take, drop, get_or, refl, sym, ◌∙◌, ap, subst, arith}
-use Rattle.std.specs.Prelude.{Option, Some, None}
+use Rattle.std.specs.Prelude.{Some, None}
 use Rattle.std.proofs.lemmas.Grind.{common_steps}
 use Rattle.std.proofs.lemmas.List.{append-nil, append_assoc}
 use Rattle.ov_model.specs.Act.{Session, Deed}
-use Rattle.ov_model.specs.Course.{Item, Makes, Served, nothing, after, attempts, steps, and_steps, line_served}
+use Rattle.ov_model.specs.Course.{Item, Makes, Served, after, attempts, steps, and_steps, line_served}
 use Rattle.ov_model.specs.Deed.{deed}
 use Rattle.ov_model.specs.Line.{Asks}
 use Rattle.ov_model.specs.Moves.{Move, moved}

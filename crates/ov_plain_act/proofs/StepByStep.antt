@@ -1,6 +1,6 @@
 -- The first step of some datasets, and a step with those behind it.
 use Rattle.std.proofs.Common.{◌≡◌, ℕ, zero, suc, ◌-◌, ◌<◌, ◌≤◌, List, [], ◌∷◌, length, get_or, refl, sym, ◌∙◌, ap, subst, arith}
-use Rattle.std.specs.Prelude.{Option, Some, None}
+use Rattle.std.specs.Prelude.{Some}
 use Rattle.ov_model.specs.Moves.{Move, moved}
 use Rattle.ov_model.specs.Steps.{step_of, first_step, next_steps, all_moved}
 use Rattle.ov_model.specs.World.{Plan, Dataset, World}

@@ -2,7 +2,7 @@
 -- enough for them.
 --     commanded n w s commands      what comes of these commands, with so many steps behind each reply
 --     IsPlainCourse n w s commands      each is computed here, over the World that it meets
-use Rattle.std.specs.Prelude.{◌≡◌, ℕ, ◌+◌, true, List, [], ◌∷◌, map}
+use Rattle.std.specs.Prelude.{◌≡◌, ℕ, true, List, [], ◌∷◌, map}
 use Rattle.ov_model.specs.Act.{Session as KnownSession}
 use Rattle.ov_model.specs.Course.{Item as KnownItem, Makes, Says, Served, nothing, after, replied, line_served}
 use Rattle.ov_model.specs.Line.{Asks}

@@ -1,6 +1,6 @@
 //! What a command does: a dataset more, a version more, a dataset less, a checkpoint, and whichever command it is.
 
-ghost use Rattle.std.specs.Prelude.{◌≡◌, ◌+◌, ◌++◌, ◌≤◌, ◌<◌, ◌^◌, [], length, Some, None, is_some, IfOk, IfSome, OnOk};
+ghost use Rattle.std.specs.Prelude.{◌≡◌, ◌+◌, ◌≤◌, ◌<◌, ◌^◌, [], length, Some, None, is_some, IfOk, IfSome};
 ghost use Rattle.ov_model.specs.Act.{does, init_refusal, init_deed, commit_refusal, commit_rows, commit_deed, drop_deed, checkpoint_deed, fresh_of, refuses};
 ghost use Rattle.ov_model.specs.Deed.{deed, permitted};
 ghost use Rattle.ov_model.specs.Moves.{version_of, Init};
@@ -12,7 +12,7 @@ ghost use Rattle.ov_plain_act.specs.Small.{AllFit, AreSmall, AreSmallMoves, IsSm
 
 use crate::accepted::accepted;
 use crate::counts::count_of;
-use crate::deed::{Deed, Move, does, refuses};
+use crate::deed::{Deed, Move, does, no_cvd, refuses};
 use crate::laying::layout_deed;
 use crate::planning::optimize_deed;
 use crate::session::Session;
@@ -22,7 +22,7 @@ use crate::telling::{count_fresh, log_deed, ls_deed};
 use crate::world::{World, first_named};
 use ov_answers::{commit_refusal, records_refusal};
 use ov_model::{Command, Refusal, Reply};
-use ov_plain::{Dataset, Version, records_of, recs};
+use ov_plain::{Dataset, Version, onto, own_records};
 use ov_users::permit;
 use ov_value::{Row, Schema, Txt};
 use sqlite_items::Items;
@@ -34,13 +34,13 @@ fn init_refusal(alloc: Global, world: &World, name: &Txt) -> Result<Option<Refus
     ensures { IfOk result (λ refusal. refusal ≡ init_refusal world.now name.now) }
 {
     let cvd = name.copy(alloc)?;
-    if first_named(world.sets(), name).is_some() {
+    if first_named(world.sets.as_slice(), name).is_some() {
         return Ok(Some(Refusal::CvdExists { cvd }));
     }
-    if 1024 <= world.sets().len() {
+    if 1024 <= world.sets.len() {
         return Ok(Some(Refusal::TooManyCvds));
     }
-    if world.next() == 4_294_967_295 {
+    if world.next == 4_294_967_295 {
         return Ok(Some(Refusal::NoNumbers { cvd }));
     }
     Ok(None)
@@ -92,16 +92,16 @@ fn init_deed(
     }
 }
 
-/// Adds these numbers, each of which fits 32 bits.
-fn add_fitting(vids: &[u64], found: &mut Items<u32>) -> Result<(), AllocError>
+/// These numbers, each of which fits 32 bits.
+fn fitting(alloc: Global, vids: &[u64]) -> Result<Items<u32>, AllocError>
     requires { AllFit vids.now }
-    ensures { OnOk result (found.new ≡ found.old ++ vids.now) }
+    ensures { IfOk result (λ found. found ≡ vids.now) }
 {
     match vids {
-        [] => Ok(()),
+        [] => Ok(Items::new(alloc)),
         [vid, rest @ ..] => {
-            found.push(*vid as u32)?;
-            add_fitting(rest, found)
+            let later = fitting(alloc, rest)?;
+            onto(alloc, *vid as u32, later)
         }
     }
 }
@@ -116,9 +116,13 @@ fn version_of(
     requires { AllFit vids.now }
     ensures { IfOk result (λ version. version ≡ version_of vids.now message.now rows) }
 {
-    let mut parents = Items::new(alloc);
-    add_fitting(vids, &mut parents)?;
-    Ok(Version::new(parents, message.copy(alloc)?, rows))
+    let parents = fitting(alloc, vids)?;
+    let message = message.copy(alloc)?;
+    Ok(Version {
+        parents,
+        message,
+        rows,
+    })
 }
 
 /// How many records of a new version no parent gives it.
@@ -127,9 +131,27 @@ fn fresh_of(alloc: Global, set: &Dataset, version: &Version) -> Result<u32, Allo
     requires rows { length version.now.rows ≤ 1000000 }
     ensures { IfOk result (λ fresh. fresh ≡ fresh_of set.now version.now.parents version.now.message version.now.rows) }
 {
-    let done = recs(alloc, set.cvd().versions(), Items::new(alloc))?;
-    let own = records_of(alloc, version, done.as_slice())?;
-    Ok(count_fresh(own.as_slice(), set.cvd().versions().len() as u32 + 1))
+    let own = own_records(alloc, set.cvd.versions.as_slice(), version)?;
+    Ok(count_fresh(own.as_slice(), set.cvd.versions.len() as u32 + 1))
+}
+
+/// What is told of a commit of a version, of whose records so many are new.
+fn committed(
+    alloc: Global,
+    set: &Dataset,
+    version: &Version,
+    fresh: u32,
+) -> Result<Reply, AllocError>
+    requires versions { length set.now.cvd.versions < 65535 }
+    requires rows { length version.now.rows ≤ 1000000 }
+    ensures { IfOk result (λ reply. reply ≡ says.Commit set.now.cvd.name (length set.now.cvd.versions + 1) (length version.now.rows) fresh) }
+{
+    Ok(Reply::Commit {
+        cvd: set.cvd.name.copy(alloc)?,
+        vid: set.cvd.versions.len() as u32 + 1,
+        rows: version.rows.len() as u32,
+        fresh,
+    })
 }
 
 /// What a commit of this version does.
@@ -148,19 +170,21 @@ fn commit_version(
     match records_refusal(alloc, set, fresh)? {
         Some(refusal) => refuses(alloc, session, refusal),
         None => {
-            let reply = Reply::Commit {
-                cvd: set.cvd().name().copy(alloc)?,
-                vid: set.cvd().versions().len() as u32 + 1,
-                rows: version.rows().len() as u32,
-                fresh,
-            };
+            let reply = committed(alloc, set, &version, fresh)?;
             let the_move = Move::Commit {
-                cvd: set.cvd().number(),
+                cvd: set.cvd.number,
                 version,
             };
             does(alloc, session, the_move, reply)
         }
     }
+}
+
+/// A dataset's schema.
+fn schema_of(set: &Dataset) -> &Schema
+    ensures { result.now ≡ set.now.cvd.schema }
+{
+    &set.cvd.schema
 }
 
 /// What a commit of this file to this dataset does, with parents that are accepted.
@@ -180,7 +204,7 @@ fn commit_file(
     ensures is { IfOk result (λ deed. deed_of deed ≡ commit_deed world.now (session_of session.now) name.now vids.now message.now [] file.now (Some set.now)) }
     ensures small { IfOk result (λ deed. AreSmallMoves deed.moves) }
 {
-    match accepted(alloc, world, session, set.cvd().schema(), file)? {
+    match accepted(alloc, world, session, schema_of(set), file)? {
         Err(reason) => refuses(alloc, session, reason),
         Ok(rows) => {
             let version = version_of(alloc, vids, message, rows)?;
@@ -223,14 +247,8 @@ fn commit_deed(
     ensures is { IfOk result (λ deed. deed_of deed ≡ commit_deed world.now (session_of session.now) name.now vids.now message.now [] file.now (set_named world.now name.now)) }
     ensures small { IfOk result (λ deed. AreSmallMoves deed.moves) }
 {
-    match first_named(world.sets(), name) {
-        None => refuses(
-            alloc,
-            session,
-            Refusal::NoCvd {
-                cvd: name.copy(alloc)?,
-            },
-        ),
+    match first_named(world.sets.as_slice(), name) {
+        None => no_cvd(alloc, session, name),
         Some(set) => commit_of(alloc, world, session, vids, message, file, name, set),
     }
 }
@@ -247,7 +265,7 @@ fn drop_of(alloc: Global, session: &Session, name: &Txt, set: &Dataset) -> Resul
         alloc,
         session,
         Move::Drop {
-            cvd: set.cvd().number(),
+            cvd: set.cvd.number,
         },
         reply,
     )
@@ -264,14 +282,8 @@ fn drop_deed(
     ensures is { IfOk result (λ deed. deed_of deed ≡ drop_deed (session_of session.now) name.now (set_named world.now name.now)) }
     ensures small { IfOk result (λ deed. AreSmallMoves deed.moves) }
 {
-    match first_named(world.sets(), name) {
-        None => refuses(
-            alloc,
-            session,
-            Refusal::NoCvd {
-                cvd: name.copy(alloc)?,
-            },
-        ),
+    match first_named(world.sets.as_slice(), name) {
+        None => no_cvd(alloc, session, name),
         Some(set) => drop_of(alloc, session, name, set),
     }
 }
@@ -281,7 +293,7 @@ fn checkpoint_deed(alloc: Global, world: &World, session: &Session) -> Result<De
     ensures is { IfOk result (λ deed. deed_of deed ≡ checkpoint_deed world.now (session_of session.now)) }
     ensures small { IfOk result (λ deed. AreSmallMoves deed.moves) }
 {
-    let datasets = count_of(world.sets().len())?;
+    let datasets = count_of(world.sets.len())?;
     does(
         alloc,
         session,
@@ -290,58 +302,84 @@ fn checkpoint_deed(alloc: Global, world: &World, session: &Session) -> Result<De
     )
 }
 
-/// What a command that no rule denies does over a World and a session. None where it isn't computed here.
+/// Whether a command's act is computed here.
+fn is_plain(command: &Command) -> bool
+    ensures { result ≡ is_plain command.now }
+{
+    match command {
+        Command::Init { .. } => true,
+        Command::Checkout { table: None, .. } => true,
+        Command::Checkout { table: Some(_), .. } => false,
+        Command::Commit { added: None, .. } => true,
+        Command::Commit { added: Some(_), .. } => false,
+        Command::CommitStaged { .. } => false,
+        Command::Run { .. } => false,
+        Command::Optimize { .. } => true,
+        Command::OptimizeWithin { .. } => false,
+        Command::Advise { .. } => false,
+        Command::Migrate { .. } => true,
+        Command::Layout { .. } => true,
+        Command::Log { .. } => true,
+        Command::Ls => true,
+        Command::DropCvd { .. } => true,
+        Command::Checkpoint => true,
+        Command::Generate { .. } => false,
+        Command::CreateUser { .. } => false,
+        Command::Config { .. } => false,
+        Command::Whoami => false,
+        Command::Unstage { .. } => false,
+        Command::Tables => false,
+    }
+}
+
+/// What a command that no rule denies does over a World and a session. One that isn't computed here is answered as want of
+/// memory.
 fn permitted_deed(
     alloc: Global,
     world: &World,
     session: &Session,
     command: &Command,
-) -> Result<Option<Deed>, AllocError>
+) -> Result<Deed, AllocError>
     requires world { AreSmall world.now.sets }
     requires command { IsSmallCommand command.now }
-    ensures is { IfOk result (λ found. IfSome found (λ d. deed_of d ≡ permitted world.now (session_of session.now) command.now)) }
-    ensures plain { IfOk result (λ found. is_some found ≡ is_plain command.now) }
-    ensures small { IfOk result (λ found. IfSome found (λ d. AreSmallMoves d.moves)) }
+    ensures is { IfOk result (λ d. deed_of d ≡ permitted world.now (session_of session.now) command.now) }
+    ensures small { IfOk result (λ d. AreSmallMoves d.moves) }
 {
     match command {
         Command::Init { cvd, schema, file } => {
-            Ok(Some(init_deed(alloc, world, session, cvd, schema, file)?))
+            init_deed(alloc, world, session, cvd, schema, file)
         }
         Command::Checkout {
             cvd,
             vids,
             file,
             table: None,
-        } => Ok(Some(checkout_deed(alloc, world, session, cvd, vids.as_slice(), file)?)),
+        } => checkout_deed(alloc, world, session, cvd, vids.as_slice(), file),
         Command::Commit {
             cvd,
             vids,
             file,
             message,
             added: None,
-        } => Ok(Some(commit_deed(alloc, world, session, cvd, vids.as_slice(), message, file)?)),
-        Command::Layout { cvd } => Ok(Some(layout_deed(alloc, world, session, cvd)?)),
-        Command::Log { cvd } => Ok(Some(log_deed(alloc, world, session, cvd)?)),
-        Command::Ls => Ok(Some(ls_deed(alloc, world, session)?)),
-        Command::DropCvd { cvd } => Ok(Some(drop_deed(alloc, world, session, cvd)?)),
-        Command::Checkout { table: Some(_), .. } => Ok(None),
-        Command::Commit { added: Some(_), .. } => Ok(None),
-        Command::CommitStaged { .. } => Ok(None),
-        Command::Run { .. } => Ok(None),
-        Command::Optimize { cvd, p, q } => {
-            Ok(Some(optimize_deed(alloc, world, session, cvd, *p, *q)?))
-        }
-        Command::OptimizeWithin { .. } => Ok(None),
-        Command::Advise { .. } => Ok(None),
-        Command::Migrate { count } => Ok(Some(migrate_deed(alloc, world, session, *count)?)),
-        Command::Checkpoint => Ok(Some(checkpoint_deed(alloc, world, session)?)),
-        Command::Generate { .. } => Ok(None),
-        Command::CreateUser { .. } => Ok(None),
-        Command::Config { .. } => Ok(None),
-        Command::Whoami => Ok(None),
-        Command::Unstage { .. } => Ok(None),
-        Command::Tables => Ok(None),
+        } => commit_deed(alloc, world, session, cvd, vids.as_slice(), message, file),
+        Command::Layout { cvd } => layout_deed(alloc, world, session, cvd),
+        Command::Log { cvd } => log_deed(alloc, world, session, cvd),
+        Command::Ls => ls_deed(alloc, world, session),
+        Command::DropCvd { cvd } => drop_deed(alloc, world, session, cvd),
+        Command::Optimize { cvd, p, q } => optimize_deed(alloc, world, session, cvd, *p, *q),
+        Command::Migrate { count } => migrate_deed(alloc, world, session, *count),
+        Command::Checkpoint => checkpoint_deed(alloc, world, session),
+        _ => Err(AllocError),
     }
+}
+
+/// The refusal of a command that a rule denies.
+fn denied(alloc: Global, session: &Session, rule: u32) -> Result<Deed, AllocError>
+    ensures is { IfOk result (λ d. deed_of d ≡ refuses (session_of session.now) (no.Denied rule)) }
+    ensures small { IfOk result (λ d. AreSmallMoves d.moves) }
+{
+    let rule = u64::from(rule);
+    refuses(alloc, session, Refusal::Denied { rule })
 }
 
 /// What a command does over a World and a session: it is denied by the least rule that denies it, or does what it means by
@@ -358,14 +396,11 @@ pub fn plain_deed(
     ensures plain { IfOk result (λ found. is_some found ≡ is_plain command.now) }
     ensures small { IfOk result (λ found. IfSome found (λ d. AreSmallMoves d.moves)) }
 {
-    match permitted_deed(alloc, world, session, command)? {
-        None => Ok(None),
-        Some(deed) => match permit(session.user.as_str(), command) {
-            Ok(()) => Ok(Some(deed)),
-            Err(denied) => {
-                let rule = u64::from(denied.rule);
-                Ok(Some(refuses(alloc, session, Refusal::Denied { rule })?))
-            }
-        },
+    if !is_plain(command) {
+        return Ok(None);
+    }
+    match permit(session.user.as_str(), command) {
+        Ok(()) => Ok(Some(permitted_deed(alloc, world, session, command)?)),
+        Err(off) => Ok(Some(denied(alloc, session, off.rule)?)),
     }
 }

@@ -6,8 +6,8 @@ ghost use Rattle.ov_plain_act.specs.Acts.{changed_by, move_of};
 ghost use Rattle.ov_plain_act.specs.Small.{CanMove, HasPlace, HavePlace, IsSmallChange, IsSmallMove};
 
 use crate::deed::Move;
-use crate::world::{Pieces, World};
-use ov_plain::{Dataset, Version, copied_more, flipped, new_set, planned, with_version};
+use crate::world::World;
+use ov_plain::{Copies, Dataset, Version, copied_more, flipped, new_set, planned, with_version};
 use ov_value::{Row, Schema, Txt};
 use sqlite_items::Items;
 use std::alloc::{AllocError, Global};
@@ -32,7 +32,7 @@ fn changed_by(alloc: Global, how: &Change, set: Dataset) -> Result<Dataset, Allo
     ensures { IfOk result (λ after. after ≡ changed_by how.now set) }
 {
     match how {
-        Change::Version(version) => with_version(alloc, version.copy(alloc)?, set),
+        Change::Version(version) => with_version(alloc, version.copied(alloc)?, set),
         Change::Plan { p, q } => planned(alloc, *p, *q, set),
         Change::Copy => copied_more(alloc, set),
         Change::Flip => flipped(alloc, set),
@@ -45,7 +45,7 @@ fn changed_set(alloc: Global, cvd: u32, how: &Change, set: Dataset) -> Result<Da
     requires place { HasPlace set }
     ensures { IfOk result (λ after. after ≡ (if numbered cvd set then changed_by how.now set else set)) }
 {
-    if set.cvd().number() == cvd {
+    if set.cvd.number == cvd {
         changed_by(alloc, how, set)
     } else {
         Ok(set)
@@ -81,7 +81,7 @@ fn with_other(
 ) -> Result<Items<Dataset>, AllocError>
     ensures { IfOk result (λ all. all ≡ left ++ filter (λ d. not (numbered cvd d)) (set ∷ [])) }
 {
-    if set.cvd().number() != cvd {
+    if set.cvd.number != cvd {
         left.push(set)?;
         return Ok(left);
     }
@@ -113,21 +113,21 @@ fn with_init(
     requires { CanMove world }
     ensures { IfOk result (λ after. after ≡ moved (Init name schema rows) world) }
 {
-    let Pieces {
+    let World {
         mut sets,
         next,
         epoch,
         records,
         format,
-    } = world.into_pieces();
+    } = world;
     sets.push(new_set(alloc, next, name, schema, rows)?)?;
-    Ok(World::new(Pieces {
+    Ok(World {
         sets,
         next: next + 1,
         epoch,
         records: records + 1,
         format,
-    }))
+    })
 }
 
 /// The World after a change of a dataset.
@@ -136,21 +136,21 @@ fn with_change(alloc: Global, cvd: u32, how: &Change, world: World) -> Result<Wo
     requires can { CanMove world }
     ensures { IfOk result (λ after. after ≡ changed cvd (changed_by how.now) world) }
 {
-    let Pieces {
+    let World {
         sets,
         next,
         epoch,
         records,
         format,
-    } = world.into_pieces();
+    } = world;
     let sets = changed_sets(alloc, cvd, how, sets)?;
-    Ok(World::new(Pieces {
+    Ok(World {
         sets,
         next,
         epoch,
         records: records + 1,
         format,
-    }))
+    })
 }
 
 /// The World without a dataset.
@@ -158,21 +158,21 @@ fn with_drop(cvd: u32, world: World) -> Result<World, AllocError>
     requires { CanMove world }
     ensures { IfOk result (λ after. after ≡ moved (Drop cvd) world) }
 {
-    let Pieces {
+    let World {
         sets,
         next,
         epoch,
         records,
         format,
-    } = world.into_pieces();
+    } = world;
     let sets = sets_without(cvd, sets)?;
-    Ok(World::new(Pieces {
+    Ok(World {
         sets,
         next,
         epoch,
         records: records + 1,
         format,
-    }))
+    })
 }
 
 /// The World in the next epoch, of a record for the numbers and one for each dataset.
@@ -180,20 +180,13 @@ fn with_checkpoint(world: World) -> World
     requires { CanMove world }
     ensures { result ≡ moved Checkpoint world }
 {
-    let Pieces {
-        sets,
-        next,
-        epoch,
-        ..
-    } = world.into_pieces();
-    let records = sets.as_slice().len() as u64 + 1;
-    World::new(Pieces {
-        sets,
-        next,
-        epoch: epoch + 1,
+    let records = world.sets.len() as u64 + 1;
+    World {
+        epoch: world.epoch + 1,
         records,
         format: 2,
-    })
+        ..world
+    }
 }
 
 /// What a move makes of a World.

@@ -1,14 +1,15 @@
 //! What a command does: its moves, its reply and the session after it.
 
-ghost use Rattle.std.specs.Prelude.{◌≡◌, [], ◌∷◌, IfOk};
+ghost use Rattle.std.specs.Prelude.{◌≡◌, IfOk};
 ghost use Rattle.ov_model.specs.Act.{tells, refuses, does};
+ghost use Rattle.ov_model.specs.declared.refusal.Refusal.TheVariants.{NoCvd};
 ghost use Rattle.ov_plain_act.specs.Acts.{deed_of, move_of, session_of};
+ghost use Rattle.ov_plain_act.specs.declared.deed.Move.TheVariants.{Init};
 ghost use Rattle.ov_plain_act.specs.Small.{AreSmallMoves, IsSmallMove};
 
-use crate::copies::copies_of;
 use crate::session::Session;
 use ov_model::{Refusal, Reply};
-use ov_plain::Version;
+use ov_plain::{Copies, Version, onto};
 use ov_value::{Row, Schema, Txt};
 use sqlite_items::Items;
 use std::alloc::{AllocError, Global};
@@ -49,22 +50,29 @@ pub enum Move {
     Checkpoint,
 }
 
-impl Move {
-    /// A copy of it.
-    pub fn copy(&self, alloc: Global) -> Result<Move, AllocError>
-        ensures { IfOk result (λ made. made ≡ self.now) }
-    {
+/// A copy of an Init.
+fn copy_of_init(
+    alloc: Global,
+    name: &Txt,
+    schema: &Schema,
+    rows: &Items<Row>,
+) -> Result<Move, AllocError>
+    ensures { IfOk result (λ made. made ≡ Init name.now schema.now rows.now) }
+{
+    let name = name.copy(alloc)?;
+    let schema = schema.copy(alloc)?;
+    let rows = rows.copied(alloc)?;
+    Ok(Move::Init { name, schema, rows })
+}
+
+impl Copies for Move {
+    fn copied(&self, alloc: Global) -> Result<Move, AllocError> {
         match self {
-            Move::Init { name, schema, rows } => {
-                let name = name.copy(alloc)?;
-                let schema = schema.copy(alloc)?;
-                let rows = copies_of(alloc, rows.as_slice())?;
-                Ok(Move::Init { name, schema, rows })
-            }
-            Move::Commit { cvd, version } => {
-                let version = version.copy(alloc)?;
-                Ok(Move::Commit { cvd: *cvd, version })
-            }
+            Move::Init { name, schema, rows } => copy_of_init(alloc, name, schema, rows),
+            Move::Commit { cvd, version } => Ok(Move::Commit {
+                cvd: *cvd,
+                version: version.copied(alloc)?,
+            }),
             Move::BeginPlan { cvd, p, q } => Ok(Move::BeginPlan {
                 cvd: *cvd,
                 p: *p,
@@ -117,6 +125,15 @@ pub fn refuses(alloc: Global, session: &Session, refusal: Refusal) -> Result<Dee
     tells(alloc, session, Reply::Refused(refusal))
 }
 
+/// The refusal of a dataset that isn't there.
+pub fn no_cvd(alloc: Global, session: &Session, name: &Txt) -> Result<Deed, AllocError>
+    ensures is { IfOk result (λ deed. deed_of deed ≡ refuses (session_of session.now) (NoCvd name.now)) }
+    ensures small { IfOk result (λ deed. AreSmallMoves deed.moves) }
+{
+    let cvd = name.copy(alloc)?;
+    refuses(alloc, session, Refusal::NoCvd { cvd })
+}
+
 /// A move and a reply.
 pub fn does(
     alloc: Global,
@@ -128,8 +145,7 @@ pub fn does(
     ensures is { IfOk result (λ deed. deed_of deed ≡ does (session_of session.now) (move_of the_move) reply) }
     ensures small { IfOk result (λ deed. AreSmallMoves deed.moves) }
 {
-    let mut moves = Items::new(alloc);
-    moves.push(the_move)?;
+    let moves = onto(alloc, the_move, Items::new(alloc))?;
     let session = session.copy(alloc)?;
     Ok(Deed {
         moves,

@@ -7,7 +7,6 @@
 mod accepted;
 mod acting;
 mod changes;
-mod copies;
 mod counts;
 mod course;
 mod deed;
@@ -28,4 +27,4 @@ pub use deed::{Deed, Move};
 pub use running::{Item, Run, plain_served};
 pub use session::{File, Session};
 pub use small::{is_small_command, is_small_world};
-pub use world::{Pieces, World};
+pub use world::World;

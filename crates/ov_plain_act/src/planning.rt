@@ -11,13 +11,13 @@ ghost use Rattle.ov_plain_act.specs.Acts.{deed_of, session_of};
 ghost use Rattle.ov_plain_act.specs.Small.{AreSmall, AreSmallMoves, IsSmallSet};
 
 use crate::counts::{added, count_of, sum_of, times};
-use crate::deed::{Deed, Move, does, refuses};
+use crate::deed::{Deed, Move, does, no_cvd, refuses};
 use crate::session::Session;
 use crate::world::{World, first_named};
 use ov_model::{Refusal, Reply};
 use ov_plain::{
-    Dataset, depth_at, is_small_plan, parts_at, plan_steps, planned, records_in, tree_members,
-    tree_records,
+    Copies, Dataset, depth_at, is_small_plan, parts_at, plan_steps, planned, records_in,
+    tree_members, tree_records,
 };
 use ov_value::Txt;
 use sqlite_items::Items;
@@ -44,11 +44,11 @@ fn optimize_refusal(
     if !is_threshold(p, q) {
         return Ok(Some(Refusal::BadThreshold));
     }
-    let cvd = set.cvd().name().copy(alloc)?;
-    if set.plan().is_some() {
+    let cvd = set.cvd.name.copy(alloc)?;
+    if set.plan.is_some() {
         return Ok(Some(Refusal::Migrating { cvd }));
     }
-    if 4_294_000_000 < set.next_part() {
+    if 4_294_000_000 < set.next_part {
         return Ok(Some(Refusal::NoNumbers { cvd }));
     }
     Ok(None)
@@ -62,7 +62,7 @@ fn stored_in(alloc: Global, set: &Dataset, parts: &[Items<u32>]) -> Result<u64, 
     match parts {
         [] => Ok(0),
         [vids, rest @ ..] => {
-            let own = records_in(alloc, set.cvd(), vids.as_slice())?;
+            let own = records_in(alloc, &set.cvd, vids.as_slice())?;
             let later = stored_in(alloc, set, rest)?;
             added(own.len() as u64, later)
         }
@@ -77,7 +77,7 @@ fn cost_in(alloc: Global, set: &Dataset, parts: &[Items<u32>]) -> Result<u64, Al
     match parts {
         [] => Ok(0),
         [vids, rest @ ..] => {
-            let own = records_in(alloc, set.cvd(), vids.as_slice())?;
+            let own = records_in(alloc, &set.cvd, vids.as_slice())?;
             let read = times(vids.len() as u64, own.len() as u64)?;
             let later = cost_in(alloc, set, rest)?;
             added(read, later)
@@ -90,11 +90,25 @@ fn steps_at(alloc: Global, set: &Dataset, p: u32, q: u32) -> Result<u64, AllocEr
     requires { IsSmall set.now.cvd }
     ensures { IfOk result (λ steps. steps ≡ plan_steps (planned p q set.now)) }
 {
-    let begun = planned(alloc, p, q, set.copy(alloc)?)?;
-    if !is_small_plan(begun.plan()) {
+    let begun = planned(alloc, p, q, set.copied(alloc)?)?;
+    if !is_small_plan(&begun.plan) {
         return Err(AllocError);
     }
     sum_of(plan_steps(alloc, &begun)?)
+}
+
+/// How many parts the split at p / q has, what they will store, and what checkouts will read of them.
+fn split_sizes(alloc: Global, set: &Dataset, p: u32, q: u32) -> Result<(u32, u64, u64), AllocError>
+    requires { IsSmall set.now.cvd }
+    ensures parts { IfOk result (λ sizes. sizes.0 ≡ length (parts_at set.now p q)) }
+    ensures stored { IfOk result (λ sizes. sizes.1 ≡ stored (sizes_of set.now (parts_at set.now p q))) }
+    ensures cost { IfOk result (λ sizes. sizes.2 ≡ cost (sizes_of set.now (parts_at set.now p q))) }
+{
+    let parts = parts_at(alloc, set, p, q)?;
+    let count = count_of(parts.len())?;
+    let stored = stored_in(alloc, set, parts.as_slice())?;
+    let cost = cost_in(alloc, set, parts.as_slice())?;
+    Ok((count, stored, cost))
 }
 
 /// What is told of a plan at p / q.
@@ -102,14 +116,14 @@ fn optimized(alloc: Global, set: &Dataset, p: u32, q: u32) -> Result<Reply, Allo
     requires { IsSmall set.now.cvd }
     ensures { IfOk result (λ reply. reply ≡ optimized set.now p q (parts_at set.now p q)) }
 {
-    let parts = parts_at(alloc, set, p, q)?;
+    let (partitions, stored, cost) = split_sizes(alloc, set, p, q)?;
     Ok(Reply::Optimize {
         depth: depth_at(alloc, set, p, q)?,
-        partitions: count_of(parts.len())?,
-        stored: stored_in(alloc, set, parts.as_slice())?,
+        partitions,
+        stored,
         records: tree_records(alloc, set)?,
         members: tree_members(alloc, set)?,
-        cost: cost_in(alloc, set, parts.as_slice())?,
+        cost,
         steps: steps_at(alloc, set, p, q)?,
     })
 }
@@ -127,7 +141,7 @@ fn begins(
     ensures small { IfOk result (λ deed. AreSmallMoves deed.moves) }
 {
     let reply = optimized(alloc, set, p, q)?;
-    let cvd = set.cvd().number();
+    let cvd = set.cvd.number;
     does(alloc, session, Move::BeginPlan { cvd, p, q }, reply)
 }
 
@@ -163,14 +177,8 @@ pub fn optimize_deed(
     ensures is { IfOk result (λ deed. deed_of deed ≡ optimize_deed (session_of session.now) name.now p q (set_named world.now name.now)) }
     ensures small { IfOk result (λ deed. AreSmallMoves deed.moves) }
 {
-    match first_named(world.sets(), name) {
-        None => refuses(
-            alloc,
-            session,
-            Refusal::NoCvd {
-                cvd: name.copy(alloc)?,
-            },
-        ),
+    match first_named(world.sets.as_slice(), name) {
+        None => no_cvd(alloc, session, name),
         Some(set) => optimize_of(alloc, session, name, p, q, set),
     }
 }

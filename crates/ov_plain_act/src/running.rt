@@ -15,6 +15,7 @@ use crate::session::Session;
 use crate::stepping::{after_move, first_step};
 use crate::world::World;
 use ov_model::{Command, Reply};
+use ov_plain::{Copies, onto};
 use sqlite_items::Items;
 use std::alloc::{AllocError, Global};
 
@@ -37,8 +38,7 @@ pub struct Run {
 fn replied(alloc: Global, reply: Reply, world: World, session: Session) -> Result<Run, AllocError>
     ensures { IfOk result (λ run. run_of run ≡ record { items = Says reply ∷ []; world = world; session = session_of session; left = [] }) }
 {
-    let mut items = Items::new(alloc);
-    items.push(Item::Says(reply))?;
+    let items = onto(alloc, Item::Says(reply), Items::new(alloc))?;
     Ok(Run {
         items,
         world,
@@ -63,6 +63,23 @@ pub fn behind(mut items: Items<Item>, later: Run) -> Result<Run, AllocError>
     })
 }
 
+/// A run behind a move.
+fn before(alloc: Global, first: &Move, later: Run) -> Result<Run, AllocError>
+    ensures { IfOk result (λ run. run_of run ≡ after (Makes (move_of first.now) ∷ []) (run_of later)) }
+{
+    let Run {
+        items,
+        world,
+        session,
+    } = later;
+    let items = onto(alloc, Item::Makes(first.copied(alloc)?), items)?;
+    Ok(Run {
+        items,
+        world,
+        session,
+    })
+}
+
 /// These moves and then a reply.
 fn made(
     alloc: Global,
@@ -79,9 +96,7 @@ fn made(
         [first, rest @ ..] => {
             let next = after_move(alloc, first, world)?;
             let later = made(alloc, rest, reply, next, session)?;
-            let mut items = Items::new(alloc);
-            items.push(Item::Makes(first.copy(alloc)?))?;
-            let run = behind(items, later)?;
+            let run = before(alloc, first, later)?;
             Ok(run)
         }
     }
@@ -131,7 +146,7 @@ fn and_steps(alloc: Global, count: u32, run: Run) -> Result<Run, AllocError>
     if count == 0 {
         return Ok(run);
     }
-    match first_step(alloc, run.world.sets())? {
+    match first_step(alloc, run.world.sets.as_slice())? {
         None => Ok(run),
         Some(step) => {
             let later = with_step(alloc, run, step)?;

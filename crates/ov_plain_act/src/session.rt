@@ -1,49 +1,34 @@
 //! What goes from line to line beside the World: the files, and the name of the user.
 
-ghost use Rattle.std.specs.Prelude.{◌≡◌, ◌++◌, [], ◌∷◌, IfOk, OnOk};
+ghost use Rattle.std.specs.Prelude.{◌≡◌, [], IfOk};
 ghost use Rattle.std.specs.Option.{option_copied};
 ghost use Rattle.ov_model.specs.Act.{put};
 ghost use Rattle.ov_plain_act.specs.Acts.{files_of, session_of};
 
+use ov_plain::{Copies, onto};
 use ov_value::Txt;
 use sqlite_items::Items;
 use std::alloc::{AllocError, Global};
 
 /// A file by its name.
-#[derive(Debug, Drop)]
+#[derive(Drop)]
 pub struct File {
     pub name: Txt,
     pub bytes: Items<u8>,
 }
 
 /// The files, of which the first one of a name counts, and the name of the user.
-#[derive(Debug, Drop)]
+#[derive(Drop)]
 pub struct Session {
     pub files: Items<File>,
     pub user: Txt,
 }
 
-impl File {
-    /// A copy of it.
-    pub fn copy(&self, alloc: Global) -> Result<File, AllocError>
-        ensures { IfOk result (λ made. made ≡ self.now) }
-    {
+impl Copies for File {
+    fn copied(&self, alloc: Global) -> Result<File, AllocError> {
         let name = self.name.copy(alloc)?;
         let bytes = Items::from_slice(alloc, self.bytes.as_slice())?;
         Ok(File { name, bytes })
-    }
-}
-
-/// Adds copies of these files.
-fn add_files(alloc: Global, files: &[File], found: &mut Items<File>) -> Result<(), AllocError>
-    ensures { OnOk result (found.new ≡ found.old ++ files.now) }
-{
-    match files {
-        [] => Ok(()),
-        [file, rest @ ..] => {
-            found.push(file.copy(alloc)?)?;
-            add_files(alloc, rest, found)
-        }
     }
 }
 
@@ -78,8 +63,7 @@ impl Session {
     pub fn copy(&self, alloc: Global) -> Result<Session, AllocError>
         ensures { IfOk result (λ made. made ≡ self.now) }
     {
-        let mut files = Items::new(alloc);
-        add_files(alloc, self.files.as_slice(), &mut files)?;
+        let files = self.files.copied(alloc)?;
         let user = self.user.copy(alloc)?;
         Ok(Session { files, user })
     }
@@ -100,13 +84,9 @@ impl Session {
     ) -> Result<Session, AllocError>
         ensures { IfOk result (λ made. session_of made ≡ record (session_of self.now) { files = put (session_of self.now).files name.now bytes }) }
     {
-        let mut files = Items::new(alloc);
-        files.push(File {
-            name: name.copy(alloc)?,
-            bytes,
-        })?;
-        add_files(alloc, self.files.as_slice(), &mut files)?;
-        let user = self.user.copy(alloc)?;
+        let name = name.copy(alloc)?;
+        let Session { files, user } = self.copy(alloc)?;
+        let files = onto(alloc, File { name, bytes }, files)?;
         Ok(Session { files, user })
     }
 }

@@ -3,18 +3,31 @@
 ghost use Rattle.std.specs.Prelude.{◌≡◌, ◌≤◌, ◌<◌, ◌^◌, [], length, Some, None, IfOk};
 ghost use Rattle.ov_model.specs.Act.{gives, checkout_deed, merge_of, vids_refusal};
 ghost use Rattle.ov_model.specs.World.{set_named};
+ghost use Rattle.ov_model.specs.declared.reply.Reply.TheVariants as says;
 ghost use Rattle.ov_plain_act.specs.Acts.{deed_of, session_of};
 ghost use Rattle.ov_plain_act.specs.Small.{AreSmall, AreSmallMoves, IsSmallSet};
 
-use crate::deed::{Deed, refuses, tells, tells_in};
+use crate::deed::{Deed, no_cvd, refuses, tells, tells_in};
 use crate::session::Session;
 use crate::world::{World, first_named};
 use ov_answers::{merge_of, vids_refusal};
-use ov_model::{Refusal, Reply, Seq};
+use ov_model::{Reply, Seq};
 use ov_plain::{Cvd, Dataset};
 use ov_plain_csv::text_of;
 use ov_value::{Row, Txt};
 use std::alloc::{AllocError, Global};
+
+/// What is told of rows that are put into a file.
+fn to_file(alloc: Global, cvd: &Cvd, rows: &[Row], file: &Txt) -> Result<Reply, AllocError>
+    requires { length rows.now < 2 ^ 32 }
+    ensures { IfOk result (λ reply. reply ≡ says.ToFile cvd.now.name (length rows.now) file.now) }
+{
+    Ok(Reply::ToFile {
+        cvd: cvd.name.copy(alloc)?,
+        rows: rows.len() as u32,
+        file: file.copy(alloc)?,
+    })
+}
 
 /// These rows, printed or put into a file.
 fn gives(
@@ -28,16 +41,12 @@ fn gives(
     ensures is { IfOk result (λ deed. deed_of deed ≡ gives (session_of session.now) cvd.now rows.now file.now) }
     ensures small { IfOk result (λ deed. AreSmallMoves deed.moves) }
 {
-    let text = text_of(alloc, cvd.schema(), rows)?;
+    let text = text_of(alloc, &cvd.schema, rows)?;
     match file {
         None => tells(alloc, session, Reply::Csv { text }),
         Some(file) => {
             let later = session.with_file(alloc, file, text)?;
-            let reply = Reply::ToFile {
-                cvd: cvd.name().copy(alloc)?,
-                rows: rows.len() as u32,
-                file: file.copy(alloc)?,
-            };
+            let reply = to_file(alloc, cvd, rows, file)?;
             Ok(tells_in(alloc, later, reply))
         }
     }
@@ -50,7 +59,7 @@ fn rows_merged(alloc: Global, set: &Dataset, vids: &[u64]) -> Result<Seq<Row>, A
     ensures is { IfOk result (λ rows. rows ≡ merge_of set.now.cvd vids.now) }
     ensures count { IfOk result (λ rows. length rows < 2 ^ 32) }
 {
-    let rows = merge_of(alloc, set.cvd(), vids)?;
+    let rows = merge_of(alloc, &set.cvd, vids)?;
     Ok(rows)
 }
 
@@ -68,12 +77,12 @@ fn checkout_of(
     ensures is { IfOk result (λ deed. deed_of deed ≡ checkout_deed (session_of session.now) vids.now file.now name.now (Some set.now)) }
     ensures small { IfOk result (λ deed. AreSmallMoves deed.moves) }
 {
-    let count = set.cvd().versions().len() as u64;
+    let count = set.cvd.versions.len() as u64;
     match vids_refusal(alloc, count, &[], vids)? {
         Some(refusal) => refuses(alloc, session, refusal),
         None => {
             let rows = rows_merged(alloc, set, vids)?;
-            gives(alloc, session, set.cvd(), rows.as_slice(), file)
+            gives(alloc, session, &set.cvd, rows.as_slice(), file)
         }
     }
 }
@@ -92,14 +101,8 @@ pub fn checkout_deed(
     ensures is { IfOk result (λ deed. deed_of deed ≡ checkout_deed (session_of session.now) vids.now file.now name.now (set_named world.now name.now)) }
     ensures small { IfOk result (λ deed. AreSmallMoves deed.moves) }
 {
-    match first_named(world.sets(), name) {
-        None => refuses(
-            alloc,
-            session,
-            Refusal::NoCvd {
-                cvd: name.copy(alloc)?,
-            },
-        ),
+    match first_named(world.sets.as_slice(), name) {
+        None => no_cvd(alloc, session, name),
         Some(set) => checkout_of(alloc, session, vids, file, name, set),
     }
 }

@@ -15,7 +15,7 @@ fn have_few_rows(versions: &[Version]) -> bool
 {
     match versions {
         [] => true,
-        [version, rest @ ..] => version.rows().len() <= 65_535 && have_few_rows(rest),
+        [version, rest @ ..] => version.rows.len() <= 65_535 && have_few_rows(rest),
     }
 }
 
@@ -23,7 +23,7 @@ fn have_few_rows(versions: &[Version]) -> bool
 fn is_small_set(alloc: Global, set: &Dataset) -> Result<bool, AllocError>
     ensures { IfOk result (λ is. IsTrue is ↔ IsSmallSet set.now) }
 {
-    let versions = set.cvd().versions();
+    let versions = set.cvd.versions.as_slice();
     if versions.len() > 65_535 {
         return Ok(false);
     }
@@ -54,7 +54,7 @@ fn are_small(alloc: Global, sets: &[Dataset]) -> Result<bool, AllocError>
 pub fn is_small_world(alloc: Global, world: &World) -> Result<bool, AllocError>
     ensures { IfOk result (λ is. IsTrue is ↔ AreSmall world.now.sets) }
 {
-    are_small(alloc, world.sets())
+    are_small(alloc, world.sets.as_slice())
 }
 
 /// Whether a command lists so few versions that what it does can be computed.
@@ -73,7 +73,7 @@ fn is_early(plan: &Option<Plan>) -> bool
 {
     match plan {
         None => true,
-        Some(plan) => plan.at() < 65_535,
+        Some(plan) => plan.at < 65_535,
     }
 }
 
@@ -83,7 +83,7 @@ fn has_few_targets(plan: &Option<Plan>) -> bool
 {
     match plan {
         None => true,
-        Some(plan) => plan.targets().len() <= 65_535,
+        Some(plan) => plan.targets.len() <= 65_535,
     }
 }
 
@@ -91,13 +91,13 @@ fn has_few_targets(plan: &Option<Plan>) -> bool
 fn has_place(alloc: Global, set: &Dataset) -> Result<bool, AllocError>
     ensures { IfOk result (λ has. IsTrue has ↔ HasPlace set.now) }
 {
-    if set.cvd().versions().len() >= 65_535 || set.parts().len() > 65_535 {
+    if set.cvd.versions.len() >= 65_535 || set.parts.len() > 65_535 {
         return Ok(false);
     }
-    if set.next_part() == 4_294_967_295 || !have_few_rows(set.cvd().versions()) {
+    if set.next_part == 4_294_967_295 || !have_few_rows(set.cvd.versions.as_slice()) {
         return Ok(false);
     }
-    if !is_early(set.plan()) || !has_few_targets(set.plan()) {
+    if !is_early(&set.plan) || !has_few_targets(&set.plan) {
         return Ok(false);
     }
     let all = stored(alloc, set)?;
@@ -124,13 +124,13 @@ fn have_place(alloc: Global, sets: &[Dataset]) -> Result<bool, AllocError>
 pub fn can_move(alloc: Global, world: &World) -> Result<bool, AllocError>
     ensures { IfOk result (λ can. IsTrue can ↔ CanMove world.now) }
 {
-    if world.next() == 4_294_967_295 || world.records() == u64::MAX {
+    if world.next == 4_294_967_295 || world.records == u64::MAX {
         return Ok(false);
     }
-    if world.epoch() == u64::MAX {
+    if world.epoch == u64::MAX {
         return Ok(false);
     }
-    have_place(alloc, world.sets())
+    have_place(alloc, world.sets.as_slice())
 }
 
 /// Whether a World is small and takes a move.

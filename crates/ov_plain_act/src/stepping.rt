@@ -18,7 +18,7 @@ use crate::session::Session;
 use crate::small::can_move;
 use crate::world::World;
 use ov_model::Reply;
-use ov_plain::{Dataset, Plan, is_complete, is_small_plan, plan_steps};
+use ov_plain::{Copies, Dataset, Plan, is_complete, is_small_plan, onto, plan_steps};
 use sqlite_items::Items;
 use std::alloc::{AllocError, Global};
 
@@ -27,10 +27,10 @@ fn step_of(alloc: Global, set: &Dataset, plan: &Plan) -> Result<Move, AllocError
     ensures is { IfOk result (λ step. move_of step ≡ step_of set.now plan.now) }
     ensures small { IfOk result (λ step. IsSmallMove step) }
 {
-    if set.cvd().versions().len() > 65_535 {
+    if set.cvd.versions.len() > 65_535 {
         return Err(AllocError);
     }
-    let cvd = set.cvd().number();
+    let cvd = set.cvd.number;
     if is_complete(alloc, set, plan)? {
         Ok(Move::Flip { cvd })
     } else {
@@ -45,7 +45,7 @@ pub fn first_step(alloc: Global, sets: &[Dataset]) -> Result<Option<Move>, Alloc
 {
     match sets {
         [] => Ok(None),
-        [set, rest @ ..] => match set.plan() {
+        [set, rest @ ..] => match &set.plan {
             None => first_step(alloc, rest),
             Some(plan) => Ok(Some(step_of(alloc, set, plan)?)),
         },
@@ -60,7 +60,7 @@ pub fn after_move(alloc: Global, the_move: &Move, world: World) -> Result<World,
     if !can_move(alloc, &world)? {
         return Err(AllocError);
     }
-    plain_moved(alloc, the_move.copy(alloc)?, world)
+    plain_moved(alloc, the_move.copied(alloc)?, world)
 }
 
 /// Steps, and the World after them.
@@ -78,9 +78,7 @@ fn behind(alloc: Global, step: Move, later: Steps) -> Result<Steps, AllocError>
     ensures world { IfOk result (λ all. all.world ≡ later.world) }
     ensures small { IfOk result (λ all. AreSmallMoves all.moves) }
 {
-    let mut moves = Items::new(alloc);
-    moves.push(step)?;
-    moves.append(later.moves)?;
+    let moves = onto(alloc, step, later.moves)?;
     Ok(Steps {
         moves,
         world: later.world,
@@ -99,7 +97,7 @@ fn next_steps(alloc: Global, count: u32, world: World) -> Result<Steps, AllocErr
             world,
         });
     }
-    match first_step(alloc, world.sets())? {
+    match first_step(alloc, world.sets.as_slice())? {
         None => Ok(Steps {
             moves: Items::new(alloc),
             world,
@@ -117,7 +115,7 @@ fn next_steps(alloc: Global, count: u32, world: World) -> Result<Steps, AllocErr
 fn steps_of_set(alloc: Global, set: &Dataset) -> Result<u64, AllocError>
     ensures { IfOk result (λ steps. steps ≡ plan_steps set.now) }
 {
-    if set.cvd().versions().len() > 65_535 || !is_small_plan(set.plan()) {
+    if set.cvd.versions.len() > 65_535 || !is_small_plan(&set.plan) {
         return Err(AllocError);
     }
     sum_of(plan_steps(alloc, set)?)
@@ -150,10 +148,10 @@ pub fn migrate_deed(
     let Steps {
         moves,
         world: after,
-    } = next_steps(alloc, count, world.copy(alloc)?)?;
+    } = next_steps(alloc, count, world.copied(alloc)?)?;
     let reply = Reply::Migrate {
         taken: count_of(moves.len())?,
-        left: steps_of_all(alloc, after.sets())?,
+        left: steps_of_all(alloc, after.sets.as_slice())?,
     };
     let session = session.copy(alloc)?;
     Ok(Deed {

@@ -8,12 +8,12 @@ ghost use Rattle.ov_model.specs.declared.reply.Reply.TheVariants as says;
 ghost use Rattle.ov_plain_act.specs.Acts.{deed_of, session_of, lines_after};
 ghost use Rattle.ov_plain_act.specs.Small.{AreSmall, AreSmallMoves, HaveFewRows, IsSmallSet};
 
-use crate::deed::{Deed, refuses, tells};
+use crate::deed::{Deed, no_cvd, tells};
 use crate::session::Session;
 use crate::world::{World, first_named};
 use ov_answers::ls_line;
-use ov_model::{CvdLine, LogLine, Refusal, Reply};
-use ov_plain::{Dataset, Rec, Version, records_of};
+use ov_model::{CvdLine, LogLine, Reply};
+use ov_plain::{Dataset, Rec, Version, onto, records_of};
 use ov_value::Txt;
 use sqlite_items::Items;
 use std::alloc::{AllocError, Global};
@@ -27,7 +27,7 @@ pub fn count_fresh(recs: &[Rec], origin: u32) -> u32
     match recs {
         [] => 0,
         [first, rest @ ..] => {
-            if first.origin() == origin {
+            if first.origin == origin {
                 count_fresh(rest, origin) + 1
             } else {
                 count_fresh(rest, origin)
@@ -42,11 +42,11 @@ fn line_of(alloc: Global, vid: u32, version: &Version, own: &[Rec]) -> Result<Lo
     requires own { length own.now ≡ length version.now.rows }
     ensures { IfOk result (λ line. line ≡ record { vid = vid; rows = length version.now.rows; fresh = length (fresh_in own.now vid); parents = version.now.parents; message = version.now.message }) }
 {
-    let parents = Items::from_slice(alloc, version.parents())?;
-    let message = version.message().copy(alloc)?;
+    let parents = Items::from_slice(alloc, version.parents.as_slice())?;
+    let message = version.message.copy(alloc)?;
     Ok(LogLine {
         vid,
-        rows: version.rows().len() as u32,
+        rows: version.rows.len() as u32,
         fresh: count_fresh(own, vid),
         parents,
         message,
@@ -82,7 +82,12 @@ fn log_lines(alloc: Global, set: &Dataset) -> Result<Items<LogLine>, AllocError>
     ensures { IfOk result (λ lines. lines ≡ log_lines [] set.now.cvd.versions) }
 {
     let mut lines = Items::new(alloc);
-    add_lines(alloc, Items::new(alloc), set.cvd().versions(), &mut lines)?;
+    add_lines(
+        alloc,
+        Items::new(alloc),
+        set.cvd.versions.as_slice(),
+        &mut lines,
+    )?;
     Ok(lines)
 }
 
@@ -107,28 +112,22 @@ pub fn log_deed(
     ensures is { IfOk result (λ deed. deed_of deed ≡ log_deed (session_of session.now) name.now (set_named world.now name.now)) }
     ensures small { IfOk result (λ deed. AreSmallMoves deed.moves) }
 {
-    match first_named(world.sets(), name) {
-        None => refuses(
-            alloc,
-            session,
-            Refusal::NoCvd {
-                cvd: name.copy(alloc)?,
-            },
-        ),
+    match first_named(world.sets.as_slice(), name) {
+        None => no_cvd(alloc, session, name),
         Some(set) => log_of(alloc, session, name, set),
     }
 }
 
-/// Adds what `ls` tells of these datasets.
-fn add_sets(alloc: Global, sets: &[Dataset], found: &mut Items<CvdLine>) -> Result<(), AllocError>
+/// What `ls` tells of these datasets.
+fn sets_shown(alloc: Global, sets: &[Dataset]) -> Result<Items<CvdLine>, AllocError>
     requires { AreSmall sets.now }
-    ensures { OnOk result (found.new ≡ found.old ++ map ls_line sets.now) }
+    ensures { IfOk result (λ lines. lines ≡ map ls_line sets.now) }
 {
     match sets {
-        [] => Ok(()),
+        [] => Ok(Items::new(alloc)),
         [set, rest @ ..] => {
-            found.push(ls_line(alloc, set)?)?;
-            add_sets(alloc, rest, found)
+            let later = sets_shown(alloc, rest)?;
+            onto(alloc, ls_line(alloc, set)?, later)
         }
     }
 }
@@ -139,7 +138,6 @@ pub fn ls_deed(alloc: Global, world: &World, session: &Session) -> Result<Deed, 
     ensures is { IfOk result (λ deed. deed_of deed ≡ tells (session_of session.now) (says.Ls (map ls_line world.now.sets))) }
     ensures small { IfOk result (λ deed. AreSmallMoves deed.moves) }
 {
-    let mut cvds = Items::new(alloc);
-    add_sets(alloc, world.sets(), &mut cvds)?;
+    let cvds = sets_shown(alloc, world.sets.as_slice())?;
     tells(alloc, session, Reply::Ls { cvds })
 }

@@ -1,5 +1,0 @@
-use Rattle.std.proofs.Common.{length}
-use Rattle.ov_answers.proofs.pairing.+add_pairs.Given as goal
-
-abbrev pub decreases-add_pairs : goal.decreases-add_pairs
-decreases-add_pairs l = length l.vids.now

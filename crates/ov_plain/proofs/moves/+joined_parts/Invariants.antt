@@ -1,0 +1,5 @@
+use Rattle.std.proofs.Common.{length}
+use Rattle.ov_plain.proofs.moves.+joined_parts.Given as goal
+
+abbrev pub decreases-joined_parts : goal.decreases-joined_parts
+decreases-joined_parts l = length l.parts.now

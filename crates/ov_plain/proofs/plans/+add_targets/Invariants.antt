@@ -1,5 +1,0 @@
-use Rattle.std.proofs.Common.{length}
-use Rattle.ov_plain.proofs.plans.+add_targets.Given as goal
-
-abbrev pub decreases-add_targets : goal.decreases-add_targets
-decreases-add_targets l = length l.lists.now

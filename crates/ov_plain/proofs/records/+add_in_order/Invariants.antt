@@ -1,5 +1,0 @@
-use Rattle.std.proofs.Common.{length}
-use Rattle.ov_plain.proofs.records.+add_in_order.Given as goal
-
-abbrev pub decreases-add_in_order : goal.decreases-add_in_order
-decreases-add_in_order l = length l.all.now

@@ -1,5 +1,0 @@
-use Rattle.std.proofs.Common.{length}
-use Rattle.ov_plain.proofs.small.+have_few_rows.Given as goal
-
-abbrev pub decreases-have_few_rows : goal.decreases-have_few_rows
-decreases-have_few_rows l = length l.versions.now

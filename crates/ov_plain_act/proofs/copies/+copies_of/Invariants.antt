@@ -1,5 +1,0 @@
-use Rattle.std.proofs.Common.{length}
-use Rattle.ov_plain_act.proofs.copies.+copies_of.Given as goal
-
-abbrev pub decreases-copies_of : goal.decreases-copies_of
-decreases-copies_of l = length l.rows.now

@@ -1,5 +1,0 @@
-use Rattle.std.proofs.Common.{length}
-use Rattle.ov_plain_act.proofs.session.+add_files.Given as goal
-
-abbrev pub decreases-add_files : goal.decreases-add_files
-decreases-add_files l = length l.files.now
