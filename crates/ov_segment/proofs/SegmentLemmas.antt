@@ -7,7 +7,7 @@ use Rattle.ov_value.specs.Shapes.{Shape}
 use Rattle.ov_value.specs.Spelling.{row_spelling}
 use Rattle.ov_value.proofs.MarkLemmas.{rows_same}
 use Rattle.ov_segment.specs.declared.numbered.Record.{Record}
-use Rattle.ov_segment.specs.Segments.{record_bytes, segment_spelling, IsNext, AreRecords}
+use Rattle.ov_segment.specs.Segments.{record_bytes, segment_spelling, IsNext, AreRecords, last_of}
 use Rattle.ov_segment.specs.Reading.{len_at, InBounds, WantsMore, IsOff, Begins}
 use Rattle.ov_segment.proofs.RecordLemmas.{front}
 
@@ -54,16 +54,11 @@ begins_good schema last held r rest b off =
       | inr none ↦ none.none r.row b.next.row (p.marked, bytes)
     ]
 
--- the rid of the last of these records
-abbrev pub last_of : ℕ → List Record → ℕ
-last_of last [] = last
-last_of last (r ∷ rs) = last_of r.rid rs
-
 pub records-push : (schema : Shape) (last : ℕ) (rs : List Record) (r : Record) → AreRecords schema last rs → IsNext schema (last_of last rs) r → AreRecords schema last (rs ++ r ∷ [])
 records-push schema last [] r h n = (n, tt)
 records-push schema last (x ∷ rs) r h n = (h.0, records-push schema x.rid rs r h.1 n)
 
-last_of-push : (last : ℕ) (rs : List Record) (r : Record) → last_of last (rs ++ r ∷ []) ≡ r.rid
+pub last_of-push : (last : ℕ) (rs : List Record) (r : Record) → last_of last (rs ++ r ∷ []) ≡ r.rid
 last_of-push last [] r = refl
 last_of-push last (x ∷ rs) r = last_of-push x.rid rs r
 
