@@ -7,6 +7,9 @@ ghost use Rattle.ov_member.specs.Edges.{AreEdges, rids_between};
 use crate::members::LAST_RID;
 use std::alloc::{AllocError, Global};
 
+/// How many edges a walk passes one by one. Where more are to be passed, they are searched by halves.
+pub const NEAR: usize = 8;
+
 /// Puts a rid above all others into a set: into its last range, or as a range of its own.
 pub fn push_rid(edges: &mut Vec<u32>, rid: u32) -> Result<(), AllocError>
     requires sound { AreEdges edges.old.items }
