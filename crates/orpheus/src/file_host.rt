@@ -5,6 +5,7 @@ ghost use Rattle.orpheus.specs.Files.{name_of, IsNoStream};
 ghost use Rattle.ov_host.specs.Disk.{settled_reads};
 
 use crate::count::Count;
+use crate::own_files::{FileId, standard_output};
 use crate::reads::read_full_at;
 use ov_host::{Area, Failed, Host};
 use ov_value::Txt;
@@ -12,11 +13,14 @@ use std::fs::{File, OpenOptions};
 use std::io::ErrorKind;
 use std::os::fd::{AsRawFd, RawFd};
 use std::os::unix::fs::FileExt;
-use std::path::{Path, PathBuf};
+use std::path::PathBuf;
 use std::{fs, io};
 
 // The number of standard error; standard input and output have 0 and 1.
 const LAST_STANDARD_STREAM: RawFd = 2;
+
+// A journal with fewer bytes isn't made yet: its header takes so many.
+const MADE_BYTES: u64 = 39;
 
 /// The name of an area's file in the folder of a store.
 pub fn file_name(area: Area) -> &'static str
@@ -41,35 +45,72 @@ struct Areas {
 // stop could lose a file whose bytes were synced. Two programs on one folder would write over each other, so the journal is
 // locked as long as it is open, and a folder whose journal another open has locked isn't opened.
 fn open_areas(rt: HostRuntime, folder: &str) -> io::Result<Areas> {
-    make_folder(rt, folder)?;
+    let is_new = make_folder(rt, folder)?;
     let journal = open_area(rt, folder, Area::Journal)?;
     journal.try_lock()?;
     let areas = Areas {
         pages: open_area(rt, folder, Area::Pages)?,
         journal,
     };
-    settle_names(rt, folder)?;
+    test_apart(rt, &areas)?;
+    if areas.journal.metadata()?.len() < MADE_BYTES {
+        settle_own_name(rt, folder, is_new)?;
+    }
+    settle_names(&open_folder(rt, folder)?)?;
     Ok(areas)
 }
 
-fn make_folder(rt: HostRuntime, folder: &str) -> io::Result<()> {
+// Makes the folder, and says whether it wasn't there before.
+fn make_folder(rt: HostRuntime, folder: &str) -> io::Result<bool> {
     match fs::create_dir(&rt, folder) {
-        Ok(()) => settle_names(rt, folder_above(folder)),
-        Err(e) if e.kind() == ErrorKind::AlreadyExists => Ok(()),
+        Ok(()) => Ok(true),
+        Err(e) if e.kind() == ErrorKind::AlreadyExists => Ok(false),
         Err(e) => Err(e),
     }
 }
 
-fn folder_above(folder: &str) -> &str {
-    match Path::new(folder).parent() {
-        Some(above) if !above.as_os_str().is_empty() => above.as_os_str(),
-        _ => ".",
+// What is written to one area must not change the other, and what is printed neither.
+fn test_apart(rt: HostRuntime, areas: &Areas) -> io::Result<()> {
+    let pages = FileId::of(&areas.pages.metadata()?);
+    let journal = FileId::of(&areas.journal.metadata()?);
+    let output = standard_output(rt);
+    if pages == journal || output == Some(pages) || output == Some(journal) {
+        return Err(io::Error::from(ErrorKind::ResourceBusy));
     }
+    Ok(())
+}
+
+fn open_folder(rt: HostRuntime, folder: &str) -> io::Result<File> {
+    fs::open(&rt, folder)
 }
 
 // From here on a stop leaves the names that the folder has.
-fn settle_names(rt: HostRuntime, folder: &str) -> io::Result<()> {
-    fs::open(&rt, folder)?.sync_all()
+fn settle_names(folder: &File) -> io::Result<()> {
+    folder.sync_all()
+}
+
+// The way to the folder that has this one's name, also where this one is named by a link, or by a name that ends in dots.
+fn folder_above(rt: HostRuntime, folder: &str) -> io::Result<PathBuf> {
+    let mut path = PathBuf::from_str(rt.alloc(), folder)?;
+    path.push("..")?;
+    Ok(path)
+}
+
+// From here on a stop leaves the folder under its name. A run before this one may have made the folder and been stopped,
+// so it is done until the journal is made; whoever made the folder and lets nobody look above it has to see to its name.
+fn settle_own_name(rt: HostRuntime, folder: &str, is_new: bool) -> io::Result<()> {
+    match open_folder(rt, folder_above(rt, folder)?.as_str()) {
+        Ok(above) => settle_names(&above),
+        Err(_) if !is_new => Ok(()),
+        Err(e) => Err(e),
+    }
+}
+
+/// The way to an area's file in the folder of a store.
+pub fn area_path(rt: HostRuntime, folder: &str, area: Area) -> io::Result<PathBuf> {
+    let mut path = PathBuf::from_str(rt.alloc(), folder)?;
+    path.push(file_name(area))?;
+    Ok(path)
 }
 
 // Where a standard stream is closed, a file that is opened takes its number, and what is printed would be written into
@@ -77,8 +118,7 @@ fn settle_names(rt: HostRuntime, folder: &str) -> io::Result<()> {
 fn open_area(rt: HostRuntime, folder: &str, area: Area) -> io::Result<File>
     ensures { IfOk result IsNoStream }
 {
-    let mut path = PathBuf::from_str(rt.alloc(), folder)?;
-    path.push(file_name(area))?;
+    let path = area_path(rt, folder, area)?;
     let file = OpenOptions::new()
         .read(true)
         .write(true)
@@ -86,6 +126,9 @@ fn open_area(rt: HostRuntime, folder: &str, area: Area) -> io::Result<File>
         .open(&rt, path)?;
     if file.as_raw_fd() <= LAST_STANDARD_STREAM {
         return Err(io::Error::from(ErrorKind::BrokenPipe));
+    }
+    if !file.metadata()?.is_file() {
+        return Err(io::Error::from(ErrorKind::Unsupported));
     }
     Ok(file)
 }
@@ -269,20 +312,28 @@ mod tests {
         Ok(())
     }
 
-    // A folder, and the one that has its name.
-    const ABOVE: [(&str, &str); 5] = [
-        ("s", "."),
-        ("s/", "."),
-        ("../s", ".."),
-        ("a/b/s", "a/b"),
-        ("/s", "/"),
-    ];
+    // A folder, and the way to the one that has its name.
+    const ABOVE: [(&str, &str); 4] = [("s", "s/.."), ("s/", "s/.."), ("..", "../.."), ("/", "/..")];
 
     #[test]
-    fn a_folder_has_its_name_in_the_one_above(rt: HostRuntime) {
+    fn a_folder_has_its_name_in_the_one_above(rt: HostRuntime) -> Result<(), Fail> {
         for (folder, above) in ABOVE {
-            assert_eq!(rt; folder_above(folder), above);
+            assert_eq!(rt; folder_above(rt, folder)?.as_str(), above);
         }
+        Ok(())
+    }
+
+    #[test]
+    fn one_file_is_no_store(rt: HostRuntime) -> Result<(), Fail> {
+        let folder = "store_of_one_file";
+        let _ = fs::remove_dir_all(&rt, folder);
+        fs::create_dir(&rt, folder)?;
+        fs::write(&rt, "store_of_one_file/journal", "")?;
+        fs::hard_link(&rt, "store_of_one_file/journal", "store_of_one_file/pages")?;
+        let mut host = FileHost::new(rt, Txt::new(rt.alloc(), folder)?);
+        assert_eq!(rt; host.len(Area::Pages), Err(Failed));
+        fs::remove_dir_all(&rt, folder)?;
+        Ok(())
     }
 
     #[test]

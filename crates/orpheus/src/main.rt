@@ -9,9 +9,11 @@ ghost use Rattle.std.specs.Process.{exit_status};
 ghost use Rattle.orpheus.specs.Exits.{exit_of};
 
 mod count;
+mod draft;
 mod fault;
 mod file_host;
 mod folder_stage;
+mod own_files;
 mod reads;
 mod stdin_source;
 
@@ -50,9 +52,11 @@ fn folder(rt: HostRuntime, words: &[Txt]) -> Result<Txt, Status> {
 
 fn start(rt: HostRuntime) -> Result<Status, Status> {
     let words = words(rt)?;
-    let mut host = FileHost::new(rt, folder(rt, &words)?);
+    let folder = folder(rt, &words)?;
+    let beside = folder.copy(rt.alloc()).map_err(|_| Status::Memory)?;
+    let mut host = FileHost::new(rt, folder);
     let mut source = StdinSource::new(rt);
-    let mut stage = FolderStage::new(rt);
+    let mut stage = FolderStage::new(rt, beside);
     Ok(run(rt.alloc(), &words, &mut host, &mut source, &mut stage))
 }
 
