@@ -11,6 +11,7 @@ use crate::column::{Column, Kind};
 use crate::utf8::is_text;
 
 /// What stands behind a value of the kind, or `None` where none stands in front.
+#[inline(always)]
 pub(crate) fn behind(kind: Kind, bytes: &[u8]) -> Option<&[u8]>
     ensures rest { IfSome result (λ rest. rest.now ≡ front_rest kind bytes.now) }
     ensures found { IfSome result (λ rest. Begins kind bytes.now (front_value kind bytes.now) rest.now) }
