@@ -7,6 +7,8 @@ import subprocess
 import sys
 import tempfile
 
+from asked import program_asked
+
 JOURNAL = "store/journal"
 PAGES = "store/pages"
 PAGE = 4096
@@ -157,7 +159,7 @@ class Cases:
 
     def run(self, files):
         """Runs all cases in a new folder with these files, says what came of them, and ends."""
-        program = os.path.abspath(sys.argv[1])
+        program = program_asked()
         room = tempfile.mkdtemp()
         try:
             os.chdir(room)
