@@ -1,21 +1,15 @@
 -- Positions of records, one record more; the picks of some sets of rids.
-use Rattle.std.proofs.Common.{◌≡◌, ◌<◌, ℕ, suc, ◌+◌, Bool, true, false, List, [], ◌∷◌, ◌++◌, length, take, get_or, refl, sym, ◌∙◌, ap, subst, arith}
+use Rattle.std.proofs.Common.{◌≡◌, ◌<◌, ℕ, suc, ◌+◌, Bool, true, false, List, [], ◌∷◌, ◌++◌, length, take, get_or, refl, sym, ◌∙◌, ap, arith}
 use Rattle.std.specs.Prelude.{if◌then◌else◌}
 use Rattle.std.specs.List.{All}
-use Rattle.std.specs.List.Sorted.{IsPermutation, IsSorted}
-use Rattle.std.specs.Ordering.{is_lt}
-use Rattle.std.proofs.lemmas.List.{length-map, length-take-le, get_or-map, take_more}
-use Rattle.std.proofs.lemmas.List.Elements.{All-get_or, All-map, All-weaker, All-nil, All-cons}
-use Rattle.std.proofs.lemmas.List.Sorted.{IsPermutation-map, All-permutation}
-use Rattle.ov_value.specs.declared.value.Value.{Value}
-use Rattle.ov_value.specs.Rows.{Fits, key_cmp}
+use Rattle.std.proofs.lemmas.List.{length-take-le, take_more}
+use Rattle.std.proofs.lemmas.List.Elements.{All-nil, All-cons}
+use Rattle.ov_value.specs.Rows.{Fits}
 use Rattle.ov_value.specs.Shapes.{Shape}
 use Rattle.ov_segment.specs.declared.numbered.Record.{Record}
 use Rattle.ov_segment.specs.Segments.{AreRecords}
 use Rattle.ov_member.specs.Rids.{has}
-use Rattle.ov_fetch.specs.Scans.{rows_of, AllFit, row_at, rows_at, AllStand, InKeyOrder}
-use Rattle.ov_read.specs.declared.lines.Line.{Line}
-use Rattle.ov_read.specs.Lines.{IsLine, places, line_cmp}
+use Rattle.ov_fetch.specs.Scans.{rows_of, AllFit, rows_at, InKeyOrder}
 use Rattle.ov_read.specs.Picking.{places_from, places_of, IsPick, ArePicks}
 
 -- the position of one record more, where it has one of these rids
