@@ -1,12 +1,13 @@
 -- The fields of cells from a place on.
-use Rattle.std.proofs.Common.{◌≡◌, ◌++◌, ◌+◌, ◌<◌, ◌≤◌, ◌∷◌, ◌∙◌, [], ℕ, zero, suc, List, get_or, refl, sym, ap, length, drop, append-nil, append_assoc, arith}
+use Rattle.std.proofs.Common.{◌≡◌, ◌+◌, ◌<◌, ◌≤◌, ◌∷◌, [], ℕ, zero, suc, List, get_or, refl, length, drop, arith}
 use Rattle.std.proofs.lemmas.List.{drop_more}
 use Rattle.ov_value.specs.declared.column.Kind.{Kind}
 use Rattle.ov_value.specs.declared.column.Kind.TheVariants.{Int}
 use Rattle.ov_model.specs.declared.answer.Cell.{Cell}
 use Rattle.ov_model.specs.Answers.{cell_field, cell_fields}
 
-none-left : (kinds : List Kind) (cells : List Cell) (place : ℕ) → length cells ≤ place → cell_fields (drop place kinds) (drop place cells) ≡ []
+-- past the last cell there is none
+pub none-left : (kinds : List Kind) (cells : List Cell) (place : ℕ) → length cells ≤ place → cell_fields (drop place kinds) (drop place cells) ≡ []
 none-left [] cells zero past = by cells
   where
     by : (cs : List Cell) → cell_fields [] cs ≡ []
@@ -26,15 +27,7 @@ none-left (kind ∷ kinds) [] (suc place) past = by (drop place kinds)
     by (k ∷ ks) = refl
 none-left (kind ∷ kinds) (c ∷ cells) (suc place) past = none-left kinds cells place (omega (arith, past))
 
--- no cell stands at the place, so the fields are whole
-pub no-more : (kinds : List Kind) (cells : List Cell) (place : ℕ) (before : List (List ℕ)) → cell_fields kinds cells ≡ before ++ cell_fields (drop place kinds) (drop place cells)
-    → length cells ≤ place → before ≡ cell_fields kinds cells
-no-more kinds cells place before all past = sym (all ∙ ap (λ (t : List (List ℕ)). before ++ t) (none-left kinds cells place past) ∙ append-nil before)
-
--- one field more
-pub one-more : (kinds : List Kind) (cells : List Cell) (place : ℕ) (c : Cell) (before after : List (List ℕ))
-    → cell_fields kinds cells ≡ before ++ cell_fields (drop place kinds) (drop place cells) → place < length kinds → place < length cells → c ≡ get_or cells place c
-    → after ≡ before ++ cell_field (get_or kinds place Int) c ∷ []
-    → cell_fields kinds cells ≡ after ++ cell_fields (drop (place + 1) kinds) (drop (place + 1) cells)
-one-more kinds cells place c before after all there some at is =
-    all ∙ rw (drop_more kinds place Int there, drop_more cells place c some, ← at, is, append_assoc) refl
+-- the fields from a place on are that of the cell there, and the others
+pub split : (kinds : List Kind) (cells : List Cell) (place : ℕ) (c : Cell) → place < length kinds → place < length cells → c ≡ get_or cells place c
+    → cell_fields (drop place kinds) (drop place cells) ≡ cell_field (get_or kinds place Int) c ∷ cell_fields (drop (place + 1) kinds) (drop (place + 1) cells)
+split kinds cells place c there some at = rw (drop_more kinds place Int there, drop_more cells place c some, ← at) refl

@@ -2,7 +2,7 @@ pub mod Between
 pub mod Steps
 pub mod Spelled
 pub mod Ascii
-pub mod Flexible
+pub mod QuoteLemmas
 pub mod IsRows
 pub mod Lists
 pub mod Places

@@ -1,89 +1,89 @@
 -- A line that is written field by field.
-use Rattle.std.proofs.Common.{◌≡◌, ◌≢◌, ◌<◌, ◌≤◌, ◌+◌, ◌-◌, ◌^◌, ◌++◌, ◌==◌, ◌∷◌, ◌∙◌, [], ℕ, List, Option, not, min, refl, sym, ap, true, false, length, drop, get_or, arith, append_assoc, append-nil, length-append}
-use Rattle.std.specs.Io.KnownBytes.{Appends}
+use Rattle.std.proofs.Common.{◌≡◌, ◌<◌, ◌≤◌, ◌+◌, ◌++◌, ◌==◌, ◌∷◌, ◌∙◌, [], ℕ, List, refl, sym, ap, length, drop, get_or, arith, append_assoc, append-nil, length-append}
+use Rattle.std.specs.Prelude.{if◌then◌else◌}
+use Rattle.std.proofs.lemmas.Bool.{eq-eqb, ne_eqb}
 use Rattle.std.proofs.lemmas.List.{drop_more, drop_all}
-use Rattle.csv.specs.declared.writer.QuoteStyle.TheVariants as style
-use Rattle.csv.specs.declared.writer.Writer.{Writer}
-use Rattle.csv.specs.Writing.{field_text, fields_written, has_written, is_blank, next_sep, row_text, tail_text, text_written, writer_setup}
-use Rattle.csv.proofs.WriteFacts.{appends-more, appends-none, blank-more, row-final, row-more}
+use Rattle.csv.specs.Writing.{default_writer, field_text, fields_text, is_blank, next_sep, row_body, row_text}
+use Rattle.csv.proofs.WriteFacts.{row-more}
 use Rattle.ov_value.specs.declared.column.Column.{Column}
 use Rattle.ov_value.specs.declared.value.Value.{Value}
+use Rattle.ov_value.specs.Shapes.{names}
 use Rattle.ov_model.specs.Csv.{field_of, fields_of}
-use Rattle.ov_csv.specs.Growing.{AddsField, HasWritten, IsOpen, flexible}
-use Rattle.ov_csv.proofs.Flexible.{plain-style}
 
-module _ {W : Type 0} (contents : W → Option (List ℕ)) where
-  -- what the writer says of one field
-  pub more_field : (old new : Writer W) (field : List ℕ)
-      → ((writer_setup old).style ≢ style.NonNumeric → Appends (text_written contents old) (text_written contents new) (next_sep (writer_setup old) (fields_written old) ++ field_text (writer_setup old) field))
-      → writer_setup new ≡ writer_setup old → fields_written new ≡ min (fields_written old + 1) (2 ^ 64 - 1)
-      → (has_written old ≡ false → (writer_setup old).style ≢ style.NonNumeric → has_written new ≡ not (length (field_text (writer_setup old) field) == 0))
-      → (has_written old ≡ true → has_written new ≡ true) → AddsField contents old field new
-  more_field old new field text same count wrote stays before fields few h =
-      let plain = plain-style (writer_setup old) h.setup in
-      let added = rw (h.setup, h.count) at (text plain) in
-      let shown = rw h.setup at (λ (w : has_written old ≡ false). wrote w plain) in
-      let one : length (fields ++ field ∷ []) ≡ length fields + 1 = length-append fields (field ∷ []) in
-      record {
-        setup = same ∙ h.setup;
-        text = rw (row-more flexible fields field) (appends-more before (text_written contents old) (text_written contents new) _ _ h.text added);
-        count = omega (arith, count, h.count, one, few);
-        blank = rw one (blank-more flexible fields field (has_written old) (has_written new) h.blank shown stays);
-      }
+-- Some fields of a line stand behind what was there, as many as its place says; those that are left are to come.
+pub record Writes (before : List ℕ) (all : List (List ℕ)) (place : ℕ) (left : List (List ℕ)) (text : List ℕ) : Type 0 where
+  pub fields : List (List ℕ)
+  pub placed : length fields ≡ place
+  pub all_is : all ≡ fields ++ left
+  pub text_is : text ≡ before ++ row_body default_writer fields
 
-  -- and of the record's end
-  pub line_ends : (before : Option (List ℕ)) (fields : List (List ℕ)) (old new : Writer W) → HasWritten contents before fields old
-      → Appends (text_written contents old) (text_written contents new) (tail_text (writer_setup old) (has_written old) (fields_written old))
-      → Appends before (text_written contents new) (row_text flexible fields)
-  line_ends before fields old new h tail =
-      let end = rw (h.setup, h.count) at tail in
-      row-final before (text_written contents old) (text_written contents new) flexible fields (has_written old) (length fields) h.text h.blank end
+pub writes_none : (before : List ℕ) (all : List (List ℕ)) → Writes before all 0 all before
+writes_none before all = record { fields = []; placed = refl; all_is = refl; text_is = sym (append-nil before) }
 
-  -- the fields of the values before a place are written, and those of the others are to come
-  pub record Written (before : Option (List ℕ)) (columns : List Column) (row : List Value) (place : ℕ) (rest : List Value) (writer : Writer W) : Type 0 where
-    pub fields : List (List ℕ)
-    pub placed : length fields ≡ place
-    pub all : fields_of columns row ≡ fields ++ fields_of (drop place columns) rest
-    pub has : HasWritten contents before fields writer
+pub writes_more : (before : List ℕ) (all : List (List ℕ)) (place : ℕ) (field : List ℕ) (from left : List (List ℕ)) (text mid new : List ℕ) → Writes before all place from text → from ≡ field ∷ left
+    → mid ≡ text ++ next_sep default_writer place → new ≡ mid ++ field_text default_writer field → Writes before all (place + 1) left new
+writes_more before all place field from left text mid new w split separated added =
+    let body : List ℕ = row_body default_writer w.fields in
+    let sep : List ℕ = next_sep default_writer place in
+    record {
+      fields = w.fields ++ field ∷ [];
+      placed = omega (arith, w.placed, length-append w.fields (field ∷ []));
+      all_is = w.all_is ∙ ap (λ l. w.fields ++ l) split ∙ sym (append_assoc w.fields (field ∷ []) left);
+      text_is =
+          added ∙ ap (λ l. l ++ field_text default_writer field) (separated ∙ ap (λ l. l ++ sep) w.text_is ∙ append_assoc before body sep)
+          ∙ append_assoc before (body ++ sep) (field_text default_writer field)
+          ∙ ap (λ l. before ++ l) (append_assoc body sep (field_text default_writer field)
+          ∙ ap (λ n. body ++ (next_sep default_writer n ++ field_text default_writer field)) (sym w.placed) ∙ sym (row-more default_writer w.fields field));
+    }
 
-  pub written_none : (columns : List Column) (row : List Value) (writer : Writer W) → IsOpen writer → Written (text_written contents writer) columns row 0 row writer
-  unfolding is_blank
-  written_none columns row writer open_ = record {
-    fields = [];
-    placed = refl;
-    all = refl;
-    has = record { setup = open_.setup; text = appends-none (text_written contents writer); count = open_.fields; blank = rw open_.wrote refl };
-  }
+-- no field is left
+pub writes_all : (before : List ℕ) (all : List (List ℕ)) (place : ℕ) (left : List (List ℕ)) (text : List ℕ) → Writes before all place left text → left ≡ [] → text ≡ before ++ row_body default_writer all
+writes_all before all place left text w none =
+    let all_is : all ≡ w.fields = w.all_is ∙ ap (λ l. w.fields ++ l) none ∙ append-nil w.fields in
+    w.text_is ∙ ap (λ l. before ++ row_body default_writer l) (sym all_is)
 
-  pub written_more : (before : Option (List ℕ)) (columns : List Column) (row : List Value) (place : ℕ) (rest after : List Value) (column : Column) (v : Value) (old new : Writer W)
-      → Written before columns row place rest old → place < length columns → length columns ≤ 2 ^ 64 - 1 → column ≡ get_or columns place column → rest ≡ v ∷ after
-      → AddsField contents old (field_of column.kind v) new → Written before columns row (place + 1) after new
-  written_more before columns row place rest after column v old new w here few is split add =
-      let from : drop place columns ≡ column ∷ drop (place + 1) columns = drop_more columns place column here ∙ ap (λ (c : Column). c ∷ drop (place + 1) columns) (sym is) in
-      record {
-        fields = w.fields ++ field_of column.kind v ∷ [];
-        placed = omega (arith, w.placed, length-append w.fields (field_of column.kind v ∷ []));
-        all =
-            w.all
-            ∙ (λ i. w.fields ++ fields_of (from i) (split i))
-            ∙ sym (append_assoc w.fields (field_of column.kind v ∷ []) (fields_of (drop (place + 1) columns) after));
-        has = add before w.fields (omega (arith, w.placed, here, few)) w.has;
-      }
+-- a line is blank where it shows no byte
+blank_is : (fields : List (List ℕ)) → is_blank default_writer fields ≡ (length (row_body default_writer fields) == 0)
+unfolding is_blank fields_text
+blank_is [] = refl
+blank_is (field ∷ []) = ap (λ l. length l == 0) (sym (append-nil (field_text default_writer field)))
+blank_is (field ∷ next ∷ rest) =
+    let more : List ℕ = field_text default_writer next ++ fields_text default_writer rest in
+    sym (ne_eqb _ 0 (λ none. omega (arith, none, length-append (field_text default_writer field) (44 ∷ more))))
 
-  no_values : (columns : List Column) → fields_of columns [] ≡ []
-  no_values [] = refl
-  no_values (c ∷ cs) = refl
+same_length : (before body : List ℕ) → (length (before ++ body) == length before) ≡ (length body == 0)
+same_length before [] = eq-eqb _ _ (ap length (append-nil before))
+same_length before (b ∷ bs) =
+    ne_eqb (length (before ++ b ∷ bs)) (length before) (λ e. omega (arith, e, length-append before (b ∷ bs))) ∙ sym (ne_eqb (length (b ∷ bs)) 0 (λ e. omega (arith, e)))
 
-  -- no value is left
-  pub written_all : (before : Option (List ℕ)) (columns : List Column) (row : List Value) (place : ℕ) (rest : List Value) (writer : Writer W) → Written before columns row place rest writer → rest ≡ []
-      → HasWritten contents before (fields_of columns row) writer
-  written_all before columns row place rest writer w none =
-      let all : fields_of columns row ≡ w.fields = w.all ∙ (λ i. w.fields ++ fields_of (drop place columns) (none i)) ∙ ap (λ l. w.fields ++ l) (no_values (drop place columns)) ∙ append-nil w.fields in
-      rw all w.has
+-- the fields of a line, and its end
+pub line_is : (before : List ℕ) (fields : List (List ℕ)) (start : ℕ) (text new : List ℕ) → start ≡ length before → text ≡ before ++ row_body default_writer fields
+    → new ≡ text ++ ((if length text == start then 34 ∷ 34 ∷ [] else []) ++ 10 ∷ []) → new ≡ before ++ row_text default_writer fields
+line_is before fields start text new at is ended =
+    let body : List ℕ = row_body default_writer fields in
+    let blank : (length text == start) ≡ is_blank default_writer fields = (λ i. length (is i) == at i) ∙ same_length before body ∙ sym (blank_is fields) in
+    ended
+    ∙ (λ i. is i ++ ((if blank i then 34 ∷ 34 ∷ [] else []) ++ 10 ∷ []))
+    ∙ append_assoc before body ((if is_blank default_writer fields then 34 ∷ 34 ∷ [] else []) ++ 10 ∷ [])
 
-  -- or no column
-  pub written_end : (before : Option (List ℕ)) (columns : List Column) (row : List Value) (place : ℕ) (rest : List Value) (writer : Writer W) → Written before columns row place rest writer → length columns ≤ place
-      → HasWritten contents before (fields_of columns row) writer
-  written_end before columns row place rest writer w past =
-      let all : fields_of columns row ≡ w.fields = w.all ∙ (λ i. w.fields ++ fields_of (drop_all place columns past i) rest) ∙ append-nil w.fields in
-      rw all w.has
+-- the fields from a place on are that of the value there, and the others
+pub fields_split : (columns : List Column) (place : ℕ) (rest after : List Value) (column : Column) (v : Value) → place < length columns → column ≡ get_or columns place column → rest ≡ v ∷ after
+    → fields_of (drop place columns) rest ≡ field_of column.kind v ∷ fields_of (drop (place + 1) columns) after
+fields_split columns place rest after column v here is split =
+    let from : drop place columns ≡ column ∷ drop (place + 1) columns = drop_more columns place column here ∙ ap (λ (c : Column). c ∷ drop (place + 1) columns) (sym is) in
+    λ i. fields_of (from i) (split i)
+
+no_values : (columns : List Column) → fields_of columns [] ≡ []
+no_values [] = refl
+no_values (c ∷ cs) = refl
+
+-- no value is left, or no column
+pub fields_none : (columns : List Column) (rest : List Value) → rest ≡ [] → fields_of columns rest ≡ []
+fields_none columns rest none = ap (fields_of columns) none ∙ no_values columns
+
+pub fields_end : (columns : List Column) (place : ℕ) (rest : List Value) → length columns ≤ place → fields_of (drop place columns) rest ≡ []
+fields_end columns place rest past = ap (λ (l : List Column). fields_of l rest) (drop_all place columns past)
+
+-- the names from a place on
+pub names_split : (columns : List Column) (place : ℕ) (column : Column) → place < length columns → column ≡ get_or columns place column → names (drop place columns) ≡ column.name ∷ names (drop (place + 1) columns)
+names_split columns place column here is = ap names (drop_more columns place column here ∙ ap (λ (c : Column). c ∷ drop (place + 1) columns) (sym is))

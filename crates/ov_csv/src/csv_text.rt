@@ -1,17 +1,15 @@
 //! The text of rows.
 
-ghost use Rattle.std.specs.Prelude.{◌≡◌, [], Some, None, true, IfOk, OnOk, OnErr, IsOk};
-ghost use Rattle.csv.specs.Records.{fields_of};
-ghost use Rattle.csv.specs.Writing.{default_writer, row_text, text_written};
+ghost use Rattle.std.specs.Prelude.{◌≡◌, [], Some, None, IfOk, OnOk, OnErr};
+ghost use Rattle.csv.specs.Writing.{default_writer, row_text};
 ghost use Rattle.ov_value.specs.Shapes.{names};
 ghost use Rattle.ov_model.specs.Answers.{cell_fields};
 ghost use Rattle.ov_model.specs.Csv.{fields_of as row_fields, text_of};
-ghost use Rattle.ov_csv.specs.Growing.{Grows, IsOpen};
+ghost use Rattle.ov_csv.specs.Growing.{Grows};
 
-use crate::cells::fill_cells;
-use crate::row_line::write_row;
-use crate::spelling::fill_names;
-use csv::{ByteRecord, Error, Writer, WriterBuilder};
+use crate::answer_line::push_answer;
+use crate::header_line::push_header;
+use crate::row_line::push_row;
 use ov_model::Cell;
 use ov_segment::RowTable;
 use ov_value::{Cells, Column, Kind, Schema};
@@ -22,22 +20,17 @@ use std::marker::Model;
 /// `None` once memory was wanting: from then on each call answers so.
 #[derive(Drop)]
 pub struct CsvText {
-    alloc: Global,
-    writer: Writer<Vec<u8>>,
-    line: ByteRecord,
+    text: Vec<u8>,
     failed: bool,
 }
 
 impl Model for CsvText {
     ghost use Rattle.std.specs.Prelude.{List, ℕ, Option, Some};
-    ghost use Rattle.csv.specs.Writing.{text_written};
-    ghost use Rattle.ov_csv.specs.Growing.{text_unless, IsWriting};
+    ghost use Rattle.ov_csv.specs.Growing.{text_unless};
 
     ghost Value = { Option (List ℕ) };
 
-    ghost view = { λ t. text_unless t.failed (text_written (λ v. Some v.items) t.writer) };
-
-    ghost invariant = { λ t. IsWriting t.failed t.writer };
+    ghost view = { λ t. text_unless t.failed (Some t.text.items) };
 }
 
 impl CsvText {
@@ -46,11 +39,7 @@ impl CsvText {
         ensures { result ≡ Some [] }
     {
         CsvText {
-            alloc,
-            writer: WriterBuilder::new()
-                .flexible(true)
-                .from_writer(Vec::new(alloc)),
-            line: ByteRecord::new(alloc),
+            text: Vec::new(alloc),
             failed: false,
         }
     }
@@ -64,8 +53,7 @@ impl CsvText {
             return Err(AllocError);
         }
         self.failed = true;
-        fill_names(&mut self.line, columns)?;
-        write_line(&mut self.writer, &self.line)?;
+        push_header(&mut self.text, columns)?;
         self.failed = false;
         Ok(())
     }
@@ -79,7 +67,7 @@ impl CsvText {
             return Err(AllocError);
         }
         self.failed = true;
-        write_row(self.alloc, &mut self.writer, columns, row)?;
+        push_row(&mut self.text, columns, row)?;
         self.failed = false;
         Ok(())
     }
@@ -93,8 +81,7 @@ impl CsvText {
             return Err(AllocError);
         }
         self.failed = true;
-        fill_cells(self.alloc, &mut self.line, kinds, cells)?;
-        write_line(&mut self.writer, &self.line)?;
+        push_answer(&mut self.text, kinds, cells)?;
         self.failed = false;
         Ok(())
     }
@@ -103,19 +90,8 @@ impl CsvText {
     pub fn finish(self) -> Result<Vec<u8>, AllocError>
         ensures { IfOk result (λ text. self ≡ Some text.items) }
     {
-        let CsvText {
-            alloc: _,
-            writer,
-            line: _,
-            failed,
-        } = self;
-        if failed {
-            return Err(AllocError);
-        }
-        match writer.into_inner() {
-            Ok(text) => Ok(text),
-            Err(_) => Err(AllocError),
-        }
+        let CsvText { text, failed } = self;
+        if failed { Err(AllocError) } else { Ok(text) }
     }
 }
 
@@ -130,23 +106,4 @@ pub fn write_rows(alloc: Global, schema: &Schema, rows: &RowTable) -> Result<Vec
         text.row(columns, rows.row(place).cells())?;
     }
     text.finish()
-}
-
-// Writes the record behind what was written.
-fn write_line(writer: &mut Writer<Vec<u8>>, line: &ByteRecord) -> Result<(), AllocError>
-    requires { IsOpen writer.old }
-    ensures open { OnOk result (IsOpen writer.new) }
-    ensures text { OnOk result (Grows (text_written (λ v. Some v.items) writer.old) (row_text default_writer (fields_of line.now)) (text_written (λ v. Some v.items) writer.new)) }
-{
-    done(writer.write_byte_record(line))
-}
-
-// The answer of a write into memory, which has no error but want of memory.
-pub(crate) fn done(written: Result<(), Error>) -> Result<(), AllocError>
-    ensures { OnOk result (IsOk written) }
-{
-    match written {
-        Ok(()) => Ok(()),
-        Err(_) => Err(AllocError),
-    }
 }

@@ -2,22 +2,23 @@
 //!
 //! `read_csv` reads a whole file and names its first fault; `CsvText` writes a header and rows, a line at
 //! a time, `write_csv` those of a scan, and `write_answer` the rows of an answer, which have no header. The `csv`
-//! crate splits the bytes into records and writes records; what a field spells in a column stands in the definitions of
-//! `ov_model`, which both sides are proved to meet.
+//! crate splits the bytes into records, and says what a record is written as; what a field spells in a column stands in the
+//! definitions of `ov_model`. Both sides are proved to meet them.
 #![tactic(auto)]
 
+mod answer_line;
 mod answering;
-mod cells;
 mod csv_err;
 mod csv_text;
+mod field_line;
 mod fields;
+mod header_line;
 mod lines;
 mod names;
 mod reading;
 mod records;
 mod row_line;
 mod scans;
-mod spelling;
 mod texts;
 
 pub use answering::write_answer;

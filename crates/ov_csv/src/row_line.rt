@@ -1,100 +1,88 @@
 //! The line of a row, field by field from the bytes of the row.
 
-ghost use Rattle.std.specs.Prelude.{◌≡◌, ◌∷◌, OnOk};
-ghost use Rattle.csv.specs.Writing.{default_writer, row_text, text_written};
+ghost use Rattle.std.specs.Prelude.{◌≡◌, ◌++◌, ◌∷◌, OnOk};
+ghost use Rattle.csv.specs.Writing.{default_writer, field_text, row_body, row_text};
 ghost use Rattle.ov_value.specs.Cells.{value_of};
-ghost use Rattle.ov_model.specs.Csv.{field_of, fields_of as row_fields, text_field};
-ghost use Rattle.ov_csv.specs.Growing.{AddsField, Grows, HasWritten, IsOpen};
+ghost use Rattle.ov_model.specs.Csv.{field_of, fields_of as row_fields, null_field as null_field_of, text_field};
 
-use crate::csv_text::done;
+use crate::field_line::{end_line, push_field, push_separator};
 use crate::fields::is_null_mark;
-use crate::spelling::null_field;
-use csv::Writer;
 use itoa::Buffer;
 use ov_value::{CellRef, Cells, Column, Kind};
-use std::alloc::{AllocError, Global};
+use std::alloc::AllocError;
 
-/// Writes the line of a row, whose values stand in these columns. Each field goes to the writer as it is read from the row's
-/// bytes; memory is taken for what the writer writes into, and for a text that gets a backslash more.
-pub(crate) fn write_row(
-    alloc: Global,
-    writer: &mut Writer<Vec<u8>>,
+/// Adds the line of a row, whose values stand in these columns. Each field goes into the text as it is read from the row's
+/// bytes; memory is taken for the text alone, and for a text that gets a backslash more.
+pub(crate) fn push_row(
+    text: &mut Vec<u8>,
     columns: &[Column],
     row: Cells<'_>,
 ) -> Result<(), AllocError>
-    requires { IsOpen writer.old }
-    ensures open { OnOk result (IsOpen writer.new) }
-    ensures text { OnOk result (Grows (text_written (λ v. Some v.items) writer.old) (row_text default_writer (row_fields columns.now row.entry)) (text_written (λ v. Some v.items) writer.new)) }
+    ensures { OnOk result (text.new.items ≡ text.old.items ++ row_text default_writer (row_fields columns.now row.entry)) }
 {
-    write_cells(alloc, writer, columns, row)?;
-    done(writer.end_record())
+    let start = text.len();
+    push_cells(text, columns, row)?;
+    end_line(text, start)
 }
 
-// Writes the fields of the values that are there, from the left, one a column.
-fn write_cells(
-    alloc: Global,
-    writer: &mut Writer<Vec<u8>>,
-    columns: &[Column],
-    row: Cells<'_>,
-) -> Result<(), AllocError>
-    requires { IsOpen writer.old }
-    ensures { OnOk result (HasWritten (λ v. Some v.items) (text_written (λ v. Some v.items) writer.old) (row_fields columns.now row.entry) writer.new) }
+// Adds the fields of the values that are there, from the left, one a column.
+fn push_cells(text: &mut Vec<u8>, columns: &[Column], row: Cells<'_>) -> Result<(), AllocError>
+    ensures { OnOk result (text.new.items ≡ text.old.items ++ row_body default_writer (row_fields columns.now row.entry)) }
 {
     let mut rest = row;
-    for column in columns {
+    for (place, column) in columns.iter().enumerate() {
         match rest.next() {
-            Some(cell) => write_cell(alloc, writer, column.kind, cell)?,
+            Some(cell) => {
+                push_separator(text, place)?;
+                push_cell(text, column.kind, cell)?;
+            }
             None => return Ok(()),
         }
     }
     Ok(())
 }
 
-fn write_cell(
-    alloc: Global,
-    writer: &mut Writer<Vec<u8>>,
-    kind: Kind,
-    cell: CellRef<'_>,
-) -> Result<(), AllocError>
-    ensures { OnOk result (AddsField (λ v. Some v.items) writer.old (field_of kind (value_of cell.entry)) writer.new) }
+/// Adds the field of a value in a column of the kind.
+pub(crate) fn push_cell(text: &mut Vec<u8>, kind: Kind, cell: CellRef<'_>) -> Result<(), AllocError>
+    ensures { OnOk result (text.new.items ≡ text.old.items ++ field_text default_writer (field_of kind (value_of cell.entry))) }
 {
     match cell {
-        CellRef::Int(number) => write_field(writer, Buffer::new().format(number).as_bytes()),
-        CellRef::Text(text) => write_text(alloc, writer, text.as_bytes()),
-        CellRef::Flag(flag) => write_field(writer, if flag { b"true" } else { b"false" }),
-        CellRef::Null => write_field(writer, null_field(kind)),
+        // No digit and no sign calls for quotes.
+        CellRef::Int(number) => text.extend_from_slice(Buffer::new().format(number).as_bytes()),
+        CellRef::Text(written) => push_text(text, written.as_bytes()),
+        CellRef::Flag(flag) => push_field(text, if flag { b"true" } else { b"false" }),
+        CellRef::Null => push_field(text, null_field(kind)),
+    }
+}
+
+// The field of NULL in a column of the kind.
+fn null_field(kind: Kind) -> &'static [u8]
+    ensures { result.now ≡ null_field_of kind }
+{
+    match kind {
+        Kind::Text => b"\\N",
+        _ => b"",
     }
 }
 
 // A text that would be read as NULL, or as a text with a backslash less, gets a backslash more.
-fn write_text(alloc: Global, writer: &mut Writer<Vec<u8>>, text: &[u8]) -> Result<(), AllocError>
-    ensures { OnOk result (AddsField (λ v. Some v.items) writer.old (text_field text.now) writer.new) }
+fn push_text(text: &mut Vec<u8>, written: &[u8]) -> Result<(), AllocError>
+    ensures { OnOk result (text.new.items ≡ text.old.items ++ field_text default_writer (text_field written.now)) }
 {
-    match text {
-        [b'\\', rest @ ..] => write_escaped(alloc, writer, text, rest),
-        _ => write_field(writer, text),
+    match written {
+        [b'\\', rest @ ..] => push_escaped(text, written, rest),
+        _ => push_field(text, written),
     }
 }
 
-fn write_escaped(
-    alloc: Global,
-    writer: &mut Writer<Vec<u8>>,
-    text: &[u8],
-    rest: &[u8],
-) -> Result<(), AllocError>
-    requires { text.now ≡ 92 ∷ rest.now }
-    ensures { OnOk result (AddsField (λ v. Some v.items) writer.old (text_field text.now) writer.new) }
+fn push_escaped(text: &mut Vec<u8>, written: &[u8], rest: &[u8]) -> Result<(), AllocError>
+    requires { written.now ≡ 92 ∷ rest.now }
+    ensures { OnOk result (text.new.items ≡ text.old.items ++ field_text default_writer (text_field written.now)) }
 {
     if !is_null_mark(rest) {
-        return write_field(writer, text);
+        return push_field(text, written);
     }
-    let mut more = Vec::from_slice(alloc, b"\\")?;
-    more.extend_from_slice(text)?;
-    write_field(writer, more.as_slice())
-}
-
-fn write_field(writer: &mut Writer<Vec<u8>>, field: &[u8]) -> Result<(), AllocError>
-    ensures { OnOk result (AddsField (λ v. Some v.items) writer.old field.now writer.new) }
-{
-    done(writer.write_field(field))
+    let mut more = Vec::from_slice(*text.allocator(), b"\\")?;
+    more.extend_from_slice(written)?;
+    push_field(text, more.as_slice())
 }
