@@ -37,7 +37,7 @@ class Store:
         self.types = dict(types or {})
         self._schemas = {}
         if not os.path.isfile(os.path.join(self.folder, "journal")):
-            raise faults.NoStore(f"{folder} has no store: Store.create({str(folder)!r}) makes one")
+            raise faults.NoStore(f"{folder} has no store: Store.create({str(folder)!r}) makes one, and so does `orpheus-shell {folder} init`")
 
     @classmethod
     def create(cls, folder, program=None, **others):
