@@ -8,6 +8,7 @@ ghost use Rattle.csv.specs.Records.{fields_of};
 
 use crate::names::field;
 use csv::ByteRecord;
+use ov_value::is_text;
 use std::marker::Model;
 use std::str;
 
@@ -65,18 +66,15 @@ fn are_each_text(line: &ByteRecord) -> bool
     ensures { result ≡ list_all is_utf8 (fields_of line.now) }
 {
     for place in 0..line.len() {
-        if !is_text(field(line, place)) {
+        if !is_utf8_field(field(line, place)) {
             return false;
         }
     }
     true
 }
 
-fn is_text(field: &[u8]) -> bool
+fn is_utf8_field(field: &[u8]) -> bool
     ensures { result ≡ is_utf8 field.now }
 {
-    match str::from_utf8(field) {
-        Ok(_) => true,
-        Err(_) => false,
-    }
+    is_text(field)
 }

@@ -1,7 +1,6 @@
 pub mod Looks
 pub mod Pieces
-pub mod Going
-pub mod Passing
+pub mod Filling
 pub mod Running
 pub mod Gathered
 pub mod Lacking

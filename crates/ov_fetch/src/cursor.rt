@@ -1,19 +1,18 @@
 //! The records of a segment, one after another, as its bytes come from the host.
 
-ghost use Rattle.std.specs.Prelude.{◌≡◌, ◌+◌, ◌≤◌, ◌<◌, ◌^◌, [], true, false, None, length, IfOk, IfErr, IsErrOf, MatchResult, OnOk};
+ghost use Rattle.std.specs.Prelude.{◌≡◌, ◌+◌, ◌≤◌, ◌<◌, ◌^◌, [], true, false, length, IfOk, IfErr, IsErrOf, MatchResult, OnOk};
 ghost use Rattle.ov_host.specs.Host.{Rose};
 ghost use Rattle.ov_member.specs.Rids.{AreRids};
 ghost use Rattle.ov_segment.specs.Reading.{fresh};
 ghost use Rattle.ov_fetch.specs.Extents.{Looked, page_bytes, RefusesExtent, RefusesSegment};
-ghost use Rattle.ov_fetch.specs.Cursors.{left_of, IsOpen, IsAtFront, Reaches, Passes, RefusesNext, GoesOn, IsSameWith};
+ghost use Rattle.ov_fetch.specs.Cursors.{left_of, IsAtFront, Reaches, IsSameWith};
 ghost use Rattle.ov_fetch.specs.Gathering.{HasKept};
 
 use crate::errors::FetchErr;
-use crate::segments::members_of;
 use ov_host::{Extent, Host};
-use ov_member::{Ahead, Members};
+use ov_member::{Members, MembersDraft};
 use ov_pages::get;
-use ov_segment::{Kept, SegmentReader, Table};
+use ov_segment::{SegmentReader, Stop, Table};
 use ov_value::Schema;
 use std::alloc::{AllocError, Global};
 
@@ -53,7 +52,7 @@ impl Cursor {
 
     /// Puts the wanted records of the segment behind those kept, and gives the rids of all of its records. The wanted
     /// rids and the segment's ascend both, and are walked side by side. Of a record that isn't wanted the bytes are
-    /// tested, and nothing is kept.
+    /// tested, and nothing is kept. `Damaged` exactly where the segment is short, or its bytes are no segment.
     pub(crate) fn keep_wanted<H: Host>(
         &mut self,
         alloc: Global,
@@ -76,64 +75,28 @@ impl Cursor {
             → IfErr result (λ e. RefusesSegment e schema.now (page_bytes (H.state host.old)) self.old.extent) }
     {
         let mut ahead = wanted.ahead();
-        let mut rids = Vec::new(alloc);
-        while let Some(rid) = self.keep_next(host, schema, piece, &mut ahead, kept)? {
-            rids.push(rid)?;
-        }
-        Ok(members_of(alloc, &rids)?)
-    }
-
-    // Passes the next record, and puts it behind those kept where `ahead` says that its rid is wanted. `None` at the end of
-    // the segment. `Damaged` exactly where the segment is short, or its bytes don't go on as a segment does.
-    fn keep_next<H: Host>(
-        &mut self,
-        host: &mut H,
-        schema: &Schema,
-        piece: &mut [u8],
-        ahead: &mut Ahead<'_>,
-        kept: &mut Table,
-    ) -> Result<Option<u32>, FetchErr>
-        requires still { IsOpen self.old }
-        requires reached { (H.state host.old).tells ≡ true → Reaches (page_bytes (H.state host.old)) self.old }
-        requires room { length piece.old ≡ 61440 }
-        requires columns { kept.old.columns ≡ schema.now.columns }
-        ensures looked { Looked (H.state host.old) (H.state host.new) }
-        ensures cause { IsErrOf result FetchErr.Host → Rose (H.state host.old).faults (H.state host.new).faults }
-        ensures fetched { (H.state host.new).fetched + self.old.at ≤ (H.state host.old).fetched + self.new.at }
-        ensures place { self.new.extent ≡ self.old.extent }
-        ensures within { self.new.at ≤ self.old.extent.bytes }
-        ensures passed { IfOk result (λ found. Passes schema.now (H.state host.old) self.old (record { inside = ahead.old.inside; edges = ahead.old.edges }) kept.old
-            found self.new (record { inside = ahead.new.inside; edges = ahead.new.edges }) kept.new) }
-        ensures err { (H.state host.old).tells ≡ true
-            → IfErr result (λ e. RefusesNext e schema.now (page_bytes (H.state host.old)) self.old) }
-    {
-        let mut next = self.reader.keep_next(schema, ahead, kept)?;
-        while let Kept::More = next {
-            if self.at == self.extent.bytes {
-                return self.end();
+        let mut rids = MembersDraft::new(alloc);
+        loop {
+            match self.reader.pass_held(schema, &mut ahead, &mut rids, kept)? {
+                Stop::Bad => return Err(self.damaged()),
+                Stop::More => {
+                    if self.at < self.extent.bytes {
+                        self.fill(host, piece)?;
+                    } else if self.reader.held() == 0 {
+                        return Ok(rids.done());
+                    } else {
+                        return Err(self.damaged());
+                    }
+                }
             }
-            self.fill(host, piece)?;
-            next = self.reader.keep_next(schema, ahead, kept)?;
-        }
-        match next {
-            Kept::Record(rid) => Ok(Some(rid)),
-            _ => Err(FetchErr::Damaged {
-                page: self.extent.page,
-            }),
         }
     }
 
-    // The answer at the end of the extent, where no whole record is held.
-    fn end(&self) -> Result<Option<u32>, FetchErr>
-        ensures { MatchResult result (λ found. (found ≡ None) × (self.now.reader.held ≡ []))
-            (λ e. (e ≡ FetchErr.Damaged self.now.extent.page) × (0 < length self.now.reader.held)) }
+    fn damaged(&self) -> FetchErr
+        ensures { result ≡ FetchErr.Damaged self.now.extent.page }
     {
-        if self.reader.held() == 0 {
-            Ok(None)
-        } else {
-            Err(FetchErr::Damaged {
-                page: self.extent.page,
-            })
+        FetchErr::Damaged {
+            page: self.extent.page,
         }
     }
 
@@ -149,7 +112,7 @@ impl Cursor {
         ensures fetched { (H.state host.new).fetched + self.old.at ≤ (H.state host.old).fetched + self.new.at }
         ensures piece { length piece.new ≡ 61440 }
         ensures same { IsSameWith self.old self.new }
-        ensures more { OnOk result (GoesOn self.old self.new) }
+        ensures more { OnOk result (self.old.at < self.new.at) }
         ensures answer { (H.state host.old).tells ≡ true → MatchResult result
             (λ _. (left_of (page_bytes (H.state host.old)) self.new ≡ left_of (page_bytes (H.state host.old)) self.old)
             × Reaches (page_bytes (H.state host.old)) self.new)
@@ -158,7 +121,7 @@ impl Cursor {
         let extent = self.extent;
         let got = get(host, extent, self.at, piece)?;
         if got == 0 {
-            return Err(FetchErr::Damaged { page: extent.page });
+            return Err(self.damaged());
         }
         let _taken = self.reader.feed(&piece[..got]);
         self.at += got as u32;

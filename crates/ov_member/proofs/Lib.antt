@@ -7,3 +7,4 @@ pub mod PutLemmas
 pub mod WalkLemmas
 pub mod ReadLemmas
 pub mod SetLemmas
+pub mod LeapLemmas

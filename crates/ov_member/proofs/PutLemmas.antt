@@ -1,7 +1,7 @@
 -- One more rid at the end of a set.
 use Rattle.std.proofs.Common.{◌≡◌, ℕ, suc, ◌+◌, ◌-◌, ◌<◌, ◌≤◌, ◌^◌, Bool, true, false, eqb, List, [], ◌∷◌, ◌++◌, length, Option, Some, get_or, refl, sym, ap, subst, ◌∙◌, append_assoc, ◌⊎◌, inl, inr, arith}
-use Rattle.std.specs.List.{slice_get}
-use Rattle.std.specs.Option.{option_eq, option_to_list}
+use Rattle.std.specs.List.{slice_get, slice_set}
+use Rattle.std.specs.Option.{option_eq}
 use Rattle.std.proofs.lemmas.Option.{slice_get-get_or}
 use Rattle.std.proofs.lemmas.Bool.{eqb-true, eqb-false}
 use Rattle.std.proofs.lemmas.List.{append-nil}
@@ -111,6 +111,23 @@ put_rid old middle new rid sound rids cases is =
           rw whole (begun 0 old rid sound.ascend sound.closed less above.1)
     ]
 
--- an edge that was taken off the end
-pub taken_off : (old rest : List ℕ) (o : Option ℕ) (edge : ℕ) → is_last old edge ≡ true → old ≡ rest ++ option_to_list o → o ≡ Some (get_or old (length old - 1) 0) → old ≡ rest ++ edge ∷ []
-taken_off old rest o edge e parts taken = parts ∙ rw (taken, is_last-true old edge e) refl
+-- the edges before the last one
+abbrev pub before_last : List ℕ → List ℕ
+before_last [] = []
+before_last (x ∷ []) = []
+before_last (x ∷ y ∷ edges) = x ∷ before_last (y ∷ edges)
+
+pub last_is : (edges : List ℕ) (edge : ℕ) → 0 < length edges → get_or edges (length edges - 1) 0 ≡ edge → edges ≡ before_last edges ++ edge ∷ []
+last_is [] edge lt e = absurd (omega arith)
+last_is (x ∷ []) edge lt e = ap (λ (y : ℕ). y ∷ []) e
+last_is (x ∷ y ∷ edges) edge lt e =
+    let at : length (x ∷ y ∷ edges) - 1 ≡ suc (length (y ∷ edges) - 1) = omega arith in
+    ap (λ (xs : List ℕ). x ∷ xs) (last_is (y ∷ edges) edge (omega arith) (ap (λ (n : ℕ). get_or (x ∷ y ∷ edges) n 0) (sym at) ∙ e))
+
+-- another edge is put in its place
+pub last_put : (edges : List ℕ) (put : ℕ) → 0 < length edges → slice_set edges (length edges - 1) put ≡ before_last edges ++ put ∷ []
+last_put [] put lt = absurd (omega arith)
+last_put (x ∷ []) put lt = refl
+last_put (x ∷ y ∷ edges) put lt =
+    let at : length (x ∷ y ∷ edges) - 1 ≡ suc (length (y ∷ edges) - 1) = omega arith in
+    ap (λ (n : ℕ). slice_set (x ∷ y ∷ edges) n put) at ∙ ap (λ (xs : List ℕ). x ∷ xs) (last_put (y ∷ edges) put (omega arith))

@@ -1,5 +1,5 @@
 -- Walking along the edges of two sets at once, to the edges of a set that is made of them.
-use Rattle.std.specs.Prelude.{◌≡◌, ℕ, ◌+◌, Bool, not, ◌||◌, ◌&&◌, ◌==◌, min, if◌then◌else◌, List, [], ◌∷◌, length, Option, Some, None}
+use Rattle.std.specs.Prelude.{◌≡◌, ℕ, ◌+◌, ◌≤◌, Bool, not, ◌||◌, ◌&&◌, ◌==◌, min, if◌then◌else◌, List, [], ◌∷◌, length, Option, Some, None}
 use Rattle.ov_member.specs.declared.walk.Rule.{Rule}
 use Rattle.ov_member.specs.declared.walk.Rule.TheVariants.{Either, LeftOnly, Both}
 use Rattle.ov_member.specs.declared.walk.Walk.{Walk}
@@ -45,3 +45,14 @@ IsAbove low walk = Ascend low walk.left.edges.now × Ascend low walk.right.edges
 
 abbrev pub edges_left : Walk → ℕ
 edges_left walk = length walk.left.edges.now + length walk.right.edges.now
+
+-- whether the rids before both rests are in the set that is made
+abbrev pub taken : Walk → Bool
+taken walk = takes walk.rule walk.left.inside walk.right.inside
+
+-- what is left of a side that leapt over edges up to a number: the same from that number on
+pub record IsLeap (number : ℕ) (inside : Bool) (edges : List ℕ) (inside' : Bool) (edges' : List ℕ) : Type 0 where
+  pub same : (low : ℕ) → Ascend low edges → (n : ℕ) → number ≤ n → status inside' edges' n ≡ status inside edges n
+  pub last : ends inside' edges' ≡ ends inside edges
+  pub ascend : (low : ℕ) → Ascend low edges → Ascend low edges'
+  pub fewer : length edges' ≤ length edges

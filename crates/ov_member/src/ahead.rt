@@ -3,10 +3,8 @@
 ghost use Rattle.std.specs.Prelude.{◌≡◌, ◌≤◌, ℕ, false};
 ghost use Rattle.ov_member.specs.Edges.{Ascend, status};
 
+use crate::edges::NEAR;
 use std::marker::Model;
-
-// How many edges are passed one by one. Where more are to be passed, they are searched by halves.
-const NEAR: usize = 8;
 
 /// What is ahead of a walk over a set: its edges from some rid on, and whether the rids before the first of them are
 /// in the set. `status` says of each rid from there on whether it is in the set.

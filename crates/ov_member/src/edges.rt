@@ -1,25 +1,30 @@
 //! A set as its edges: where each of its ranges begins, and one past where it ends, ascending.
 
-ghost use Rattle.std.specs.Prelude.{◌≡◌, [], ◌∷◌, ◌++◌, length, IfOk, OnOk, MatchOption};
+ghost use Rattle.std.specs.Prelude.{◌≡◌, [], ◌∷◌, ◌++◌, length, IfOk, OnOk, OnErr, MatchOption};
 ghost use Rattle.ov_member.specs.Rids.{AreRids, IsGreatest, has};
 ghost use Rattle.ov_member.specs.Edges.{AreEdges, rids_between};
 
 use crate::members::LAST_RID;
 use std::alloc::{AllocError, Global};
 
-/// Puts a rid above all others into a set.
-fn push_rid(edges: &mut Vec<u32>, rid: u32) -> Result<(), AllocError>
+/// How many edges a walk passes one by one. Where more are to be passed, they are searched by halves.
+pub const NEAR: usize = 8;
+
+/// Puts a rid above all others into a set: into its last range, or as a range of its own.
+pub fn push_rid(edges: &mut Vec<u32>, rid: u32) -> Result<(), AllocError>
     requires sound { AreEdges edges.old.items }
     requires above { AreRids (rids_between edges.old.items ++ rid ∷ []) }
-    ensures sound { OnOk result (AreEdges edges.new.items) }
+    ensures sound { AreEdges edges.new.items }
     ensures put { OnOk result (rids_between edges.new.items ≡ rids_between edges.old.items ++ rid ∷ []) }
+    ensures unchanged { OnErr result (edges.new.items ≡ edges.old.items) }
 {
-    if edges.last().copied() == Some(rid) {
-        edges.pop();
-    } else {
-        edges.push(rid)?;
+    let ends_here = edges.last().copied() == Some(rid);
+    if ends_here {
+        let last = edges.len() - 1;
+        edges[last] = rid + 1;
+        return Ok(());
     }
-    edges.push(rid + 1)?;
+    edges.extend_from_slice(&[rid, rid + 1])?;
     Ok(())
 }
 

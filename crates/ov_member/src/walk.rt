@@ -1,9 +1,11 @@
-//! Walking along the edges of two sets at once, in the time of their ranges.
+//! Walking along the edges of two sets at once: in the time of their ranges, but that a range of one set which the other one
+//! keeps out is leapt to by halves.
 
-ghost use Rattle.std.specs.Prelude.{◌≡◌, ℕ, ◌<◌, ◌≤◌, ◌+◌, ◌^◌, false, List, [], ◌∷◌, length, IfOk, IfSome, MatchOption};
+ghost use Rattle.std.specs.Prelude.{◌≡◌, ◌≢◌, ℕ, ◌<◌, ◌≤◌, ◌+◌, ◌^◌, false, List, [], ◌∷◌, length, IfOk, IfSome, MatchOption};
 ghost use Rattle.ov_member.specs.Edges.{Ascend, rids_between};
-ghost use Rattle.ov_member.specs.Walks.{takes, nearest, rest_past, inside_past, AreTurns, Awaits, IsAbove, edges_left};
+ghost use Rattle.ov_member.specs.Walks.{takes, nearest, rest_past, inside_past, AreTurns, Awaits, IsAbove, IsLeap, edges_left, taken};
 
+use crate::edges::NEAR;
 use std::alloc::{AllocError, Global};
 
 /// What is in a set that is made of two others.
@@ -50,6 +52,42 @@ impl<'a> Side<'a> {
             _ => self,
         }
     }
+
+    /// What is ahead from a number on, where that spares many edges; else it as it is.
+    fn from(self, number: u32) -> Side<'a>
+        ensures { IsLeap number self.entry.inside self.entry.edges.now result.inside result.edges.now }
+    {
+        if self.edges.len() > NEAR && self.edges[NEAR] <= number {
+            self.far(number)
+        } else {
+            self
+        }
+    }
+
+    // The same by halves.
+    fn far(self, number: u32) -> Side<'a>
+        ensures { IsLeap number self.entry.inside self.entry.edges.now result.inside result.edges.now }
+    {
+        let passed = self.edges.partition_point(|edge| *edge <= number);
+        let edges = &self.edges[passed..];
+        let inside = if passed % 2 == 1 {
+            !self.inside
+        } else {
+            self.inside
+        };
+        Side { edges, inside }
+    }
+
+    /// Nothing more, and outside.
+    fn nothing() -> Side<'a>
+        ensures edges { result.edges.now ≡ [] }
+        ensures outside { result.inside ≡ false }
+    {
+        Side {
+            edges: &[],
+            inside: false,
+        }
+    }
 }
 
 fn nearest(left: &[u32], right: &[u32]) -> Option<u32>
@@ -89,12 +127,63 @@ impl<'a> Walk<'a> {
         }
     }
 
+    // Passes what can't be a turn: where one side keeps all rids out up to its next edge, the other one's edges before that.
+    fn leap(&mut self)
+        ensures turns { (edges : List ℕ) → Awaits self.new edges → Awaits self.old edges }
+        ensures above { (low : ℕ) → IsAbove low self.old → IsAbove low self.new }
+        ensures fewer { edges_left self.new ≤ edges_left self.old }
+        ensures same { taken self.new ≡ taken self.old }
+    {
+        match self.rule {
+            Rule::Either => {}
+            Rule::LeftOnly => self.leap_right(),
+            Rule::Both => {
+                self.leap_right();
+                self.leap_left();
+            }
+        }
+    }
+
+    fn leap_right(&mut self)
+        requires { self.old.rule ≢ Rule.Either }
+        ensures turns { (edges : List ℕ) → Awaits self.new edges → Awaits self.old edges }
+        ensures above { (low : ℕ) → IsAbove low self.old → IsAbove low self.new }
+        ensures fewer { edges_left self.new ≤ edges_left self.old }
+        ensures same { taken self.new ≡ taken self.old }
+        ensures rule { self.new.rule ≡ self.old.rule }
+    {
+        if self.left.inside {
+            return;
+        }
+        self.right = match self.left.edges.first() {
+            Some(edge) => self.right.from(*edge),
+            None => Side::nothing(),
+        };
+    }
+
+    fn leap_left(&mut self)
+        requires { self.old.rule ≡ Rule.Both }
+        ensures turns { (edges : List ℕ) → Awaits self.new edges → Awaits self.old edges }
+        ensures above { (low : ℕ) → IsAbove low self.old → IsAbove low self.new }
+        ensures fewer { edges_left self.new ≤ edges_left self.old }
+        ensures same { taken self.new ≡ taken self.old }
+    {
+        if self.right.inside {
+            return;
+        }
+        self.left = match self.right.edges.first() {
+            Some(edge) => self.left.from(*edge),
+            None => Side::nothing(),
+        };
+    }
+
     /// The next rid at which the set that is made begins or ends.
     fn next_turn(&mut self) -> Option<u32>
         ensures turns { MatchOption result (Awaits self.old []) (λ edge. (edges : List ℕ) → Awaits self.new edges → Awaits self.old (edge ∷ edges)) }
         ensures above { IfSome result (λ edge. (low : ℕ) → IsAbove low self.old → (low < edge) × (edge ≤ 2 ^ 31 + 1) × IsAbove edge self.new) }
         ensures fewer { IfSome result (λ edge. edges_left self.new < edges_left self.old) }
     {
+        self.leap();
         let inside = self.rule.takes(self.left.inside, self.right.inside);
         while let Some(edge) = nearest(self.left.edges, self.right.edges) {
             self.left = self.left.past(edge);
@@ -102,6 +191,7 @@ impl<'a> Walk<'a> {
             if self.rule.takes(self.left.inside, self.right.inside) != inside {
                 return Some(edge);
             }
+            self.leap();
         }
         None
     }

@@ -1,8 +1,8 @@
 -- What a copy brings.
-use Rattle.std.proofs.Common.{◌≡◌, ◌+◌, ℕ, List, [], ◌∷◌, ◌++◌, length, refl, sym, ◌∙◌, ap, subst}
+use Rattle.std.proofs.Common.{◌≡◌, ◌+◌, List, [], ◌∷◌, ◌++◌, length, sym, ◌∙◌, ap}
 use Rattle.std.proofs.lemmas.List.{append-nil, length-append, length-take}
 use Rattle.std.proofs.lemmas.Grind.{flat_map-append}
-use Rattle.std.specs.Prelude.{Option, Some, min, take}
+use Rattle.std.specs.Prelude.{Some, min, take}
 use Rattle.ov_model.specs.Lists.{joined}
 use Rattle.ov_model.specs.Plans.{copied_for, copied_more, missing}
 use Rattle.ov_model.specs.Records.{Rec}

@@ -12,7 +12,7 @@ use Rattle.ov_value.specs.declared.column.Kind.TheVariants as kind
 use Rattle.ov_value.specs.Shapes.{Shape}
 use Rattle.ov_model.specs.Act.{Session, Deed, does, unless}
 use Rattle.ov_model.specs.Book.{Row}
-use Rattle.ov_model.specs.Deed.{ChangesOnce, IsOneMore, changes, create_refusal, deed, stage_of, stage_refusal, staged_refusal, with_staged, unstage_refusal}
+use Rattle.ov_model.specs.Deed.{ChangesOnce, IsOneMore, IsStagedMore, changes, create_refusal, deed, stage_of, stage_refusal, staged_refusal, with_staged, unstage_refusal}
 use Rattle.ov_model.specs.Kinds.{is_same_kind}
 use Rattle.ov_model.specs.Registry.{is_same_column, is_same_schema, is_foreign, change_of, change_refusal, last_rows, stage_name, stage_schema, table_row, user_row, users_name, users_schema, with_row, without_row, version_rows}
 use Rattle.ov_model.specs.Users.{Rule, rules, denied_from, permit, IsLeast, AreSilent}
@@ -144,27 +144,29 @@ once-changes : (w : World) (s t : Session) (name : List ℕ) (schema : Shape) (b
 once-changes w s t name schema before P rows reply is =
     once-unless s name schema before P (change_refusal w name (version_rows schema rows) before) (does t (change_of name schema (version_rows schema rows) before) reply) (inr (rows, is, refl))
 
-pub create-once : (w : World) (s : Session) (name : List ℕ) → ChangesOnce s users_name users_schema (set_named w users_name) (IsOneMore (set_named w users_name)) (deed w s (asks.CreateUser name))
+pub create-once : (w : World) (s : Session) (name : List ℕ) → ChangesOnce s users_name users_schema (set_named w users_name) (IsOneMore (set_named w users_name) (user_row name)) (deed w s (asks.CreateUser name))
 create-once w s name =
     let before : Option Dataset = set_named w users_name
-    in let P : List Row → Type 0 = IsOneMore before
+    in let P : List Row → Type 0 = IsOneMore before (user_row name)
     in once-unless s users_name users_schema before P (permit s.user (asks.CreateUser name)) _
     (once-unless s users_name users_schema before P (create_refusal name before) _
-    (once-changes w s s users_name users_schema before P (with_row (last_rows before) (user_row name)) _ (user_row name, refl)))
+    (once-changes w s s users_name users_schema before P (with_row (last_rows before) (user_row name)) _ refl))
 
-stage-once-of : (w : World) (s : Session) (cvd table vids : List ℕ) (before d : Option Dataset) → ChangesOnce s stage_name stage_schema before (IsOneMore before) (stage_of w s cvd table vids before d)
-stage-once-of w s cvd table vids before None = inl (no.NoCvd cvd, refl)
-stage-once-of w s cvd table vids before (Some d) =
-    once-unless s stage_name stage_schema before (IsOneMore before) (staged_refusal s table vids d before) _
-    (once-changes w s (with_staged s table vids d) stage_name stage_schema before (IsOneMore before)
-    (with_row (last_rows before) (table_row s.user table d.cvd.name d.cvd.number vids)) _ (table_row s.user table d.cvd.name d.cvd.number vids, refl))
+stage-once-of : (w : World) (s : Session) (cvd table vids : List ℕ) (before d : Option Dataset) → set_named w cvd ≡ d
+    → ChangesOnce s stage_name stage_schema before (IsStagedMore w s cvd table vids before) (stage_of w s cvd table vids before d)
+stage-once-of w s cvd table vids before None found = inl (no.NoCvd cvd, refl)
+stage-once-of w s cvd table vids before (Some d) found =
+    once-unless s stage_name stage_schema before (IsStagedMore w s cvd table vids before) (staged_refusal s table vids d before) _
+    (once-changes w s (with_staged s table vids d) stage_name stage_schema before (IsStagedMore w s cvd table vids before)
+    (with_row (last_rows before) (table_row s.user table d.cvd.name d.cvd.number vids)) _ (d, found, refl))
 
-pub stage-once : (w : World) (s : Session) (cvd vids table : List ℕ) (file : Option (List ℕ)) → ChangesOnce s stage_name stage_schema (set_named w stage_name) (IsOneMore (set_named w stage_name)) (deed w s (asks.Checkout cvd vids file (Some table)))
+pub stage-once : (w : World) (s : Session) (cvd vids table : List ℕ) (file : Option (List ℕ))
+    → ChangesOnce s stage_name stage_schema (set_named w stage_name) (IsStagedMore w s cvd table vids (set_named w stage_name)) (deed w s (asks.Checkout cvd vids file (Some table)))
 stage-once w s cvd vids table file =
     let before : Option Dataset = set_named w stage_name
-    in let P : List Row → Type 0 = IsOneMore before
+    in let P : List Row → Type 0 = IsStagedMore w s cvd table vids before
     in once-unless s stage_name stage_schema before P (permit s.user (asks.Checkout cvd vids file (Some table))) _
-    (once-unless s stage_name stage_schema before P (stage_refusal table vids before) _ (stage-once-of w s cvd table vids before (set_named w cvd)))
+    (once-unless s stage_name stage_schema before P (stage_refusal table vids before) _ (stage-once-of w s cvd table vids before (set_named w cvd) refl))
 
 pub unstage-once : (w : World) (s : Session) (user table : List ℕ) → ChangesOnce s stage_name stage_schema (set_named w stage_name) (λ rows. rows ≡ without_row (last_rows (set_named w stage_name)) user table) (deed w s (asks.Unstage user table))
 unstage-once w s user table =

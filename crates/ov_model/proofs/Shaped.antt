@@ -5,7 +5,7 @@ use Rattle.std.specs.Option.{option_map}
 use Rattle.std.specs.Str.{bytes_eq, is_utf8}
 use Rattle.ov_model.specs.BuiltShapes.{made_if_built, served_form, served_line}
 use Rattle.ov_model.specs.Forms.{Form, Values}
-use Rattle.ov_model.specs.Line.{Line, Comment, Asks, Refused, Read, answer, by_form, by_name, by_words, first_of, form_of, has_second, line_of, made_by, missing, off_all, read_words, unless_missing}
+use Rattle.ov_model.specs.Line.{Line, Comment, Refused, Read, answer, by_form, by_name, by_words, first_of, form_of, has_second, line_of, made_by, missing, off_all, read_words, unless_missing}
 use Rattle.ov_model.specs.Words.{Next, NoWord, Word, Unclosed, is_comment, next_word, without_blanks, words_of}
 use Rattle.ov_model.specs.declared.command.Command.{Command}
 use Rattle.ov_model.specs.declared.given.Given.TheVariants.{Text}

@@ -134,7 +134,7 @@ places_by parts query schema related kept =
     then filter (λ group. parts.keeps_group (here_for schema related group)) (grouped_pairs schema query.groups kept)
     else map (λ pair. pair ∷ []) kept
 
-abbrev rows_by : Parts → Query → Shape → Related → List Pair → List (List Cell)
+abbrev pub rows_by : Parts → Query → Shape → Related → List Pair → List (List Cell)
 rows_by parts query schema related all =
     map (shown schema query.items)
     (limited query.limit

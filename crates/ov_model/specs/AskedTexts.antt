@@ -202,6 +202,10 @@ asked_texts =
     ∷ (negated_text 101, NoQuery)
     ∷ []
 
+-- four versions, each the parent of the next
+abbrev pub in_a_row : List ℕ
+in_a_row = people ++ codes "commit people -v 2 -f a.csv -m back\ncommit people -v 3 -f both.csv -m more\n"
+
 -- scripts and texts, and what each prints there
 abbrev pub AllPrint : List (List ℕ × List ℕ × List ℕ) → Type 0
 AllPrint [] = Unit {0}
@@ -271,4 +275,38 @@ printed_texts =
       codes "3,1\n4,1\n(2 rows)\n",
     )
     ∷ (four_versions, codes "SELECT * FROM CVD people WHERE vid IN PARENTS(9)", codes "error 12: no version 9\n")
+    ∷ []
+
+-- of lineages
+abbrev pub lineage_texts : List (List ℕ × List ℕ × List ℕ)
+lineage_texts =
+    -- the first from the left whose version isn't there is refused, before versions that are listed
+    (four_versions, codes "SELECT * FROM PARENTS(8) OF CVD people WHERE vid IN PARENTS(9)", codes "error 12: no version 8\n")
+    ∷ (four_versions, codes "SELECT * FROM CVD people WHERE vid IN PARENTS(9) OR vid IN PARENTS(8)", codes "error 12: no version 9\n")
+    ∷ (four_versions, codes "SELECT * FROM VERSION 8, 8 OF CVD people WHERE vid IN PARENTS(9)", codes "error 12: no version 9\n")
+    ∷ (four_versions, codes "SELECT vid FROM VERSION 1, 1 OF CVD people GROUP BY vid HAVING vid IN PARENTS(0)", codes "error 12: no version 0\n")
+    -- in HAVING, where the number has to be grouped
+    ∷ (
+      four_versions,
+      codes "SELECT vid, COUNT(*) FROM CVD people GROUP BY vid HAVING vid IN ANCESTORS(4)",
+      codes "1,2\n2,3\n(2 rows)\n",
+    )
+    ∷ (
+      four_versions,
+      codes "SELECT vid, COUNT(*) FROM CVD people GROUP BY vid HAVING vid NOT IN ANCESTORS(4)",
+      codes "3,2\n4,3\n(2 rows)\n",
+    )
+    ∷ (
+      four_versions,
+      codes "SELECT name FROM CVD people GROUP BY name HAVING vid IN PARENTS(2)",
+      codes "error 44: vid is not grouped\n",
+    )
+    -- parents, and what descends and what is descended from in one step, two and three
+    ∷ (four_versions, codes "SELECT vid, COUNT(*) FROM PARENTS(4) OF CVD people GROUP BY vid", codes "1,2\n2,3\n(2 rows)\n")
+    ∷ (four_versions, codes "SELECT vid, COUNT(*) FROM ANCESTORS(3) OF CVD people GROUP BY vid", codes "1,2\n2,3\n(2 rows)\n")
+    ∷ (in_a_row, codes "SELECT vid, COUNT(*) FROM PARENTS(4) OF CVD people GROUP BY vid", codes "3,2\n(1 rows)\n")
+    ∷ (in_a_row, codes "SELECT vid, COUNT(*) FROM ANCESTORS(4) OF CVD people GROUP BY vid", codes "1,2\n2,3\n3,2\n(3 rows)\n")
+    ∷ (in_a_row, codes "SELECT vid, COUNT(*) FROM ANCESTORS(3) OF CVD people GROUP BY vid", codes "1,2\n2,3\n(2 rows)\n")
+    ∷ (in_a_row, codes "SELECT vid, COUNT(*) FROM DESCENDANTS(1) OF CVD people GROUP BY vid", codes "2,3\n3,2\n4,3\n(3 rows)\n")
+    ∷ (in_a_row, codes "SELECT vid, COUNT(*) FROM DESCENDANTS(4) OF CVD people GROUP BY vid", codes "(0 rows)\n")
     ∷ []

@@ -1,6 +1,7 @@
 -- Worked examples of the storage budget over a chain of three versions. That the definitions give just this is proved by computing
 -- it.
-use Rattle.std.specs.Prelude.{◌≡◌, ℕ, ◌++◌, List, Option, codes, replicate, true, false}
+use Rattle.std.specs.Prelude.{◌≡◌, ℕ, ◌++◌, List, Option, None, codes, replicate, true, false}
+use Rattle.std.specs.Option.{option_map}
 use Rattle.ov_model.specs.Budget.{advise_deed, within_deed}
 use Rattle.ov_model.specs.Examples.{served_all, session}
 use Rattle.ov_model.specs.World.{Dataset, set_named}
@@ -22,11 +23,28 @@ line depth partitions stored cost = record { depth = depth; partitions = partiti
 abbrev pub lines : List BudgetLine
 lines = replicate 54 (line 0 1 8 24) ++ (replicate 36 (line 1 2 9 14) ++ replicate 10 (line 2 3 13 13))
 
+abbrev pub within_at : Option Dataset → ℕ → Reply
+within_at d budget = (within_deed session (codes "chain") budget d).reply
+
+abbrev pub advised_at : Option Dataset → ℕ → ℕ → ℕ → Reply
+advised_at d budget a b = (advise_deed session (codes "chain") budget a b d).reply
+
 abbrev pub within : ℕ → Reply
-within budget = (within_deed session (codes "chain") budget the_set).reply
+within budget = within_at the_set budget
 
 abbrev pub advised : ℕ → ℕ → ℕ → Reply
-advised budget a b = (advise_deed session (codes "chain") budget a b the_set).reply
+advised budget a b = advised_at the_set budget a b
+
+-- while a plan runs
+abbrev pub running_set : Option Dataset
+running_set = set_named (served_all (chain ++ codes "optimize chain -d 3/4\n")).world (codes "chain")
+
+-- whose next partition has this number
+abbrev pub with_next : ℕ → Dataset → Dataset
+with_next next d = record d { next_part = next }
+
+abbrev pub numbered : ℕ → Option Dataset → Option Dataset
+numbered next d = option_map (with_next next) d
 
 pub record AllWithin : Type 0 where
   pub twelve : within 12 ≡ says.Within lines 55 1 2 9 8 13 14 4
@@ -37,3 +55,22 @@ pub record AllWithin : Type 0 where
   -- 24 is just 12 / 7 of 14
   pub as_much : advised 12 12 7 ≡ says.Advise 24 14 false
   pub out_of_range : advised 12 2 3 ≡ says.Refused no.BadThreshold
+  -- both parts of a ratio at their bounds, and past them; the ratio is tested before the budget
+  pub greatest : advised 12 1000000 1000000 ≡ says.Advise 24 14 true
+  pub steepest : advised 12 1000000 1 ≡ says.Advise 24 14 false
+  pub least : advised 12 1 1 ≡ says.Advise 24 14 true
+  pub too_great : advised 12 1000001 1 ≡ says.Refused no.BadThreshold
+  pub by_none : advised 12 1 0 ≡ says.Refused no.BadThreshold
+  pub ratio_first : advised 7 2 3 ≡ says.Refused no.BadThreshold
+  pub no_budget : advised 7 2 2 ≡ says.Refused (no.NoThreshold 7 8)
+  -- the present cost is that of the partitions as they are; one budget more than what is stored is as good as that
+  pub eight : within 8 ≡ says.Within lines 1 0 1 8 8 13 24 1
+  pub nine : within 9 ≡ says.Within lines 55 1 2 9 8 13 14 4
+  -- an optimize is refused while a plan runs, and for want of a number, before the budget is looked at; an advice isn't
+  pub running : within_at running_set 7 ≡ says.Refused (no.Migrating (codes "chain"))
+  pub numbers : within_at (numbered 4294000001 the_set) 7 ≡ says.Refused (no.NoNumbers (codes "chain"))
+  pub numbers_left : within_at (numbered 4294000000 the_set) 7 ≡ says.Refused (no.NoThreshold 7 8)
+  pub running_first : within_at (numbered 4294000001 running_set) 7 ≡ says.Refused (no.Migrating (codes "chain"))
+  pub advised_then : advised_at running_set 12 3 2 ≡ says.Advise 24 14 true
+  pub no_set : within_at None 7 ≡ says.Refused (no.NoCvd (codes "chain"))
+  pub no_set_advised : advised_at None 7 2 3 ≡ says.Refused (no.NoCvd (codes "chain"))

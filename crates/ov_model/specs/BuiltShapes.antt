@@ -5,7 +5,7 @@
 --     served_line line      what a line says, of which a query of another shape is refused
 use Rattle.std.specs.Prelude.{ℕ, Bool, true, false, if◌then◌else◌, List, [], ◌∷◌, map, Result, Ok, Err}
 use Rattle.ov_model.specs.Asking.{lineages_of}
-use Rattle.ov_model.specs.Forms.{Form, Values, built_forms}
+use Rattle.ov_model.specs.Forms.{Form, built_forms}
 use Rattle.ov_model.specs.Line.{Line, Comment, Asks, Refused, answer}
 use Rattle.ov_model.specs.QueryTexts.{Asked, BadByte, NoQuery, AsksQuery, AsksJoin, asked_of}
 use Rattle.ov_model.specs.declared.command.Command.{Command}

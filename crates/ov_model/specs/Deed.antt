@@ -4,6 +4,7 @@
 use Rattle.std.specs.Prelude.{◌≡◌, ◌⊎◌, ℕ, Bool, not, ◌&&◌, nat_lt, List, [], ◌∷◌, ◌++◌, length, map, filter, Option, Some, None, is_some, codes}
 use Rattle.std.specs.Option.{option_or}
 use Rattle.std.specs.Str.{bytes_eq}
+use Rattle.ov_value.specs.declared.value.Value.TheVariants.{Text}
 use Rattle.ov_value.specs.Naming.{is_name}
 use Rattle.ov_value.specs.Rows.{value_at}
 use Rattle.ov_value.specs.Shapes.{Shape}
@@ -175,6 +176,27 @@ ChangesOnce s name schema before P d =
     ((refusal : Refusal) × (d ≡ refuses s refusal))
     ⊎ ((rows : List Row) × P rows × (d.moves ≡ change_of name schema (version_rows schema rows) before ∷ []))
 
--- one row more than the last version has
-abbrev pub IsOneMore : Option Dataset → List Row → Type 0
-IsOneMore before rows = (row : Row) × (rows ≡ with_row (last_rows before) row)
+-- this row more than the last version has
+abbrev pub IsOneMore : Option Dataset → Row → List Row → Type 0
+IsOneMore before row rows = rows ≡ with_row (last_rows before) row
+
+-- the row of the session's user and this table more, which tells where it came from
+abbrev pub IsStagedMore : World → Session → List ℕ → List ℕ → List ℕ → Option Dataset → List Row → Type 0
+IsStagedMore w s cvd table vids before rows =
+    (d : Dataset) × (set_named w cvd ≡ Some d) × IsOneMore before (table_row s.user table d.cvd.name d.cvd.number vids) rows
+
+-- the rows of a user's own tables
+abbrev pub own_rows : List ℕ → Option Dataset → List Row
+own_rows user stage = filter (is_own user) (last_rows stage)
+
+-- A commit of a staged table that goes on: the last version of `orpheus_stage` has the table's row, whose owner is the session's user,
+-- and the commit is of the dataset and the versions that the row names.
+pub record CommitsStaged (w : World) (s : Session) (user table message : List ℕ) (d : Deed) : Type 0 where
+  pub row : Row
+  pub there : table_in (last_rows (set_named w stage_name)) user table ≡ Some row
+  pub named : user ≡ s.user
+  pub owner : value_at row 0 ≡ Text s.user
+  pub table_is : value_at row 1 ≡ Text table
+  pub from : Dataset × List ℕ
+  pub staged : staged_of w row ≡ Some from
+  pub is : d ≡ commit_deed w s from.0.cvd.name from.1 message [] (file_of_table user table) (Some from.0)

@@ -7,9 +7,11 @@ pub mod Book
 pub mod Budget
 pub mod BudgetExamples
 pub mod Built
+pub mod ColumnExamples
 pub mod Course
 pub mod Csv
 pub mod Deed
+pub mod Descent
 pub mod Examples
 pub mod Forms
 pub mod Generator
@@ -20,6 +22,7 @@ pub mod Joins
 pub mod JoinGrammar
 pub mod JoinReading
 pub mod Kinds
+pub mod Known
 pub mod Line
 pub mod Lineages
 pub mod Lists
@@ -34,6 +37,7 @@ pub mod Questions
 pub mod Reading
 pub mod Records
 pub mod Registry
+pub mod RegistryExamples
 pub mod Replies
 pub mod Steps
 pub mod UserExamples

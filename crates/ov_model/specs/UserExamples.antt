@@ -1,7 +1,8 @@
--- A worked example of users and staged tables: a script and what it prints, as it was worked out by hand.
---     user_examples      scripts on an empty store, and what each prints
-use Rattle.std.specs.Prelude.{ℕ, List, [], ◌∷◌, ◌++◌, codes}
-use Rattle.ov_model.specs.Examples.{people}
+-- Worked examples of users and staged tables: scripts and what they print, as it was worked out by hand.
+--     user_examples, query_examples      scripts on an empty store, and what each prints
+--     AllStaged      what the files of staged tables have
+use Rattle.std.specs.Prelude.{◌≡◌, ℕ, List, [], ◌∷◌, ◌++◌, Option, Some, None, codes}
+use Rattle.ov_model.specs.Examples.{people, served_all}
 
 -- a script of these lines
 abbrev pub script : List (List ℕ) → List ℕ
@@ -56,4 +57,43 @@ user_examples =
           ∷ codes "user admin" ∷ codes "version 1: 1 rows, 1 new, parents none, init" ∷ codes "version 2: 2 rows, 1 new, parents 1, stage"
           ∷ codes "owner,name,cvd,made,vids" ∷ codes "ann,more,people,1,\"2,1\"" ∷ codes "ann,work,people,1,2" ∷ codes "error 73: user ann exists" ∷ []),
     ) ∷
+    -- the store's own datasets are split and read by `admin` alone
+    (
+      script (codes "create_user ann" ∷ codes "advise orpheus_users -s 9 -m 1/1" ∷ codes "optimize orpheus_users -d 1/1" ∷ codes "config ann"
+          ∷ codes "optimize orpheus_users -d 1/1" ∷ codes "optimize orpheus_users -s 9" ∷ codes "advise orpheus_users -s 9 -m 1/1"
+          ∷ codes "advise orpheus_x -s 9 -m 1/2" ∷ codes "whoami" ∷ []),
+      script (codes "user ann" ∷ codes "cost 1, best 1: keep" ∷ codes "depth 0, partitions 1, stored 1, records 1, members 1, cost 1, steps 1" ∷ codes "user ann"
+          ∷ codes "error 71: denied by rule 4" ∷ codes "error 71: denied by rule 4" ∷ codes "error 71: denied by rule 4"
+          ∷ codes "error 71: denied by rule 4" ∷ codes "ann" ∷ []),
+    ) ∷
     []
+
+-- A text's own refusals come first, then rule 4 of the datasets that a query or join names, whichever side it is on, and then what
+-- the store has.
+abbrev pub query_examples : List (List ℕ × List ℕ)
+query_examples = (
+  script (codes "create_user ann" ∷ codes "run SELECT * FROM CVD orpheus_users" ∷ codes "config ann" ∷ codes "run SELECT * FROM CVD orpheus_users"
+      ∷ codes "run SELECT * FROM CVD orpheus_users '" ∷ codes "run SELECT * FROM CVD orpheus_users users" ∷ codes "run SELECT * FROM CVD users" ∷ []),
+  script (codes "user ann" ∷ codes "ann" ∷ codes "(1 rows)" ∷ codes "user ann" ∷ codes "error 71: denied by rule 4"
+      ∷ codes "error 40: byte 32 begins no token" ∷ codes "error 41: not a query" ∷ codes "error 10: no dataset users" ∷ []),
+) ∷ (
+  script (codes "create_user ann" ∷ codes "config ann"
+      ∷ codes "run SELECT * FROM VERSION 1 OF CVD users JOIN VERSION 9 OF CVD orpheus_users ON LEFT.id = RIGHT.id"
+      ∷ codes "run SELECT * FROM VERSION 1 OF CVD orpheus_users JOIN VERSION 9 OF CVD users ON LEFT.id = RIGHT.id"
+      ∷ codes "config admin" ∷ codes "run SELECT * FROM VERSION 1 OF CVD orpheus_users JOIN VERSION 1 OF CVD orpheus_users ON LEFT.name = RIGHT.name" ∷ []),
+  script (codes "user ann" ∷ codes "user ann" ∷ codes "error 71: denied by rule 4" ∷ codes "error 71: denied by rule 4"
+      ∷ codes "user admin" ∷ codes "ann,ann" ∷ codes "(1 rows)" ∷ []),
+) ∷
+    []
+
+-- what a script leaves in a file
+abbrev pub left_in : List ℕ → List ℕ → Option (List ℕ)
+left_in text file = (served_all text).session.files file
+
+-- The file of a staged table has the merge of its versions in the order in which they were listed.
+pub record AllStaged : Type 0 where
+  pub last_first : left_in (behind (codes "checkout people -v 2,1 -t work" ∷ [])) (codes "admin.work.staged")
+      ≡ Some (codes "id,name,score\n1,ann,10\n2,bob,25\n3,cy,30\n")
+  pub first_first : left_in (behind (codes "checkout people -v 1,2 -t work" ∷ [])) (codes "admin.work.staged")
+      ≡ Some (codes "id,name,score\n1,ann,10\n2,bob,20\n3,cy,30\n")
+  pub refused : left_in (behind (codes "checkout people -v 3 -t work" ∷ [])) (codes "admin.work.staged") ≡ None

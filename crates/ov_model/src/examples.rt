@@ -1,11 +1,13 @@
 // Worked examples.
 ghost use Rattle.std.specs.Prelude.{◌≡◌, Some, codes, ◌++◌};
 ghost use Rattle.ov_model.specs.BudgetExamples.{AllWithin};
+ghost use Rattle.ov_model.specs.ColumnExamples.{AllOld, AllWiden};
 ghost use Rattle.ov_model.specs.JoinExamples.{AllJoined};
-ghost use Rattle.ov_model.specs.AskedTexts.{AllAsk, asked_texts, AllPrint as AllTextsPrint, printed_texts};
+ghost use Rattle.ov_model.specs.AskedTexts.{AllAsk, asked_texts, AllPrint as AllTextsPrint, printed_texts, lineage_texts};
 ghost use Rattle.ov_model.specs.Questions.{AllAnswered};
 ghost use Rattle.ov_model.specs.Examples.{AllPrint, examples, people, plan_examples, printed_behind, served_all};
-ghost use Rattle.ov_model.specs.UserExamples.{user_examples};
+ghost use Rattle.ov_model.specs.RegistryExamples.{AllByHand, AllForeign, AllFull};
+ghost use Rattle.ov_model.specs.UserExamples.{user_examples, query_examples, AllStaged};
 
 /// The worked examples print what was worked out by hand: init, commit, checkout, log, ls and drop with their refusals, and
 /// optimize, migrate, layout, checkpoint and generate; a
@@ -36,14 +38,35 @@ pub fn worked_budgets()
     ensures { AllWithin }
 {}
 
-/// The worked texts of queries and joins ask what was worked out by hand, and queries, with conditions too, print it.
+/// The worked texts of queries and joins ask what was worked out by hand, and queries, with conditions
+/// and lineages too, print it.
 pub fn worked_texts()
     ensures ask { AllAsk asked_texts }
     ensures print { AllTextsPrint printed_texts }
+    ensures lineages { AllTextsPrint lineage_texts }
 {}
 
 /// The worked examples of users and staged tables print what was worked out by hand: who is denied what, by the least rule and
-/// before all else, and what is staged, committed from a staged table and taken off.
+/// before all else, and what is staged, committed from a staged table and taken off; a query or join is denied by the names in
+/// its text; and the file of a staged table has the merge of its versions.
 pub fn worked_users()
-    ensures { AllPrint user_examples }
+    ensures print { AllPrint user_examples }
+    ensures queries { AllPrint query_examples }
+    ensures files { AllStaged }
+{}
+
+/// In stores whose registry was made by hand, or that are full, each command of users says what was worked out by hand: 76 comes
+/// behind 63 and before what the store has, 77 before 10, 74 where a table names what isn't there, and 20 and 22 where a
+/// registry's first change would make a dataset.
+pub fn worked_registries()
+    ensures foreign { AllForeign }
+    ensures by_hand { AllByHand }
+    ensures full { AllFull }
+{}
+
+/// Added columns print what was worked out by hand: names that are refused, a plan whose records are as many as they were, and a
+/// store of format 1, which takes neither columns nor NULL until a checkpoint.
+pub fn worked_columns()
+    ensures widen { AllWiden }
+    ensures old { AllOld }
 {}

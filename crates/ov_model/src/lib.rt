@@ -16,6 +16,7 @@ mod given;
 mod join_laws;
 mod limits;
 mod line;
+mod lineages;
 mod merge;
 mod plan_examples;
 mod query;
@@ -26,6 +27,7 @@ mod replies;
 mod reply;
 mod round_trip;
 mod shapes;
+mod sizes;
 mod users;
 
 pub use answer::{Answer, Cell};
@@ -40,14 +42,20 @@ pub use course::{
     worlds_are_one_move_apart,
 };
 pub use examples::{
-    worked_budgets, worked_examples, worked_joins, worked_queries, worked_texts, worked_users,
+    worked_budgets, worked_columns, worked_examples, worked_joins, worked_queries,
+    worked_registries, worked_texts, worked_users,
 };
 pub use given::{Given, Reading};
 pub use join_laws::{a_join_is_of_the_book, join_conditions_by_cases};
 pub use limits::{
-    FILE_BYTES, LINE_BYTES, MESSAGE_BYTES, MOST_CVDS, MOST_RECORDS, MOST_ROWS, MOST_VERSIONS,
+    FILE_BYTES, LINE_BYTES, MESSAGE_BYTES, MOST_CVDS, MOST_JOINED, MOST_RECORDS, MOST_ROWS,
+    MOST_STAGED_VIDS, MOST_VERSIONS,
 };
 pub use line::a_line_is_one_thing;
+pub use lineages::{
+    parents_are_earlier, queries_are_known_by_numbers, relatives_are_known_by_parents,
+    relatives_are_the_transitive_closure,
+};
 pub use merge::merge_takes_the_first_of_each_key;
 pub use plan_examples::{
     a_checkpoint_has_its_records, a_copy_brings_256_records_at_most,
@@ -69,8 +77,12 @@ pub use replies::a_reply_is_not_empty;
 pub use reply::{BudgetLine, CvdLine, LogLine, PartLine, PlanLine, Reply, TableLine};
 pub use round_trip::what_is_written_reads_back;
 pub use shapes::other_shapes_are_no_queries;
+pub use sizes::{
+    a_commit_keeps_to_the_limits, a_join_matches_a_million_pairs_at_most,
+    a_registry_keeps_to_the_limits,
+};
 pub use sqlite_items::{Boxed, Items as Seq};
 pub use users::{
-    another_schema_is_foreign, rules_decide_who_may, the_least_rule_denies,
-    the_registry_changes_by_one_move,
+    a_staged_table_is_its_owners, another_schema_is_foreign, rules_decide_who_may,
+    tables_are_the_users_own, the_least_rule_denies, the_registry_changes_by_one_move,
 };

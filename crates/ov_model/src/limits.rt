@@ -12,6 +12,12 @@ pub const MOST_ROWS: u32 = 1_000_000;
 /// A dataset has so many records at most, 2^31.
 pub const MOST_RECORDS: u64 = 2_147_483_648;
 
+/// So many pairs of rows match in a join at most, before its WHERE is asked.
+pub const MOST_JOINED: u32 = 1_000_000;
+
+/// A checkout that stages a table lists so many versions at most.
+pub const MOST_STAGED_VIDS: usize = 1_000;
+
 /// A message has so many bytes at most.
 pub const MESSAGE_BYTES: usize = 1_024;
 

@@ -1,14 +1,14 @@
 // Laws of users: who may do what, and how the registry changes.
-ghost use Rattle.std.specs.Prelude.{◌≡◌, ◌↔◌, ℕ, true, false, List, [], ◌∷◌, Option, Some, None};
+ghost use Rattle.std.specs.Prelude.{◌≡◌, ◌⊎◌, ◌↔◌, ℕ, true, false, List, [], ◌∷◌, Option, Some, None};
 ghost use Rattle.ov_model.specs.Act.{Session, refuses};
 ghost use Rattle.ov_model.specs.Asking.{name_read, run_deed};
 ghost use Rattle.ov_model.specs.QueryTexts.{AsksJoin, AsksQuery};
-ghost use Rattle.ov_model.specs.Deed.{ChangesOnce, IsOneMore, deed, permitted};
-ghost use Rattle.ov_model.specs.Registry.{is_foreign, last_rows, stage_name, stage_schema, users_name, users_schema, without_row};
+ghost use Rattle.ov_model.specs.Deed.{ChangesOnce, CommitsStaged, IsOneMore, IsStagedMore, deed, own_rows, permitted};
+ghost use Rattle.ov_model.specs.Registry.{is_foreign, last_rows, stage_name, stage_schema, user_row, users_name, users_schema, without_row};
 ghost use Rattle.ov_model.specs.Users.{AreSilent, IsLeast, is_run, permit, permit_names, rules};
 ghost use Rattle.ov_model.specs.World.{Dataset, World, set_named};
 ghost use Rattle.ov_model.specs.declared.command.Command.{Command};
-ghost use Rattle.ov_model.specs.declared.command.Command.TheVariants.{Checkout, CreateUser, Unstage};
+ghost use Rattle.ov_model.specs.declared.command.Command.TheVariants.{Checkout, CommitStaged, CreateUser, Tables, Unstage};
 ghost use Rattle.ov_model.specs.declared.query.JoinQuery.{JoinQuery as AJoin};
 ghost use Rattle.ov_model.specs.declared.query.Query.{Query};
 ghost use Rattle.ov_model.specs.declared.refusal.Refusal.{Refusal};
@@ -48,15 +48,29 @@ pub fn another_schema_is_foreign()
     ensures none { (schema : Shape) → is_foreign schema None ≡ false }
 {}
 
-/// What changes the registry is refused, and leaves the session, or makes one move: a row more, or a table's row less.
+/// What changes the registry is refused, and leaves the session, or makes one move: the row of this user or of this table more, or a
+/// table's row less.
 pub fn the_registry_changes_by_one_move()
     ensures create { (w : World) (s : Session) (name : List ℕ)
-        → ChangesOnce s users_name users_schema (set_named w users_name) (IsOneMore (set_named w users_name))
+        → ChangesOnce s users_name users_schema (set_named w users_name) (IsOneMore (set_named w users_name) (user_row name))
         (deed w s (CreateUser name)) }
     ensures stage { (w : World) (s : Session) (cvd vids table : List ℕ) (file : Option (List ℕ))
-        → ChangesOnce s stage_name stage_schema (set_named w stage_name) (IsOneMore (set_named w stage_name))
+        → ChangesOnce s stage_name stage_schema (set_named w stage_name) (IsStagedMore w s cvd table vids (set_named w stage_name))
         (deed w s (Checkout cvd vids file (Some table))) }
     ensures unstage { (w : World) (s : Session) (user table : List ℕ)
         → ChangesOnce s stage_name stage_schema (set_named w stage_name)
         (λ rows. rows ≡ without_row (last_rows (set_named w stage_name)) user table) (deed w s (Unstage user table)) }
+{}
+
+/// What `tables` says hangs on the user's own rows alone, and on whether the registry is foreign.
+pub fn tables_are_the_users_own()
+    ensures { (w v : World) (s : Session) → own_rows s.user (set_named w stage_name) ≡ own_rows s.user (set_named v stage_name)
+        → is_foreign stage_schema (set_named w stage_name) ≡ is_foreign stage_schema (set_named v stage_name) → deed w s Tables ≡ deed v s Tables }
+{}
+
+/// A commit of a staged table is refused before it is begun, or goes on for the user whom the table's row names as owner, and by that
+/// row alone.
+pub fn a_staged_table_is_its_owners()
+    ensures { (w : World) (s : Session) (user table message : List ℕ) → ((refusal : Refusal) × (deed w s (CommitStaged user table message) ≡ refuses s refusal))
+        ⊎ CommitsStaged w s user table message (deed w s (CommitStaged user table message)) }
 {}

@@ -1,4 +1,4 @@
--- Positions of records, one record more; lines in order, and the rows at their positions.
+-- Positions of records, one record more; the picks of some sets of rids.
 use Rattle.std.proofs.Common.{◌≡◌, ◌<◌, ℕ, suc, ◌+◌, Bool, true, false, List, [], ◌∷◌, ◌++◌, length, take, get_or, refl, sym, ◌∙◌, ap, subst, arith}
 use Rattle.std.specs.Prelude.{if◌then◌else◌}
 use Rattle.std.specs.List.{All}
@@ -53,38 +53,6 @@ line_more records rids k r b found low is holds before =
   where
     short : k ≡ 0 + length (take k records)
     short = omega (arith, length-take-le k records (omega (arith, low)))
-
--- ---- lines in order
-
-abbrev first_line : (lines : List Line) (n : ℕ) → n < length lines → Line
-first_line [] n low = absurd (omega (arith, low))
-first_line (x ∷ lines) n low = x
-
-row_there : (records : List Record) (lines : List Line) (i : ℕ) (d : Line) (e : List Value) → All (IsLine records) lines → i < length lines → get_or (rows_at records (places lines)) i e ≡ (get_or lines i d).row
-row_there records lines i d e are low =
-    get_or-map (row_at records) (places lines) i 0 e (rw (length-map lines (λ (l : Line). l.place)) low)
-    ∙ ap (row_at records) (get_or-map (λ (l : Line). l.place) lines i d 0 low)
-    ∙ sym (All-get_or (IsLine records) lines i d low are).row_is
-
-in_order : (schema : Shape) (records : List Record) (lines : List Line) → All (IsLine records) lines → IsSorted (line_cmp schema) lines → InKeyOrder schema (rows_at records (places lines))
-in_order schema records lines are sorted k e from high =
-    let within : k + 1 < length lines = rw (sym (length-map (places lines) (row_at records) ∙ length-map lines (λ (l : Line). l.place))) high
-    in let d : Line = first_line lines (k + 1) within
-    in (λ i. is_lt (key_cmp schema (row_there records lines (k + 1) d e are within i) (row_there records lines k d e are (omega (arith, within)) i)))
-    ∙ sorted k d from within
-
-all_stand : (records : List Record) (lines : List Line) → All (IsLine records) lines → AllStand records (places lines)
-all_stand records lines are = All-map (λ place. place < length records) (λ (l : Line). l.place) lines (All-weaker (IsLine records) (λ l. l.place < length records) (λ l is. is.there) lines are)
-
--- the lines before and after the sort
-pub stand_after : (records : List Record) (before after : List Line) → All (IsLine records) before → IsPermutation before after → AllStand records (places after)
-stand_after records before after are same = all_stand records after (All-permutation (IsLine records) before after same are)
-
-pub pick_is : (schema : Shape) (records : List Record) (rids : List ℕ) (before after : List Line) → All (IsLine records) before → places before ≡ places_of records rids → IsPermutation before after → IsSorted (line_cmp schema) after → IsPick schema records rids (places after)
-pick_is schema records rids before after are is same sorted = record {
-  same = subst (λ ps. IsPermutation ps (places after)) is (IsPermutation-map (λ (l : Line). l.place) before after same);
-  ordered = in_order schema records after (All-permutation (IsLine records) before after same are) sorted;
-}
 
 -- ---- picks
 

@@ -7,5 +7,4 @@ pub mod Partitions
 pub mod Gathering
 pub mod Gathered
 pub mod OfWorld
-pub mod Lines
 pub mod Picking

@@ -10,7 +10,6 @@ mod agreeing;
 mod gathering;
 mod grouping;
 mod held;
-mod lines;
 mod lists;
 mod ordering;
 mod partitions;

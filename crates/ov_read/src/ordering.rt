@@ -1,39 +1,33 @@
 //! Where the rows of one version stand.
 
-ghost use Rattle.std.specs.Prelude.{◌≡◌, IfOk, IsTrue};
+ghost use Rattle.std.specs.Prelude.{◌≡◌, IfOk};
 ghost use Rattle.ov_segment.specs.Segments.{Ascend};
 ghost use Rattle.ov_fetch.specs.Extents.{rids_of};
-ghost use Rattle.ov_fetch.specs.Scans.{AllStand, InKeyOrder, rows_at};
+ghost use Rattle.ov_fetch.specs.Scans.{AllFit, AllStand};
 ghost use Rattle.ov_read.specs.Picking.{IsPick, places_of as places_of_rids};
 
-use crate::lines::{lines_at, places_in, sort_lines};
 use ov_fetch::Pick;
 use ov_member::Members;
+use ov_order::in_key_order;
 use ov_segment::Table;
 use ov_value::Schema;
 use std::alloc::{AllocError, Global};
-use std::cmp::Ordering;
 
-/// The positions of the records that have one of these rids, in the order of their rows' keys. Where the records stand
-/// in this order already, nothing is sorted.
+/// The positions of the records that have one of these rids, in the order of their rows' keys.
 pub(crate) fn pick_of(
     alloc: Global,
     schema: &Schema,
     records: &Table,
     rids: &Members,
 ) -> Result<Pick, AllocError>
-    requires { Ascend 0 (rids_of records.now.records) }
+    requires ascend { Ascend 0 (rids_of records.now.records) }
+    requires fit { AllFit schema.now records.now.records }
     ensures pick { IfOk result (IsPick schema.now records.now.records rids.now) }
     ensures stand { IfOk result (AllStand records.now.records) }
 {
     let places = places_of(alloc, records, rids)?;
-    if in_order(schema, records, &places) {
-        return Ok(Pick::new(places));
-    }
-    let mut lines = lines_at(alloc, records, &places)?;
-    sort_lines(schema, &mut lines)?;
-    let places = places_in(alloc, &lines)?;
-    Ok(Pick::new(places))
+    let order = in_key_order(alloc, schema, records, &places)?;
+    Ok(Pick::new(order))
 }
 
 // The positions of the records that have one of these rids. Both ascend, and are walked side by side.
@@ -51,18 +45,4 @@ fn places_of(alloc: Global, records: &Table, rids: &Members) -> Result<Vec<usize
         }
     }
     Ok(places)
-}
-
-// Whether the rows at these positions stand in key order.
-fn in_order(schema: &Schema, records: &Table, places: &[usize]) -> bool
-    requires { AllStand records.now.records places.now }
-    ensures { IsTrue result → InKeyOrder schema.now (rows_at records.now.records places.now) }
-{
-    for i in 1..places.len() {
-        let before = records.row(places[i - 1]);
-        if records.row(places[i]).cmp_key(schema, &before) == Ordering::Less {
-            return false;
-        }
-    }
-    true
 }

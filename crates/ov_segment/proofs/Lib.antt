@@ -8,3 +8,4 @@ pub mod SameLemmas
 pub mod RowLemmas
 pub mod MovedLemmas
 pub mod DraftLemmas
+pub mod PassLemmas

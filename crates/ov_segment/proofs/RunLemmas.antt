@@ -58,7 +58,7 @@ head_of held more eight =
     (ap (from_be_bytes w32) first, ap (from_be_bytes w32) second)
 
 -- a front of the bytes of records is not off
-front_good : (schema : Shape) (last : ℕ) (held more : List ℕ) (records : List Record) → AreRecords schema last records → held ++ more ≡ segment_spelling records → IsOff schema last held → ⊥
+pub front_good : (schema : Shape) (last : ℕ) (held more : List ℕ) (records : List Record) → AreRecords schema last records → held ++ more ≡ segment_spelling records → IsOff schema last held → ⊥
 front_good schema last held more [] are e off = omega (arith, off.0, length-append held more, ap length e)
 front_good schema last held more (r ∷ records) are e off =
     let p = front schema last (held ++ more) r (segment_spelling records) (tail_front schema last (held ++ more) r records are e) in

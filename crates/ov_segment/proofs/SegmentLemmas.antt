@@ -7,7 +7,7 @@ use Rattle.ov_value.specs.Shapes.{Shape}
 use Rattle.ov_value.specs.Spelling.{row_spelling}
 use Rattle.ov_value.proofs.MarkLemmas.{rows_same}
 use Rattle.ov_segment.specs.declared.numbered.Record.{Record}
-use Rattle.ov_segment.specs.Segments.{record_bytes, segment_spelling, IsNext, AreRecords}
+use Rattle.ov_segment.specs.Segments.{record_bytes, segment_spelling, IsNext, AreRecords, last_of}
 use Rattle.ov_segment.specs.Reading.{len_at, InBounds, WantsMore, IsOff, Begins}
 use Rattle.ov_segment.proofs.RecordLemmas.{front}
 
@@ -54,18 +54,26 @@ begins_good schema last held r rest b off =
       | inr none ↦ none.none r.row b.next.row (p.marked, bytes)
     ]
 
--- the rid of the last of these records
-abbrev pub last_of : ℕ → List Record → ℕ
-last_of last [] = last
-last_of last (r ∷ rs) = last_of r.rid rs
-
 pub records-push : (schema : Shape) (last : ℕ) (rs : List Record) (r : Record) → AreRecords schema last rs → IsNext schema (last_of last rs) r → AreRecords schema last (rs ++ r ∷ [])
 records-push schema last [] r h n = (n, tt)
 records-push schema last (x ∷ rs) r h n = (h.0, records-push schema x.rid rs r h.1 n)
 
-last_of-push : (last : ℕ) (rs : List Record) (r : Record) → last_of last (rs ++ r ∷ []) ≡ r.rid
+pub last_of-push : (last : ℕ) (rs : List Record) (r : Record) → last_of last (rs ++ r ∷ []) ≡ r.rid
 last_of-push last [] r = refl
 last_of-push last (x ∷ rs) r = last_of-push x.rid rs r
+
+pub records-append : (schema : Shape) (last : ℕ) (rs ss : List Record) → AreRecords schema last rs → AreRecords schema (last_of last rs) ss → AreRecords schema last (rs ++ ss)
+records-append schema last [] ss h k = k
+records-append schema last (r ∷ rs) ss h k = (h.0, records-append schema r.rid rs ss h.1 k)
+
+pub last_of-append : (last : ℕ) (rs ss : List Record) → last_of last (rs ++ ss) ≡ last_of (last_of last rs) ss
+last_of-append last [] ss = refl
+last_of-append last (r ∷ rs) ss = last_of-append r.rid rs ss
+
+-- the last rid isn't below the one before the records
+pub last_of-rises : (schema : Shape) (last : ℕ) (rs : List Record) → AreRecords schema last rs → last ≤ last_of last rs
+last_of-rises schema last [] h = omega arith
+last_of-rises schema last (r ∷ rs) h = omega (arith, h.0.above, last_of-rises schema r.rid rs h.1)
 
 -- what is left of the records whose front has been read
 pub record Left (schema : Shape) (records : List Record) (last : ℕ) (rest : List ℕ) (all : List Record) : Type 0 where
@@ -114,6 +122,19 @@ read_next schema bytes records last rest r after h b =
             rest_is = next.3;
           };
     }
+
+-- the same of some records
+pub read_all : (schema : Shape) (bytes : List ℕ) (records : List Record) (last : ℕ) (rest : List ℕ) (more : List Record) (after : List ℕ)
+    → HasRead schema bytes records last rest → AreRecords schema last more → rest ≡ segment_spelling more ++ after → HasRead schema bytes (records ++ more) (last_of last more) after
+read_all schema bytes records last rest [] after h are e =
+    subst (λ (l : List Record). HasRead schema bytes l last after) (sym (append-nil records)) (subst (HasRead schema bytes records last) e h)
+read_all schema bytes records last rest (r ∷ more) after h are e =
+    let front : Begins schema last rest r (segment_spelling more ++ after) = record {
+      next = are.0;
+      held_is = e ∙ append_assoc (record_bytes r) (segment_spelling more) after;
+    } in
+    subst (λ (l : List Record). HasRead schema bytes l (last_of r.rid more) after) (append_assoc records (r ∷ []) more)
+    (read_all schema bytes (records ++ r ∷ []) r.rid (segment_spelling more ++ after) more after (read_next schema bytes records last rest r (segment_spelling more ++ after) h front) are.1 refl)
 
 -- where no record is in front, no records have these bytes
 pub read_none : (schema : Shape) (bytes : List ℕ) (records : List Record) (last : ℕ) (rest : List ℕ) → HasRead schema bytes records last rest → 0 < length rest

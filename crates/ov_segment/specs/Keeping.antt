@@ -1,16 +1,16 @@
 -- Reading records into a table: those whose rids are wanted come behind the records that it has.
 --     put wanted table r      the table with the record, where it is wanted
---     Keeps s old ahead before kept new ahead' after      one step of a reader does so
-use Rattle.std.specs.Prelude.{◌≡◌, ◌≤◌, ℕ, Bool, if◌then◌else◌, List}
+--     Passes s last bytes ahead rids table last' rest ahead' rids' table'      records that follow the last one were passed
+--     Stops s last rest stop      no whole record stands there, for this reason
+use Rattle.std.specs.Prelude.{◌≡◌, ◌≤◌, ℕ, Bool, true, false, if◌then◌else◌, List, ◌++◌, map, filter}
 use Rattle.ov_member.specs.Edges.{status}
+use Rattle.ov_member.specs.Rids.{AreRids}
 use Rattle.ov_value.specs.Shapes.{Shape}
 use Rattle.ov_segment.specs.declared.numbered.Record.{Record}
-use Rattle.ov_segment.specs.declared.next.Next.{Next}
-use Rattle.ov_segment.specs.declared.next.Next.TheVariants as next
-use Rattle.ov_segment.specs.declared.keeping.Kept.{Kept}
-use Rattle.ov_segment.specs.declared.keeping.Kept.TheVariants as kept
-use Rattle.ov_segment.specs.Held.{Reader}
-use Rattle.ov_segment.specs.Reading.{Answers}
+use Rattle.ov_segment.specs.declared.keeping.Stop.{Stop}
+use Rattle.ov_segment.specs.declared.keeping.Stop.TheVariants as stop
+use Rattle.ov_segment.specs.Reading.{WantsMore, IsOff}
+use Rattle.ov_segment.specs.Segments.{AreRecords, Ascend, segment_spelling, last_of}
 use Rattle.ov_segment.specs.Tables.{Content, pushed}
 
 abbrev pub put : Bool → Content → Record → Content
@@ -24,22 +24,29 @@ pub record Walk : Type 0 where
 abbrev pub wants : Walk → ℕ → Bool
 wants walk rid = status walk.inside walk.edges rid
 
--- the reader gave this record, and it was put into the table where its rid is wanted; the walk says the same as before
--- of the rids from there on
-pub record KeepsRecord (schema : Shape) (old : Reader) (ahead : Walk) (before : Content) (rid : ℕ) (new : Reader) (after_ahead : Walk) (after : Content) : Type 0 where
-  pub record_is : Record
-  pub answers : Answers schema old (next.Record record_is) new
-  pub rid_is : rid ≡ record_is.rid
-  pub table_is : after ≡ put (wants ahead record_is.rid) before record_is
-  pub ahead_is : (n : ℕ) → record_is.rid ≤ n → wants after_ahead n ≡ wants ahead n
+abbrev pub wanted_of : Walk → List Record → List Record
+wanted_of walk records = filter (λ r. wants walk r.rid) records
 
--- the reader gave no record
-pub record KeepsNone (schema : Shape) (old : Reader) (answer : Next) (ahead : Walk) (before : Content) (new : Reader) (after_ahead : Walk) (after : Content) : Type 0 where
-  pub answers : Answers schema old answer new
-  pub table_is : after ≡ before
-  pub ahead_is : after_ahead ≡ ahead
+-- rids that ascend from this one on may come behind these
+abbrev pub TakesFrom : ℕ → List ℕ → Type 0
+TakesFrom last rids = (more : List ℕ) → Ascend last more → AreRids (rids ++ more)
 
-abbrev pub Keeps : Shape → Reader → Walk → Content → Kept → Reader → Walk → Content → Type 0
-Keeps schema old ahead before (kept.Record rid) new after_ahead after = KeepsRecord schema old ahead before rid new after_ahead after
-Keeps schema old ahead before kept.More new after_ahead after = KeepsNone schema old next.More ahead before new after_ahead after
-Keeps schema old ahead before kept.Bad new after_ahead after = KeepsNone schema old next.Bad ahead before new after_ahead after
+-- Some records stand in front of the bytes. Those that are wanted came behind the table's, and the rids of all of them
+-- behind those that were there. From the last rid on the walk says the same as before.
+pub record Passes (schema : Shape) (last : ℕ) (bytes : List ℕ) (ahead : Walk) (rids : List ℕ) (table : Content)
+    (new_last : ℕ) (rest : List ℕ) (new_ahead : Walk) (new_rids : List ℕ) (new_table : Content) : Type 0 where
+  pub passed : List Record
+  pub are : AreRecords schema last passed
+  pub bytes_are : bytes ≡ segment_spelling passed ++ rest
+  pub last_is : new_last ≡ last_of last passed
+  pub ahead_is : (n : ℕ) → new_last ≤ n → wants new_ahead n ≡ wants ahead n
+  pub rids_are : new_rids ≡ rids ++ map (λ r. r.rid) passed
+  pub table_is : new_table ≡ record table { records = table.records ++ wanted_of ahead passed }
+
+abbrev pub Stops : Shape → ℕ → List ℕ → Stop → Type 0
+Stops schema last rest stop.More = WantsMore last rest
+Stops schema last rest stop.Bad = IsOff schema last rest
+
+abbrev pub is_bad : Stop → Bool
+is_bad stop.More = false
+is_bad stop.Bad = true

@@ -34,6 +34,11 @@ abbrev pub AreRecords : Shape → ℕ → List Record → Type 0
 AreRecords schema last [] = Unit {0}
 AreRecords schema last (r ∷ records) = IsNext schema last r × AreRecords schema r.rid records
 
+-- the rid of the last of these records, or the last one before them
+abbrev pub last_of : ℕ → List Record → ℕ
+last_of last [] = last
+last_of last (r ∷ records) = last_of r.rid records
+
 -- numbers above the last one and up to 2^31 that strictly ascend
 abbrev pub Ascend : ℕ → List ℕ → Type 0
 Ascend last [] = Unit {0}

@@ -10,14 +10,12 @@ use crate::table::Table;
 use ov_value::{Schema, spells_row};
 use std::alloc::AllocError;
 
-/// What a reader passed: a record with this rid, whether it was wanted or not, or why there is none.
+/// Why a pass over the records that a reader holds came to its end.
 #[derive(Clone, Copy, PartialEq, Eq)]
-pub enum Kept {
-    /// The next record, whose rid this is.
-    Record(u32),
-    /// The bytes held are less than a whole record.
+pub enum Stop {
+    /// The bytes that are left are less than a whole record.
     More,
-    /// The bytes held begin as no segment does that goes on from the records passed. No other answer follows.
+    /// The bytes that are left begin as no segment does that goes on from the records passed.
     Bad,
 }
 

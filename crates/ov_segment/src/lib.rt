@@ -11,6 +11,7 @@
 
 mod at;
 mod draft;
+mod held;
 mod keeping;
 mod laws;
 mod next;
@@ -26,7 +27,7 @@ mod table;
 mod writing;
 
 pub use draft::RowDraft;
-pub use keeping::Kept;
+pub use keeping::Stop;
 pub use laws::{any_cuts, bad_stays, one_answer};
 pub use next::Next;
 pub use numbered::Record;

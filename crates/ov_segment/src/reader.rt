@@ -1,14 +1,15 @@
 //! A reader of a segment whose bytes come in pieces.
 
-ghost use Rattle.std.specs.Prelude.{◌≡◌, ◌-◌, ◌+◌, ◌++◌, ◌≤◌, if◌then◌else◌, IfOk, OnErr, length, min, take, drop, vec_len, vec_capacity};
+ghost use Rattle.std.specs.Prelude.{◌≡◌, false, ◌-◌, ◌+◌, ◌++◌, ◌≤◌, if◌then◌else◌, IfOk, OnErr, length, min, take, drop, vec_len, vec_capacity};
 ghost use Rattle.ov_segment.specs.Reading.{fresh, after_feed, Answers};
-ghost use Rattle.ov_segment.specs.Keeping.{Keeps};
+ghost use Rattle.ov_segment.specs.Keeping.{Passes, Stops, TakesFrom, is_bad};
 
 use crate::at::record_at;
-use crate::keeping::{Front, Kept, front_at, put};
+use crate::held::{Passed, pass_all};
+use crate::keeping::Stop;
 use crate::next::Next;
 use crate::table::Table;
-use ov_member::Ahead;
+use ov_member::{Ahead, MembersDraft};
 use ov_value::Schema;
 use std::alloc::{AllocError, Global};
 use std::marker::Model;
@@ -99,40 +100,39 @@ impl SegmentReader {
         Ok(next)
     }
 
-    /// Passes the next record, and appends it to the table where `ahead` says that its rid is wanted; `ahead` then is
-    /// what is ahead from this rid on. It takes memory in the table alone. After want of memory the reader and the table
-    /// are as before.
-    pub fn keep_next(
+    /// Passes all whole records that are held, and appends those to the table whose rids `ahead` says are wanted; `ahead`
+    /// then is what is ahead from the last rid on. The rids of all of them come behind those in `rids`. It takes memory in
+    /// the table and for the rids alone. After want of memory the reader is as before, and the table and the rids may have
+    /// some of the records.
+    pub fn pass_held(
         &mut self,
         schema: &Schema,
         ahead: &mut Ahead<'_>,
+        rids: &mut MembersDraft,
         table: &mut Table,
-    ) -> Result<Kept, AllocError>
-        requires { table.old.columns ≡ schema.now.columns }
-        ensures kept { IfOk result (λ kept. Keeps schema.now self.old (record { inside = ahead.old.inside; edges = ahead.old.edges }) table.old
-            kept self.new (record { inside = ahead.new.inside; edges = ahead.new.edges }) table.new) }
-        ensures reader { OnErr result (self.new ≡ self.old) }
-        ensures table { OnErr result (table.new ≡ table.old) }
+    ) -> Result<Stop, AllocError>
+        requires open { self.old.over ≡ false }
+        requires columns { table.old.columns ≡ schema.now.columns }
+        requires rids { TakesFrom self.old.last rids.old }
+        ensures passes { IfOk result (λ stop. Passes schema.now self.old.last self.old.held (record { inside = ahead.old.inside; edges = ahead.old.edges }) rids.old table.old
+            self.new.last self.new.held (record { inside = ahead.new.inside; edges = ahead.new.edges }) rids.new table.new) }
+        ensures stops { IfOk result (Stops schema.now self.new.last self.new.held) }
+        ensures over { IfOk result (λ stop. self.new.over ≡ is_bad stop) }
+        ensures err { OnErr result (self.new ≡ self.old) }
     {
-        if self.over {
-            return Ok(Kept::Bad);
-        }
-        match front_at(schema, self.last, &self.buffer[self.start..]) {
-            Front::More => Ok(Kept::More),
-            Front::Bad => {
-                self.over = true;
-                Ok(Kept::Bad)
-            }
-            Front::Record(rid, marked, row) => {
-                let next = ahead.at(rid);
-                put(table, next.is_inside(), rid, marked, row)?;
-                let len = row.len();
-                *ahead = next;
-                self.last = rid;
-                self.start += 8 + len;
-                Ok(Kept::Record(rid))
-            }
-        }
+        let bytes = &self.buffer[self.start..];
+        let Passed {
+            stop,
+            last,
+            rest,
+            ahead: walk,
+        } = pass_all(schema, self.last, bytes, ahead, rids, table)?;
+        let start = self.buffer.len() - rest.len();
+        *ahead = walk;
+        self.start = start;
+        self.last = last;
+        self.over = stop == Stop::Bad;
+        Ok(stop)
     }
 
     /// The number of bytes held.

@@ -100,8 +100,8 @@ impl<'a> RowRef<'a> {
         cmp_cells(schema, &a, &b)
     }
 
-    // The value in the first column, where it is an int and no marks stand before it.
-    fn front_int(&self) -> Option<i64>
+    /// The value in the first column, where it is an int and no marks stand before it. It takes no walk over the row.
+    pub fn front_int(&self) -> Option<i64>
         ensures { IfSome result (λ n. value_at self.now 0 ≡ Int n) }
     {
         int_in_front(self.columns, self.marked, self.bytes)

@@ -10,3 +10,5 @@ pub mod Decoded
 pub mod Found
 pub mod Standing
 pub mod CellLemmas
+pub mod Ascii
+pub mod FullLemmas

@@ -5,12 +5,12 @@ ghost use Rattle.std.specs.List.{All};
 ghost use Rattle.ov_value.specs.declared.value.Value.{Value as RowValue};
 ghost use Rattle.ov_value.specs.Spelling.{IsSpelling, IsRow, kept as kept_values, marks};
 ghost use Rattle.ov_value.specs.Reading.{Spelled};
-ghost use Rattle.ov_value.specs.Decoding.{row_of, AreRow, stands};
+ghost use Rattle.ov_value.specs.Decoding.{decoded, row_of, AreRow, CanRead, stands};
 
 use crate::column::Column;
 use crate::marked::marks_at;
 use crate::schema::Schema;
-use crate::walk::walk;
+use crate::walk::{behind, walk};
 
 /// Whether all of the bytes, which begin with marks or not, spell a row of the schema. It takes no memory, and the time
 /// of the columns and of the texts' bytes.
@@ -20,6 +20,45 @@ pub fn spells_row(schema: &Schema, marked: bool, bytes: &[u8]) -> bool
         × IsSpelling (row_of schema.now.columns marked bytes.now) marked bytes.now }
 
     // No row is passed over.
+    ensures only { (row : List RowValue) → IsRow schema.now row → IsSpelling row marked bytes.now
+        → IsTrue result × (row ≡ row_of schema.now.columns marked bytes.now) }
+{
+    if !marked && is_full(schema, bytes) {
+        return true;
+    }
+    spells_any(schema, marked, bytes)
+}
+
+// Whether the bytes spell a row of which no value is NULL, as most are: no key has to be looked at.
+fn is_full(schema: &Schema, bytes: &[u8]) -> bool
+    ensures { IsTrue result → IsRow schema.now (row_of schema.now.columns false bytes.now)
+        × IsSpelling (row_of schema.now.columns false bytes.now) false bytes.now }
+{
+    are_full(schema.columns(), bytes)
+}
+
+fn are_full(columns: &[Column], bytes: &[u8]) -> bool
+    ensures read { IsTrue result → CanRead columns.now 0 bytes.now }
+    ensures kept { IsTrue result → length columns.now ≡ length (kept_values (decoded columns.now 0 bytes.now)) }
+{
+    let mut rest = bytes;
+    for column in columns {
+        if rest.is_empty() {
+            return false;
+        }
+        match behind(column.kind, rest) {
+            None => return false,
+            Some(after) => rest = after,
+        }
+    }
+    rest.is_empty()
+}
+
+// As `spells_row`, of a row with NULLs or without.
+#[inline(never)]
+fn spells_any(schema: &Schema, marked: bool, bytes: &[u8]) -> bool
+    ensures found { IsTrue result → IsRow schema.now (row_of schema.now.columns marked bytes.now)
+        × IsSpelling (row_of schema.now.columns marked bytes.now) marked bytes.now }
     ensures only { (row : List RowValue) → IsRow schema.now row → IsSpelling row marked bytes.now
         → IsTrue result × (row ≡ row_of schema.now.columns marked bytes.now) }
 {

@@ -8,9 +8,10 @@ ghost use Rattle.ov_value.specs.Reading.{Begins};
 ghost use Rattle.ov_value.specs.Decoding.{front_value, front_rest, decoded, CanRead};
 
 use crate::column::{Column, Kind};
-use std::str;
+use crate::utf8::is_text;
 
 /// What stands behind a value of the kind, or `None` where none stands in front.
+#[inline(always)]
 pub(crate) fn behind(kind: Kind, bytes: &[u8]) -> Option<&[u8]>
     ensures rest { IfSome result (λ rest. rest.now ≡ front_rest kind bytes.now) }
     ensures found { IfSome result (λ rest. Begins kind bytes.now (front_value kind bytes.now) rest.now) }
@@ -48,10 +49,7 @@ fn behind_text(bytes: &[u8]) -> Option<&[u8]>
         return None;
     }
     let (text, rest) = rest.split_at(len);
-    match str::from_utf8(text) {
-        Err(_) => None,
-        Ok(_) => Some(rest),
-    }
+    if is_text(text) { Some(rest) } else { None }
 }
 
 fn behind_flag(bytes: &[u8]) -> Option<&[u8]>

@@ -4,7 +4,7 @@ use Rattle.std.proofs.lemmas.List.Elements.{All-push}
 use Rattle.ov_segment.proofs.WrittenLemmas.{records_ascend}
 use Rattle.ov_fetch.specs.Scans.{AllStand}
 use Rattle.ov_read.specs.Picking.{ArePicks}
-use Rattle.ov_read.proofs.PickFacts.{picks_more}
+use Rattle.ov_read.proofs.PickFacts.{all_fit, picks_more}
 use Rattle.ov_read.proofs.scanning.picks_of.Goals as goal
 
 pub loop-rids-preserved : goal.loop-rids-preserved
@@ -21,5 +21,8 @@ loop-rids-preserved c =
       All-push (AllStand records) picks _ c.loop-rids.invariant.1 c.in_ok-pick_of.ensures.stand,
     )
 
-pub pick_of-requires : goal.pick_of-requires
-pick_of-requires c = records_ascend c.args.schema.now 0 c.args.records.now.records c.requires
+pub pick_of-requires-clause-ascend : goal.pick_of-requires-clause-ascend
+pick_of-requires-clause-ascend c = records_ascend c.args.schema.now 0 c.args.records.now.records c.requires
+
+pub pick_of-requires-clause-fit : goal.pick_of-requires-clause-fit
+pick_of-requires-clause-fit c = all_fit c.args.schema.now 0 c.args.records.now.records c.requires

@@ -1,7 +1,7 @@
 use Rattle.std.proofs.Common.{◌≤◌, ℕ, arith}
 use Rattle.ov_fetch.specs.Extents.{page_bytes}
 use Rattle.ov_fetch.proofs.Pieces.{piece_of}
-use Rattle.ov_fetch.proofs.Going.{filled, all_taken}
+use Rattle.ov_fetch.proofs.Filling.{filled, all_taken}
 use Rattle.ov_fetch.proofs.cursor.Cursor.fill.Goals as goal
 
 pub returns-clause-answer : goal.returns-clause-answer

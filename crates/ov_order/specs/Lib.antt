@@ -1,0 +1,5 @@
+pub mod Fronts
+pub mod Keyed
+pub mod Merging
+pub mod Runs
+pub mod Slots

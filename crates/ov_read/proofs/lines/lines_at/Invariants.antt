@@ -1,7 +1,0 @@
-use Rattle.std.proofs.Common.{◌≡◌, take}
-use Rattle.std.specs.List.{All}
-use Rattle.ov_read.specs.Lines.{IsLine, places}
-use Rattle.ov_read.proofs.lines.lines_at.Given as goal
-
-abbrev pub invariant-loop-place : goal.invariant-loop-place
-invariant-loop-place l = All (IsLine l.records.records) l.lines.items × (places l.lines.items ≡ take l.place-index l.places)
