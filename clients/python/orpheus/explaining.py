@@ -5,7 +5,7 @@ import difflib
 import os
 import re
 
-from . import values
+from . import faults, values
 
 USUAL = {
     4: "the pages are full: drop what isn't needed",
@@ -55,7 +55,7 @@ def of_refusal(why, about):
     for look in (of_file, of_query, of_names):
         try:
             lines += look(why, about) or []
-        except (OSError, LookupError, ValueError):
+        except (faults.OrpheusError, OSError, LookupError, ValueError):
             pass
     if why.number in USUAL:
         lines.append(USUAL[why.number])

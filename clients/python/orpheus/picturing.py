@@ -46,23 +46,32 @@ def text(x, y, said, kind=""):
 # ---- versions
 
 
+def is_free(lane, first, last, lanes):
+    """Whether no version between these two stands in a lane."""
+    return all(lanes.get(vid) != lane for vid in range(first + 1, last))
+
+
 def lanes_of(log):
-    """Gives each version a lane: that of its first parent, where no other version went on in it, else the first free one."""
-    lanes, tips, left = {}, {}, {}
+    """Gives each version a lane, the first one in which nothing stands between it and its first parent."""
+    lanes = {}
     for version in log:
-        for parent in version.parents:
-            left[parent] = left.get(parent, 0) + 1
-    for version in log:
-        first = version.parents[0] if version.parents else None
-        lane = lanes.get(first)
-        if lane is None or tips.get(lane) != first:
-            # A lane is free where its last version has no child to come.
-            lane = next((it for it in range(len(tips) + 1) if it not in tips or not left.get(tips[it])), len(tips))
+        first = version.parents[0] if version.parents else version.vid
+        lane = lanes.get(first, 0)
+        if not is_free(lane, first, version.vid, lanes):
+            lane = next(it for it in range(len(log) + 1) if is_free(it, first - 1 if it != lane else first, version.vid, lanes))
         lanes[version.vid] = lane
-        tips[lane] = version.vid
-        for parent in version.parents:
-            left[parent] -= 1
     return lanes
+
+
+def edge_of(parent, child, lanes, places):
+    """Gives the way of an edge: down the lane of its lower end, or else of its upper one, or else straight across."""
+    (px, py), (x, y) = places[parent], places[child]
+    half = LINE / 2
+    if is_free(lanes[child], parent, child, lanes):
+        return f"M{px},{py} C{px},{py + half} {x},{py + half} {x},{py + LINE} V{y}"
+    if is_free(lanes[parent], parent, child, lanes):
+        return f"M{px},{py} V{y - LINE} C{px},{y - half} {x},{y - half} {x},{y}"
+    return f"M{px},{py} C{px},{py + LINE} {x},{y - LINE} {x},{y}"
 
 
 def colours_of(layout):
@@ -79,9 +88,7 @@ def history(cvd, log, layout):
     for version in log:
         x, y = places[version.vid]
         for parent in version.parents:
-            px, py = places[parent]
-            bend = f"C{px},{py + LINE * 0.8:g} {x},{y - LINE * 0.8:g} {x},{y}"
-            edges.append(f'<path d="M{px},{py} {bend}" fill="none" stroke="#999" stroke-width="1.6"/>')
+            edges.append(f'<path d="{edge_of(parent, version.vid, lanes, places)}" fill="none" stroke="#999" stroke-width="1.6"/>')
         part, colour = colours.get(version.vid, (None, PLAIN))
         told = f"version {version.vid}, parents {', '.join(map(str, version.parents)) or 'none'}" + (f", partition {part}" if part else "")
         nodes.append(f'<circle cx="{x}" cy="{y}" r="6.5" fill="{colour}" stroke="#fff" stroke-width="1.5"><title>{told}</title></circle>')

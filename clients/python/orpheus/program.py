@@ -193,6 +193,27 @@ def store_found(folder):
     return found
 
 
+def input_found(path, folder, writes):
+    """Says what is to be seen of a file that a run couldn't read or write."""
+    found = []
+    for name in ("journal", "pages"):
+        with contextlib.suppress(OSError):
+            if os.path.samefile(path, os.path.join(folder, name)):
+                found.append(f"{path} is the store's own {name}, which no command reads or writes")
+    if not os.path.isdir(folder):
+        found.append(f"the store's folder {folder} isn't there any more")
+    if os.path.exists(path) and not os.path.isfile(path):
+        found.append(f"{path} is no regular file")
+    elif os.path.exists(path) and not os.access(path, os.W_OK if writes else os.R_OK):
+        found.append(f"{path} can't be {'written' if writes else 'read'}")
+    elif writes and not os.path.exists(path) and not os.access(os.path.dirname(path), os.W_OK):
+        found.append(f"{os.path.dirname(path)} can't be written")
+    with contextlib.suppress(OSError):
+        if writes and os.statvfs(os.path.dirname(path)).f_bavail == 0:
+            found.append("the disk is full")
+    return found
+
+
 def not_a_store_found(folder):
     journal, pages = os.path.join(folder, "journal"), os.path.join(folder, "pages")
     with contextlib.suppress(OSError):

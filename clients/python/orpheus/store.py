@@ -1,6 +1,7 @@
 """A store, with a method for each command of the program."""
 
 import contextlib
+import errno
 import fractions
 import os
 import sys
@@ -71,6 +72,10 @@ class Store:
         except faults.Refused as why:
             why._about = {"store": self, **(about or {})}
             raise
+        except faults.InputFault as why:
+            path = (about or {}).get("path") or (about or {}).get("file")
+            found = program.input_found(path, self.folder, writes="path" in (about or {})) if path else []
+            raise faults.InputFault(why.said, why.replies, found) from None
 
     # ---- files
 
@@ -81,7 +86,7 @@ class Store:
             if isinstance(source, (str, os.PathLike)):
                 path = os.path.abspath(os.fspath(source))
                 folder, name = os.path.split(path)
-                if "\n" in name or not is_unicode(name):
+                if "\n" in name or not is_unicode(name) or not os.path.isdir(folder):
                     folder, name = stack.enter_context(tempfile.TemporaryDirectory()), "it.csv"
                     os.symlink(path, os.path.join(folder, name))
                 yield File(folder, name, path, schema)
@@ -159,6 +164,8 @@ class Store:
         if to is not None:
             path = os.path.abspath(os.fspath(to))
             folder, name = os.path.split(path)
+            if not os.path.isdir(folder):
+                raise FileNotFoundError(errno.ENOENT, "there is no folder", folder)
             about = {"path": path}
             return replies.written(self._tell(self._checkout_line(cvd, vids, name), folder, about).rstrip("\n"), path)
         with tempfile.TemporaryDirectory() as folder:
@@ -427,6 +434,7 @@ class Batch:
         self.store = store
         self.files = files
         self.pending = []
+        self.asked = None
 
     def _add(self, line, parse, **about):
         self.pending.append(Pending(line, parse, {"store": self.store, **about}))
@@ -463,13 +471,15 @@ class Batch:
         return self._add(f"generate {word(cvd, 'dataset')} {seed} {rows} {versions}", replies.generated)
 
     def run(self, progress=None):
-        with self.store._run() as run:
-            for number, it in enumerate(self.pending, 1):
-                try:
+        try:
+            with self.store._run() as run:
+                for number, it in enumerate(self.pending, 1):
+                    self.asked = it
                     it.result = it.parse(run.ask(it.line))
-                except faults.Refused as why:
-                    why._about = {"done": number - 1, **it.about}
-                    why._about = {**why._about, "told": why.explain()} if "file" in it.about else why._about
-                    raise
-                if progress:
-                    progress(number, len(self.pending))
+                    if progress:
+                        progress(number, len(self.pending))
+        except faults.Refused as why:
+            # (told when the run has ended, since to tell it may take runs of its own, and before the files of rows go)
+            why._about = {"done": self.pending.index(self.asked), **self.asked.about}
+            why._about = {**why._about, "told": why.explain()}
+            raise
