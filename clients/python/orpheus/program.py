@@ -19,6 +19,14 @@ FAULTS = {2: faults.UsageFault, 3: faults.StoreFault, 4: faults.InputFault, 5: f
 POLL = 0.02
 
 
+def version():
+    """Gives the version of the package, which the repository has in one place."""
+    for path in (f"{HERE}/VERSION", f"{HERE}/../../../VERSION"):
+        with contextlib.suppress(OSError), open(path, encoding="ascii") as file:
+            return file.read().strip()
+    return "unknown"
+
+
 # ---- where the program is
 
 
