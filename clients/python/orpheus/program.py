@@ -96,6 +96,8 @@ class Run:
         if status not in (0, 1):
             self.replies.append(text)
             raise self.fault()
+        if not text:
+            raise self.fault("the run gave no reply")
         if status == 1 and not self.replies_refused():
             raise refusal(text.rstrip("\n").rsplit("\n", 1)[-1], line)
         return text
