@@ -1,0 +1,4 @@
+pub mod Sparing
+pub mod Quiet
+pub mod OwnRows
+pub mod Owned
