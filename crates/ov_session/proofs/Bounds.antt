@@ -1,5 +1,5 @@
 -- How many bytes of pages a command fetches.
-use Rattle.std.proofs.Common.{◌≡◌, ◌∙◌, ◌+◌, inr, ℕ, true, List, [], Some, None, refl, sym, ap, subst, arith}
+use Rattle.std.proofs.Common.{◌≡◌, ◌∙◌, ◌+◌, inl, inr, ℕ, true, List, [], Some, None, refl, sym, ap, subst, arith}
 use Rattle.std.specs.Prelude.{◌≤◌, IsErrOf, Ok, Err, Option, Result, is_some}
 use Rattle.std.specs.Option.{option_or}
 use Rattle.ov_host.specs.Host.{State}
@@ -10,7 +10,7 @@ use Rattle.ov_model.specs.declared.command.Command.{Command}
 use Rattle.ov_model.specs.declared.command.Command.TheVariants as asks
 use Rattle.ov_read.specs.Sizes.{bytes_for}
 use Rattle.ov_session.specs.Bounds.{FetchedBy, FetchedLater, IsFetched, IsFetchedBy, IsReading, IsReadingCommand, bytes_in, command_fetch, if_allowed, may_fetch}
-use Rattle.ov_session.specs.Reads.{Own, Nought, Versions, Steps, Reads, Source, fetch, reads_of}
+use Rattle.ov_session.specs.Reads.{Own, Nought, Versions, Steps, Later, Reads, fetch, reads_of}
 use Rattle.ov_session.specs.declared.errors.EndErr.{EndErr}
 use Rattle.ov_session.specs.declared.errors.EndErr.TheVariants as ending
 use Rattle.ov_store.specs.Committing.{Set, commit_off, parents_off_in, to_off}
@@ -26,9 +26,9 @@ fetched_still old new n same = omega (arith, same)
 -- ---- a line
 
 -- nothing was read, and the store is as it was
-none_later : (later : Option (List Row → List Source)) (bytes : ℕ) (s : State) → FetchedLater later bytes s s
+none_later : (later : Option Later) (bytes : ℕ) (s : State) → FetchedLater later bytes s s
 none_later None bytes s = omega arith
-none_later (Some later) bytes s = ([], omega arith)
+none_later (Some later) bytes s = inl (omega arith)
 
 none_by : (own : Own) (row : Reads) (held : Held) (fault : Type 0) (s : State) → FetchedBy own row held held fault s s
 none_by Nought row held fault s = none_later row.later (fetch row) s
@@ -45,10 +45,11 @@ unread_line user (Asks command) held fault s = unread_command user command held 
 unread_line user (Refused refusal) held fault s = omega arith
 
 -- what is printed then reads nothing
-later_printed : (later : Option (List Row → List Source)) (bytes : ℕ) (old mid new : State) → new.fetched ≡ mid.fetched → FetchedLater later bytes old mid
+later_printed : (later : Option Later) (bytes : ℕ) (old mid new : State) → new.fetched ≡ mid.fetched → FetchedLater later bytes old mid
     → FetchedLater later bytes old new
 later_printed None bytes old mid new same f = omega (arith, f, same)
-later_printed (Some later) bytes old mid new same f = (f.0, omega (arith, f.1, same))
+later_printed (Some later) bytes old mid new same (inl f) = inl (omega (arith, f, same))
+later_printed (Some later) bytes old mid new same (inr f) = inr (f.0, f.1, omega (arith, f.2, same))
 
 printed_by : (own : Own) (row : Reads) (held now : Held) (P Q : Type 0) (old mid new : State) → (P → Q) → new.fetched ≡ mid.fetched
     → FetchedBy own row held now P old mid → FetchedBy own row held now Q old new

@@ -4,7 +4,7 @@
 --                                   `migrate` nothing where no plan runs
 --     IsReading line      the line changes no store
 --     is_off n user line      the numbers refuse it by its row, or a `migrate` has no step to take
-use Rattle.std.specs.Prelude.{◌≡◌, ◌≤◌, ◌+◌, ◌==◌, ◌||◌, ℕ, Bool, false, not, List, Option, Some, None, is_some}
+use Rattle.std.specs.Prelude.{◌≡◌, ◌⊎◌, ◌≤◌, ◌+◌, ◌==◌, ◌||◌, ℕ, Bool, false, not, List, Option, Some, None, is_some}
 use Rattle.ov_host.specs.declared.area.Extent.{Extent}
 use Rattle.ov_host.specs.Host.{State}
 use Rattle.ov_catalog.specs.Numbers.{Numbers}
@@ -16,7 +16,8 @@ use Rattle.ov_model.specs.Line.{Line, Asks}
 use Rattle.ov_model.specs.declared.command.Command.{Command}
 use Rattle.ov_store.specs.Planning.{optimize_off}
 use Rattle.ov_store.specs.Scanning.{all_vids, set_in}
-pub use Rattle.ov_session.specs.Reads.{Changes, Nothing, Once, Several, Own, Nought, Versions, Steps, Reads, Source, bytes_in, bytes_of_all, changes_of, fetch, if_allowed, reads_of}
+use Rattle.ov_session.specs.Commands.{AreLast}
+pub use Rattle.ov_session.specs.Reads.{Changes, Nothing, Once, Several, Own, Nought, Versions, Steps, Later, Reads, Source, bytes_in, bytes_of_all, changes_of, fetch, if_allowed, reads_of}
 
 -- the lists of all versions and the segments of all partitions, where nothing refuses the plan
 abbrev pub plan_fetch : Numbers Extent Extent → List ℕ → ℕ → ℕ → ℕ
@@ -29,10 +30,12 @@ abbrev pub may_fetch : Numbers Extent Extent → List ℕ → Line → ℕ
 may_fetch n user (Asks command) = command_fetch n user command
 may_fetch n user _ = 0
 
--- What a row reads, and by the rows of the registry, which are some, no more than these say.
-abbrev pub FetchedLater : Option (List Row → List Source) → ℕ → State → State → Type 0
+-- No more was fetched than the row says, and by the rows of the registry, as they are read, no more than these say.
+abbrev pub FetchedLater : Option Later → ℕ → State → State → Type 0
 FetchedLater None bytes old new = new.fetched ≤ old.fetched + bytes
-FetchedLater (Some later) bytes old new = (rows : List Row) × (new.fetched ≤ old.fetched + (bytes + bytes_of_all (later rows)))
+FetchedLater (Some later) bytes old new =
+    (new.fetched ≤ old.fetched + bytes)
+    ⊎ ((rows : List Row) × AreLast later.registry old rows × (new.fetched ≤ old.fetched + (bytes + bytes_of_all (later.sources rows))))
 
 -- Of a `generate` each version's parent is read twice, by what the store kept when that version was begun. What the steps of a
 -- `migrate` read has no bound here, but that nothing is read where no plan runs. The store kept `before`, and keeps `now`; whether

@@ -40,7 +40,7 @@ use Rattle.ov_value.specs.declared.schema_err.SchemaErr.{SchemaErr}
 use Rattle.ov_value.specs.Shapes.{Shape}
 use Rattle.ov_value.specs.Spelling.{IsRow}
 use Rattle.ov_store.specs.Beginning.{IsShort}
-use Rattle.ov_session.specs.Reads.{Own, Nought, Versions, Steps, Reads, Source, RowsOf, ParentsOf, PlanOf, ListsOf, SegmentsOf, LastOf, Wanted, last_vid, reads_of}
+use Rattle.ov_session.specs.Reads.{Own, Nought, Versions, Steps, Later, Reads, Source, RowsOf, ParentsOf, PlanOf, ListsOf, SegmentsOf, LastOf, Wanted, last_vid, reads_of}
 use Rattle.ov_session.specs.Stepping.{IsStepDamaged}
 use Rattle.ov_session.specs.declared.changing.Asked.{Asked}
 use Rattle.ov_session.specs.declared.changing.Asked.TheVariants as asked
@@ -97,6 +97,11 @@ pub record IsLast (set : Set) (s : State) (rows : List Row) : Type 0 where
   pub scanned : IsScanned (page_bytes s) set records (length set.versions) pick
   pub rows_are : rows ≡ rows_in scanned.found
 
+-- those of a dataset that may not be there, where the host tells its bytes
+abbrev pub AreLast : Option Set → State → List Row → Type 0
+AreLast None s rows = rows ≡ []
+AreLast (Some set) s rows = s.tells ≡ true → IsLast set s rows
+
 -- and a key stands twice among them: this is the first page of the version's list
 abbrev pub IsKeyTwice : Set → State → ℕ → Type 0
 IsKeyTwice set s page =
@@ -140,15 +145,11 @@ AreBad (x ∷ []) stage held s page = IsBad x stage held s page
 AreBad (x ∷ y ∷ sources) stage held s page =
     IsBad x stage held s page ⊎ (((other : ℕ) → IsBad x stage held s other → ⊥) × AreBad (y ∷ sources) stage held s page)
 
--- what is read by the rows of the registry
-abbrev pub AreLaterBad : Option (List Row → List Source) → Staged → Held → State → ℕ → Type 0
-AreLaterBad None stage held s page = ⊥
-AreLaterBad (Some later) stage held s page = (rows : List Row) × AreBad (later rows) stage held s page
-
--- with what is read by them, where there is any
-abbrev pub AreAnyBad : Option (List Row → List Source) → List Source → Staged → Held → State → ℕ → Type 0
+-- with what is read by the rows of the registry, where there is any
+abbrev pub AreAnyBad : Option Later → List Source → Staged → Held → State → ℕ → Type 0
 AreAnyBad None sources stage held s page = AreBad sources stage held s page
-AreAnyBad (Some later) sources stage held s page = AreBad sources stage held s page ⊎ AreLaterBad (Some later) stage held s page
+AreAnyBad (Some later) sources stage held s page =
+    AreBad sources stage held s page ⊎ ((rows : List Row) × AreLast later.registry s rows × AreBad (later.sources rows) stage held s page)
 
 abbrev pub DamagedBy : Own → Reads → Staged → Held → Held → State → ℕ → Type 0
 DamagedBy Nought row stage before now s page = (row.off ≡ None) × AreAnyBad row.later (row.always ++ row.if_done) stage before s page

@@ -84,6 +84,11 @@ pub data File : Type 0 where
   Given : File
   GivenBehind : File
 
+-- what is read by the rows of a dataset of the registry, once these were read
+pub record Later : Type 0 where
+  pub registry : Option Set
+  pub sources : List Row → List Source
+
 pub record Reads : Type 0 where
   -- why the numbers refuse it, before anything is read
   pub off : Option Refusal
@@ -92,7 +97,7 @@ pub record Reads : Type 0 where
   -- what is read, too, before an answer that is no refusal
   pub if_done : List Source
   -- and by the rows of the registry that were read
-  pub later : Option (List Row → List Source)
+  pub later : Option Later
   pub own : Own
   pub changes : Changes
   pub file : File
@@ -276,7 +281,7 @@ reads_of n user (asks.Commit cvd vids file message added) =
 reads_of n user (asks.CommitStaged owner table message) =
     record (refusing (registry_off stage_schema (set_in n stage_name))) {
       always = LastOf (set_in n stage_name) ∷ [];
-      later = Some (staged_read n owner table message);
+      later = Some (record { registry = set_in n stage_name; sources = staged_read n owner table message });
       changes = Once;
       file = Taken;
     }

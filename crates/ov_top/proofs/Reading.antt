@@ -33,7 +33,7 @@ use Rattle.ov_session.specs.Asking.{line_asked}
 use Rattle.ov_session.specs.Bounds.{IsFetchedBy, IsReading, IsReadingCommand, may_fetch}
 use Rattle.ov_session.proofs.Bounds.{reading_fetched}
 use Rattle.ov_session.specs.Commands.{AreAnyBad, AreBad, AreRowsOf, DamagedBy, IsBad, IsDamageOf, IsDamaged, IsNoDamage, IsParentsDamaged, IsWideDamagedIn, is_comment_in, is_comment_of}
-use Rattle.ov_session.specs.Reads.{Own, Nought, Versions, Steps, File, Unused, Taken, Given, GivenBehind, Reads, Source, RowsOf, ParentsOf, PlanOf, ListsOf, SegmentsOf, LastOf, Wanted, file_of, reads_of}
+use Rattle.ov_session.specs.Reads.{Own, Nought, Versions, Steps, File, Unused, Taken, Given, GivenBehind, Later, Reads, Source, RowsOf, ParentsOf, PlanOf, ListsOf, SegmentsOf, LastOf, Wanted, file_of, reads_of}
 use Rattle.ov_session.specs.Damages.{IsCommandMet, IsMetBy, IsStepMet}
 use Rattle.ov_session.specs.Replying.{IsReplied, IsReplyTo}
 use Rattle.ov_session.specs.Standing.{IsIdle, IsIdleBy, IsIdleFor, IsIdleOn}
@@ -190,10 +190,10 @@ module _ (stage staged : Staged) (files : staged.files ≡ stage.files) (told : 
   all_as (x ∷ y ∷ sources) (inr later) =
       inr (λ other bad. later.0 other (bad_as staged stage (sym files) (sym told) held s other x bad), all_as (y ∷ sources) later.1)
 
-  any_as : (later : Option (List Row → List Source)) (sources : List Source) → AreAnyBad later sources stage held s page → AreAnyBad later sources staged held s page
+  any_as : (later : Option Later) (sources : List Source) → AreAnyBad later sources stage held s page → AreAnyBad later sources staged held s page
   any_as None sources is = all_as sources is
   any_as (Some later) sources (inl first) = inl (all_as sources first)
-  any_as (Some later) sources (inr rows) = inr (rows.0, all_as (later rows.0) rows.1)
+  any_as (Some later) sources (inr rows) = inr (rows.0, rows.1, all_as (later.sources rows.0) rows.2)
 
   row_as : (own : Own) (row : Reads) → DamagedBy own row stage held held s page → DamagedBy own row staged held held s page
   row_as Nought row is = (is.0, any_as row.later (row.always ++ row.if_done) is.1)
