@@ -136,12 +136,17 @@ def same(what, got, want):
         raise AssertionError(f"{what}: {got!r}, and not {want!r}")
 
 
+class Skip(Exception):
+    """The machine can't do what a case needs."""
+
+
 class Cases:
     """The cases of one script, each a function of the program's path."""
 
     def __init__(self, name):
         self.name = name
         self.all = []
+        self.skipped = 0
 
     def case(self, says):
         return lambda check: self.all.append((says, check))
@@ -152,6 +157,9 @@ class Cases:
         for says, check in self.all:
             try:
                 check(program)
+            except Skip as why:
+                self.skipped += 1
+                print(f"{self.name}: skipped: {says}: {why}")
             except (AssertionError, LookupError, OSError) as why:
                 count += 1
                 print(f"{self.name}: {says}: {why or type(why).__name__}")
@@ -169,5 +177,5 @@ class Cases:
         finally:
             os.chdir("/")
             shutil.rmtree(room, ignore_errors=True)
-        print(f"{self.name}: {len(self.all) - failed} passed, {failed} failed")
+        print(f"{self.name}: {len(self.all) - failed - self.skipped} passed, {failed} failed")
         sys.exit(1 if failed else 0)

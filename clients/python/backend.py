@@ -4,7 +4,6 @@ import base64
 import hashlib
 import io
 import os
-import re
 import tarfile
 import zipfile
 
@@ -15,8 +14,10 @@ PROGRAMS = [f"{HERE}/../../bin/orpheus", f"{HERE}/../../dist/{READY}", f"{HERE}/
 
 
 def version():
-    with open(f"{HERE}/pyproject.toml", encoding="utf-8") as file:
-        return re.search(r'^version = "(.*)"$', file.read(), re.M)[1]
+    """Gives the version that the repository has in one place, and an archive of the sources in its copy."""
+    path = next(it for it in (f"{HERE}/../../VERSION", f"{HERE}/orpheus/VERSION") if os.path.isfile(it))
+    with open(path, encoding="ascii") as file:
+        return file.read().strip()
 
 
 def program():
@@ -43,6 +44,7 @@ def wheel_files(editable=False):
     else:
         for name in modules():
             yield f"orpheus/{name}", read(f"{HERE}/orpheus/{name}"), False
+        yield "orpheus/VERSION", f"{version()}\n".encode(), False
         if program():
             yield f"orpheus/{READY}", read(program()), True
     info = f"orpheus-{version()}.dist-info"
@@ -82,9 +84,10 @@ def build_sdist(sdist_directory, config_settings=None):
     with tarfile.open(os.path.join(sdist_directory, f"{top}.tar.gz"), "w:gz") as out:
         for name, path in files:
             out.add(path, f"{top}/{name}")
-        head = tarfile.TarInfo(f"{top}/PKG-INFO")
-        head.size = len(metadata().encode())
-        out.addfile(head, io.BytesIO(metadata().encode()))
+        for name, found in [("PKG-INFO", metadata().encode()), ("orpheus/VERSION", f"{version()}\n".encode())]:
+            head = tarfile.TarInfo(f"{top}/{name}")
+            head.size = len(found)
+            out.addfile(head, io.BytesIO(found))
     return f"{top}.tar.gz"
 
 

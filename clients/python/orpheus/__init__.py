@@ -26,10 +26,11 @@ from .faults import (
     UsageFault,
 )
 from .keeping import Verified, verify
+from .program import version
 from .replies import Advice, Generated, Layout, Listed, Made, Partition, Plan, Split, Staged, Steps, Version, Written
 from .store import Answer, Store
 from .values import Column, Rows, Scaled, Schema, guess
 from .words import Unsayable
 
-__version__ = "0.2.0"
+__version__ = version()
 __all__ = [name for name in dir() if name[0].isupper()] + ["guess", "verify"]

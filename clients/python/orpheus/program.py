@@ -19,6 +19,14 @@ FAULTS = {2: faults.UsageFault, 3: faults.StoreFault, 4: faults.InputFault, 5: f
 POLL = 0.02
 
 
+def version():
+    """Gives the version of the package, which the repository has in one place."""
+    for path in (f"{HERE}/VERSION", f"{HERE}/../../../VERSION"):
+        with contextlib.suppress(OSError), open(path, encoding="ascii") as file:
+            return file.read().strip()
+    return "unknown"
+
+
 # ---- where the program is
 
 
@@ -88,6 +96,8 @@ class Run:
         if status not in (0, 1):
             self.replies.append(text)
             raise self.fault()
+        if not text:
+            raise self.fault("the run gave no reply")
         if status == 1 and not self.replies_refused():
             raise refusal(text.rstrip("\n").rsplit("\n", 1)[-1], line)
         return text

@@ -157,16 +157,20 @@ class Faults(Case):
 
     def test_a_killed_commit(self):
         store = self.people()
-        slow = self.put("slow", f'#!/bin/sh\n"{store.program}" "$@" &\nsleep 0.01\nkill -9 $!\nkill -9 $$\n')
-        os.chmod(slow, 0o755)
-        killed = orpheus.Store(store.folder, program=slow)
         self.put("large.csv", HEADER + "".join(f"{at},x,1\n" for at in range(50_000)))
-        with self.assertRaises(orpheus.Killed):
-            killed.commit("people", self.at("large.csv"), 1, "killed")
-        again = orpheus.Store(store.folder, wait=10)
-        log = again.log("people")
-        self.assertIn([it.message for it in log], [["init", "raise"], ["init", "raise", "killed"]])
-        self.assertEqual([len(again.checkout("people", it.vid)) for it in log], [it.rows for it in log])
+        made = 0
+        for pause in (0.002, 0.01, 0.02, 0.04, 0.08):
+            # (a shell gives what it runs beside itself an empty input, unless it is said otherwise)
+            self.put("short", f'#!/bin/sh\nexec 3<&0\n"{store.program}" "$@" <&3 &\nsleep {pause}\nkill -9 $!\nwait $! 2>&-\nkill -9 $$\n')
+            os.chmod(self.at("short"), 0o755)
+            with self.assertRaises(orpheus.Killed):
+                orpheus.Store(store.folder, program=self.at("short")).commit("people", self.at("large.csv"), 1, "killed")
+            again = orpheus.Store(store.folder, wait=10)
+            log = again.log("people")
+            self.assertIn(len(log) - 2 - made, (0, 1))
+            made = len(log) - 2
+            self.assertEqual([it.message for it in log], ["init", "raise"] + ["killed"] * made)
+            self.assertEqual([len(again.checkout("people", it.vid)) for it in log], [it.rows for it in log])
 
 
 class Lock(Case):

@@ -7,7 +7,7 @@ import subprocess
 import sys
 import unittest
 
-from base import PACKAGE, TOP, Case
+from base import PACKAGE, TOP, Case, orpheus
 
 DOCUMENT = f"{TOP}/docs/python.md"
 RUNS = """import doctest, os, sys
@@ -39,6 +39,7 @@ class Install(Case):
         for name, copies in [("a.csv", ["people.csv", "a.csv"]), ("b.csv", ["newer.csv", "b.csv"])]:
             for copy in copies:
                 shutil.copy(f"{people}/{name}", self.at(copy))
+        shutil.copy(f"{TOP}/VERSION", self.at("VERSION"))
         shutil.copytree(PACKAGE, self.at("clients/python"), ignore=shutil.ignore_patterns("__pycache__", "tests"))
         self.environment = {key: value for key, value in os.environ.items() if key not in ("PYTHONPATH", "PIP_REQUIRE_VIRTUALENV")}
         self.environment.update(HOME=self.at("no home"), PIP_NO_CACHE_DIR="1", PIP_DISABLE_PIP_VERSION_CHECK="1", PIP_CONFIG_FILE=os.devnull)
@@ -64,6 +65,22 @@ class Install(Case):
     def test_the_pictures_are_those_of_the_example(self):
         done = subprocess.run([sys.executable, f"{TOP}/scripts/pictures"], env={**self.environment, "ORPHEUS_PROGRAM": self.program(), "PYTHONDONTWRITEBYTECODE": "1"}, stdout=subprocess.PIPE, stderr=subprocess.STDOUT, check=False)
         self.assertEqual((done.returncode, done.stdout.decode()), (0, ""))
+
+    def test_one_version(self):
+        version = self.read("VERSION").strip()
+        self.assertEqual(orpheus.__version__, version)
+        with open(f"{TOP}/CHANGELOG.md", encoding="utf-8") as file:
+            self.assertEqual(re.search(r"^## (.*)$", file.read(), re.M)[1], version)
+        with open(f"{TOP}/docs/orpheus.1", encoding="utf-8") as file:
+            self.assertIn(f'"orpheus {version}"', file.readline())
+
+    def test_the_manual_page(self):
+        if not shutil.which("groff"):
+            self.skipTest("there is no groff")
+        words = ["groff", "-man", "-ww", "-Tascii", f"{TOP}/docs/orpheus.1"]
+        done = subprocess.run(words, stdout=subprocess.PIPE, stderr=subprocess.PIPE, check=False)
+        self.assertEqual((done.returncode, done.stderr), (0, b""))
+        self.assertIn(b"EXIT STATUS", re.sub(b"\x1b\\[\\d*m|.\b", b"", done.stdout))
 
     def test_an_archive_of_the_sources(self):
         words = [sys.executable, "-c", "import backend; print(backend.build_sdist('.')); print(backend.build_wheel('.'))"]

@@ -1,5 +1,5 @@
 -- An image whose journal says the snapshot stands for the World after a checkpoint.
-use Rattle.std.proofs.Common.{◌≡◌, ◌<◌, ◌+◌, ◌-◌, ◌^◌, List, [], ◌∷◌, ◌++◌, length, map, sym, ◌∙◌, ap, subst, arith}
+use Rattle.std.proofs.Common.{◌≡◌, ◌<◌, ◌+◌, ◌-◌, ◌^◌, ℕ, List, [], ◌∷◌, ◌++◌, length, map, refl, sym, ◌∙◌, ap, subst, arith}
 use Rattle.std.specs.Prelude.{Some}
 use Rattle.std.proofs.lemmas.List.{length-map}
 use Rattle.ov_host.specs.declared.area.Extent.{Extent}
@@ -7,38 +7,38 @@ use Rattle.ov_host.specs.Disk.{Image}
 use Rattle.ov_event.specs.declared.event.Event.{Event}
 use Rattle.ov_event.specs.Spelling.{spelling}
 use Rattle.ov_journal.specs.Journal.{Kept}
-use Rattle.ov_model.specs.Moves.{Move, Checkpoint, moved}
+use Rattle.ov_model.specs.Moves.{Checkpoint, moved}
 use Rattle.ov_model.specs.World.{World, empty_world_of}
 use Rattle.ov_catalog.specs.Applying.{AllApply, AllFollow, AtStart, start_of}
 use Rattle.ov_catalog.specs.Events as says
 use Rattle.ov_catalog.specs.Extents.{AreApart, live}
 use Rattle.ov_catalog.specs.Numbers.{Numbers, each_set, nothing_yet}
 use Rattle.ov_catalog.specs.Raw.{event_in, numbers_in}
-use Rattle.ov_catalog.specs.Reached.{LeadsByAll, ReachedByAll}
+use Rattle.ov_catalog.specs.Reached.{ByMove, LeadsByAll, MayPassByAll, OldCheckpoint, Past, Reached, ReachedByAll, old_checkpoint, passed}
 use Rattle.ov_catalog.specs.Shown.{shown_set}
 use Rattle.ov_catalog.specs.Snapshots.{IsSnapshot, events_of}
 use Rattle.ov_catalog.specs.Stands.{Readings, asked, seen}
 use Rattle.ov_catalog.proofs.Following.{all_follow}
-use Rattle.ov_catalog.proofs.Good.{reached_more}
+use Rattle.ov_catalog.proofs.Good.{reached_more, reached_old}
 use Rattle.ov_catalog.proofs.Moving.{snapshot_numbers}
 use Rattle.ov_catalog.proofs.Standing.{seen_same}
 use Rattle.law_snapshots.proofs.Carrying.{all_whole}
 use Rattle.law_snapshots.proofs.Followed.{snapshot_applies, snapshot_follows}
 use Rattle.law_snapshots.proofs.Saying.{one_snapshot}
 use Rattle.law_snapshots.specs.Said.{snapshot_in}
-use Rattle.law_image.specs.Checkpoints.{IsCheckpointed, StandsByAll}
+use Rattle.law_image.specs.Checkpoints.{IsCheckpointed, IsOldCheckpointed, IsTurned, StandsByAll}
 use Rattle.law_image.specs.Images.{StandsBy}
 use Rattle.law_image.specs.Pages.{readings_of}
 use Rattle.law_image.proofs.Standing.{read_same}
 
 -- ---- the World after a checkpoint
 
-leads_on : (ms : List Move) (v w : World) → LeadsByAll v ms w → w.epoch < 2 ^ 32 - 1 → LeadsByAll v (ms ++ Checkpoint ∷ []) (moved Checkpoint w)
-leads_on [] v w same left = (subst (λ u. u.epoch < 2 ^ 32 - 1) (sym same) left, ap (moved Checkpoint) same)
-leads_on (m ∷ ms) v w leads left = (leads.0, leads_on ms (moved m v) w leads.1 left)
+leads_on : (ps : List Past) (p : Past) (v w : World) → LeadsByAll v ps w → MayPassByAll p w → LeadsByAll v (ps ++ p ∷ []) (passed p w)
+leads_on [] p v w same may = (subst (MayPassByAll p) (sym same) may, ap (passed p) same)
+leads_on (q ∷ ps) p v w leads may = (leads.0, leads_on ps p (passed q v) w leads.1 may)
 
-all_reached : (w : World) → ReachedByAll w → w.epoch < 2 ^ 32 - 1 → ReachedByAll (moved Checkpoint w)
-all_reached w reached left = (reached.0, reached.1, reached.2 ++ Checkpoint ∷ [], leads_on reached.2 (empty_world_of reached.0) w reached.3 left)
+all_reached : (p : Past) (w : World) → ReachedByAll w → MayPassByAll p w → ReachedByAll (passed p w)
+all_reached p w reached may = (reached.0, reached.1, reached.2 ++ p ∷ [], leads_on reached.2 p (empty_world_of reached.0) w reached.3 may)
 
 -- as many records as datasets, and one more
 counted : (w : World) (r : Readings) (snapshot : List Event) (n : Numbers Extent Extent) → IsSnapshot snapshot n → seen r n ≡ asked w → length snapshot ≡ length w.sets + 1
@@ -52,7 +52,8 @@ counted w r snapshot n is shows =
     in let all : length (map shown_set w.sets) ≡ length w.sets = length-map w.sets shown_set
     in omega (arith, events, said, wholes, sets, left, right, all)
 
-module _ (kept next : Kept) (events snapshot : List Event) (w : World) (old new : Image) (is : IsCheckpointed kept events next snapshot old new) where
+module _ (number : ℕ) (kept next : Kept) (events snapshot : List Event) (w v : World) (old new : Image) (is : IsTurned number kept events next snapshot old new)
+    (same : asked v ≡ asked w) (epoch_is : v.epoch ≡ w.epoch + 1) (format_is : v.format ≡ number) (records_are : v.records ≡ length w.sets + 1) where
   abbrev n : Numbers Extent Extent
   n = numbers_in events
 
@@ -72,42 +73,72 @@ module _ (kept next : Kept) (events snapshot : List Event) (w : World) (old new 
   apart are = subst (λ k. AreApart (live k) (readings_of new.pages).pages) (sym there) (record { once = are.once; inside = is.pages.there })
 
   -- by all events and moves
-  pub all_stand : StandsByAll kept events w old → kept.epoch < 2 ^ 32 - 1 → StandsByAll next snapshot (moved Checkpoint w) new
-  all_stand stands left =
-      let epoch = stands.epoch
-      in let follows : AllFollow (start_of 2) (snapshot_in n) nothing_yet = snapshot_follows 2 n (all_whole kept.format events stands.stands.follow)
+  all_turned : StandsByAll kept events w old → ReachedByAll v → StandsByAll next snapshot v new
+  all_turned stands reached =
+      let follows : AllFollow (start_of number) (snapshot_in n) nothing_yet = snapshot_follows number n (all_whole kept.format events stands.stands.follow)
       in record {
         journal = is.journal;
         spell = is.spell;
         stands = record {
-          reached = all_reached w stands.stands.reached (omega (arith, left, epoch));
+          reached = reached;
           follow = subst (λ format. AllFollow (start_of format) snapshot nothing_yet) (sym is.format)
-              (subst (λ es. AllFollow (start_of 2) es nothing_yet) (sym (one_snapshot snapshot n is.says)) follows);
+              (subst (λ es. AllFollow (start_of number) es nothing_yet) (sym (one_snapshot snapshot n is.says)) follows);
           shows = shown (readings_of new.pages)
-              (seen_same n (readings_of old.pages) (readings_of new.pages) (read_same (live n) old.pages new.pages stands.stands.apart.inside is.pages) ∙ stands.stands.shows);
+              (seen_same n (readings_of old.pages) (readings_of new.pages) (read_same (live n) old.pages new.pages stands.stands.apart.inside is.pages) ∙ stands.stands.shows)
+              ∙ sym same;
           apart = apart stands.stands.apart;
         };
-        epoch = ap (λ k. k + 1) stands.epoch ∙ sym is.epoch;
-        format = sym is.format;
-        records = long (readings_of old.pages) stands.stands.shows;
+        epoch = epoch_is ∙ (ap (λ k. k + 1) stands.epoch ∙ sym is.epoch);
+        format = format_is ∙ sym is.format;
+        records = records_are ∙ long (readings_of old.pages) stands.stands.shows;
       }
 
   -- by what is built
-  pub built_stands : StandsBy kept events w old → kept.epoch < 2 ^ 32 - 1 → StandsBy next snapshot (moved Checkpoint w) new
-  built_stands stands left =
-      let epoch = stands.epoch
-      in let follow : AllFollow (start_of 2) events nothing_yet = all_follow events (start_of 2) nothing_yet stands.stands.applies
+  built_turned : StandsBy kept events w old → Reached v → StandsBy next snapshot v new
+  built_turned stands reached =
+      let follow : AllFollow (start_of 2) events nothing_yet = all_follow events (start_of 2) nothing_yet stands.stands.applies
       in record {
         journal = is.journal;
         spell = is.spell;
         stands = record {
-          reached = reached_more Checkpoint w stands.stands.reached (omega (arith, left, epoch));
+          reached = reached;
           applies = subst (λ es. AllApply AtStart es nothing_yet) (sym (one_snapshot snapshot n is.says)) (snapshot_applies n (all_whole 2 events follow));
           shows = shown (readings_of new.pages)
-              (seen_same n (readings_of old.pages) (readings_of new.pages) (read_same (live n) old.pages new.pages stands.stands.apart.inside is.pages) ∙ stands.stands.shows);
+              (seen_same n (readings_of old.pages) (readings_of new.pages) (read_same (live n) old.pages new.pages stands.stands.apart.inside is.pages) ∙ stands.stands.shows)
+              ∙ sym same;
           apart = apart stands.stands.apart;
         };
-        epoch = ap (λ k. k + 1) stands.epoch ∙ sym is.epoch;
-        format = sym is.format;
-        records = long (readings_of old.pages) stands.stands.shows;
+        epoch = epoch_is ∙ (ap (λ k. k + 1) stands.epoch ∙ sym is.epoch);
+        format = format_is ∙ sym is.format;
+        records = records_are ∙ long (readings_of old.pages) stands.stands.shows;
       }
+
+module _ (kept next : Kept) (events snapshot : List Event) (w : World) (old new : Image) where
+  pub all_stand : IsCheckpointed kept events next snapshot old new → StandsByAll kept events w old → kept.epoch < 2 ^ 32 - 1
+      → StandsByAll next snapshot (moved Checkpoint w) new
+  all_stand is stands left =
+      let epoch = stands.epoch
+      in all_turned 2 kept next events snapshot w (moved Checkpoint w) old new is refl refl refl refl stands
+      (all_reached (ByMove Checkpoint) w stands.stands.reached (omega (arith, left, epoch)))
+
+  pub built_stands : IsCheckpointed kept events next snapshot old new → StandsBy kept events w old → kept.epoch < 2 ^ 32 - 1
+      → StandsBy next snapshot (moved Checkpoint w) new
+  built_stands is stands left =
+      let epoch = stands.epoch
+      in built_turned 2 kept next events snapshot w (moved Checkpoint w) old new is refl refl refl refl stands
+      (reached_more Checkpoint w stands.stands.reached (omega (arith, left, epoch)))
+
+  -- one that left format 1
+  pub old_all_stand : IsOldCheckpointed kept events next snapshot old new → StandsByAll kept events w old → kept.epoch < 2 ^ 32 - 1
+      → StandsByAll next snapshot (old_checkpoint w) new
+  old_all_stand is stands left =
+      let epoch = stands.epoch
+      in all_turned 1 kept next events snapshot w (old_checkpoint w) old new is.1 refl refl (stands.format ∙ is.0) refl stands
+      (all_reached OldCheckpoint w stands.stands.reached (stands.format ∙ is.0, omega (arith, left, epoch)))
+
+  pub old_built_stands : IsOldCheckpointed kept events next snapshot old new → StandsBy kept events w old → kept.epoch < 2 ^ 32 - 1
+      → StandsBy next snapshot (old_checkpoint w) new
+  old_built_stands is stands left =
+      let epoch = stands.epoch
+      in built_turned 1 kept next events snapshot w (old_checkpoint w) old new is.1 refl refl (stands.format ∙ is.0) refl stands
+      (reached_old w stands.stands.reached (stands.format ∙ is.0) (omega (arith, left, epoch)))

@@ -1,7 +1,8 @@
 -- What an image of the disk stands for where all events and all moves count, and what it is after a checkpoint.
 --     StandsByAll kept events w c      by this journal and the events that its payloads spell, the World
 --     IsCheckpointed kept events next snapshot old new      the image after a checkpoint
-use Rattle.std.specs.Prelude.{◌≡◌, ◌+◌, List, length}
+--     IsOldCheckpointed ..      the same after one that an earlier program took in a store of format 1, which left that number
+use Rattle.std.specs.Prelude.{◌≡◌, ◌+◌, ℕ, List, length}
 use Rattle.ov_host.specs.Disk.{Image}
 use Rattle.ov_event.specs.declared.event.Event.{Event}
 use Rattle.ov_journal.specs.Journal.{Kept, IsJournal}
@@ -21,12 +22,18 @@ pub record StandsByAll (kept : Kept) (events : List Event) (w : World) (c : Imag
   pub format : w.format ≡ kept.format
   pub records : w.records ≡ length kept.payloads
 
--- The journal is one of the next epoch and of format 2, whose payloads spell the Base and the Wholes of the numbers where the old
+-- The journal is one of the next epoch and of this format, whose payloads spell the Base and the Wholes of the numbers where the old
 -- events end; and the pages of the live extents have the same bytes.
-pub record IsCheckpointed (kept : Kept) (events : List Event) (next : Kept) (snapshot : List Event) (old new : Image) : Type 0 where
+pub record IsTurned (number : ℕ) (kept : Kept) (events : List Event) (next : Kept) (snapshot : List Event) (old new : Image) : Type 0 where
   pub journal : IsJournal next new.journal
   pub epoch : next.epoch ≡ kept.epoch + 1
-  pub format : next.format ≡ 2
+  pub format : next.format ≡ number
   pub spell : Spell snapshot next.payloads
   pub says : IsSnapshot snapshot (numbers_in events)
   pub pages : SameLive (live (numbers_in events)) old.pages new.pages
+
+abbrev pub IsCheckpointed : Kept → List Event → Kept → List Event → Image → Image → Type 0
+IsCheckpointed kept events next snapshot old new = IsTurned 2 kept events next snapshot old new
+
+abbrev pub IsOldCheckpointed : Kept → List Event → Kept → List Event → Image → Image → Type 0
+IsOldCheckpointed kept events next snapshot old new = (kept.format ≡ 1) × IsTurned 1 kept events next snapshot old new

@@ -3,7 +3,8 @@
 --     StandsAs w c      the World, by some journal; or the empty one, where no journal was made
 --
 -- The Worlds are those that `Reached` has: from the empty World of format 1 or 2, whose epoch is 1, by all moves but a Commit with
--- added columns. A checkpoint makes the epoch one more, and the format number 2.
+-- added columns. A checkpoint makes the epoch one more, and the format number 2; one that an earlier program took in a store of
+-- format 1 left that number.
 use Rattle.std.specs.Prelude.{◌≡◌, ◌⊎◌, ℕ, List, [], length, map}
 use Rattle.std.specs.List.{AllByRecursion}
 use Rattle.ov_host.specs.Disk.{Image}

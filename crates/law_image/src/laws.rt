@@ -22,7 +22,8 @@ ghost use Rattle.ov_model.specs.World.{World, empty_world};
 ghost use Rattle.ov_catalog.specs.Extents.{covers, live};
 ghost use Rattle.ov_catalog.specs.Raw.{numbers_in};
 ghost use Rattle.ov_catalog.specs.Stands.{IsMove};
-ghost use Rattle.law_image.specs.Checkpoints.{IsCheckpointed, StandsByAll};
+ghost use Rattle.ov_catalog.specs.Reached.{old_checkpoint};
+ghost use Rattle.law_image.specs.Checkpoints.{IsCheckpointed, IsOldCheckpointed, StandsByAll};
 ghost use Rattle.law_image.specs.Images.{SaysSame, Spell, StandsAs, StandsBy};
 ghost use Rattle.law_image.specs.Pages.{SameLive, pages_in, readings_of};
 ghost use Rattle.law_image.specs.Worked.{the_image, the_world};
@@ -75,12 +76,17 @@ pub fn one_more_payload()
 {}
 
 /// Where an image stands for a World, one whose journal is of the next epoch and of format 2 and says the snapshot, with the same
-/// bytes in the live extents, stands for the World after a checkpoint.
+/// bytes in the live extents, stands for the World after a checkpoint. So it is after a checkpoint that an earlier program took in a
+/// store of format 1, which left that number.
 pub fn a_checkpoint_stands()
     ensures built { (kept next : Kept) (events snapshot : List Event) (w : World) (old new : Image) → StandsBy kept events w old
         → IsCheckpointed kept events next snapshot old new → kept.epoch < 2 ^ 32 - 1 → StandsBy next snapshot (moved Checkpoint w) new }
     ensures all { (kept next : Kept) (events snapshot : List Event) (w : World) (old new : Image) → StandsByAll kept events w old
         → IsCheckpointed kept events next snapshot old new → kept.epoch < 2 ^ 32 - 1 → StandsByAll next snapshot (moved Checkpoint w) new }
+    ensures old_built { (kept next : Kept) (events snapshot : List Event) (w : World) (old new : Image) → StandsBy kept events w old
+        → IsOldCheckpointed kept events next snapshot old new → kept.epoch < 2 ^ 32 - 1 → StandsBy next snapshot (old_checkpoint w) new }
+    ensures old_all { (kept next : Kept) (events snapshot : List Event) (w : World) (old new : Image) → StandsByAll kept events w old
+        → IsOldCheckpointed kept events next snapshot old new → kept.epoch < 2 ^ 32 - 1 → StandsByAll next snapshot (old_checkpoint w) new }
 {}
 
 /// An unmade journal beside no page, and a new journal without a payload beside any pages, stand for the empty World.

@@ -12,8 +12,8 @@ use Rattle.law_partitions.specs.Sound.{AllNameVersions}
 use Rattle.law_partitions.proofs.PlanMoves.{moved_planned}
 use Rattle.law_partitions.proofs.SoundForms.{all_name, served_name}
 use Rattle.law_partitions.proofs.SoundMoves.{empty_sound}
-use Rattle.ov_catalog.specs.Reached.{Leads, Reached}
-use Rattle.ov_catalog.proofs.Good.{IsGood, fits_due, good, good_moved, partitions}
+use Rattle.ov_catalog.specs.Reached.{ByMove, Leads, MayPass, OldCheckpoint, Past, Reached, passed}
+use Rattle.ov_catalog.proofs.Good.{IsGood, fits_due, good, good_passed, partitions}
 use Rattle.law_image.specs.Images.{StandsAs}
 use Rattle.law_plans.specs.Runs.{HasPlans, IsRun}
 
@@ -21,10 +21,13 @@ pub empty_plans : HasPlans empty_world
 empty_plans = record { sound = empty_sound; old_or_new = tt; planned = tt }
 
 -- plans are kept by the moves that fit
-planned_leads : (ms : List Move) (v w : World) → Leads v ms w → IsGood v → ArePlanned v.sets → ArePlanned w.sets
+planned_passed : (p : Past) (w : World) → MayPass p w → IsGood w → ArePlanned w.sets → ArePlanned (passed p w).sets
+planned_passed (ByMove m) w may is are = moved_planned m w (fits_due m w may is) (partitions w is.sound) is.old are
+planned_passed OldCheckpoint w may is are = are
+
+planned_leads : (ps : List Past) (v w : World) → Leads v ps w → IsGood v → ArePlanned v.sets → ArePlanned w.sets
 planned_leads [] v w leads is are = subst (λ x. ArePlanned x.sets) leads are
-planned_leads (m ∷ ms) v w leads is are =
-    planned_leads ms (moved m v) w leads.1 (good_moved m v leads.0 is) (moved_planned m v (fits_due m v leads.0 is) (partitions v is.sound) is.old are)
+planned_leads (p ∷ ps) v w leads is are = planned_leads ps (passed p v) w leads.1 (good_passed p v leads.0 is) (planned_passed p v leads.0 is are)
 
 reached_plans : (w : World) → Reached w → HasPlans w
 reached_plans w reached =

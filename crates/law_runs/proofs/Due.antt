@@ -16,7 +16,7 @@ use Rattle.ov_model.specs.World.{AllBegun, World, empty_world_of}
 use Rattle.ov_model.specs.declared.reply.Reply.{Reply}
 use Rattle.ov_model.proofs.Courses.{play_append}
 use Rattle.ov_model.proofs.Replying.{begun_moved, says_some}
-use Rattle.ov_catalog.specs.Reached.{Leads, Reached}
+use Rattle.ov_catalog.specs.Reached.{ByMove, Leads, OldCheckpoint, Past, Reached, passed}
 use Rattle.ov_core.specs.AtWorld.{IsAtWorld}
 use Rattle.ov_core.specs.Held.{Held}
 use Rattle.law_image.specs.Images.{StandsAs}
@@ -165,9 +165,13 @@ is_due w printed items c some found =
 
 -- ---- a run from a World that moves lead to
 
-begun_leads : (ms : List Move) (v w : World) → Leads v ms w → AllBegun v.sets → AllBegun w.sets
+begun_passed : (p : Past) (w : World) → AllBegun w.sets → AllBegun (passed p w).sets
+begun_passed (ByMove m) w begun = begun_moved w m begun
+begun_passed OldCheckpoint w begun = begun
+
+begun_leads : (ps : List Past) (v w : World) → Leads v ps w → AllBegun v.sets → AllBegun w.sets
 begun_leads [] v w same begun = subst (λ (u : World). AllBegun u.sets) same begun
-begun_leads (m ∷ ms) v w leads begun = begun_leads ms (moved m v) w leads.1 (begun_moved v m begun)
+begun_leads (p ∷ ps) v w leads begun = begun_leads ps (passed p v) w leads.1 (begun_passed p v begun)
 
 -- each dataset of such a World has a version
 pub begun : (w : World) → Reached w → AllBegun w.sets

@@ -7,8 +7,8 @@ use Rattle.ov_model.specs.Moves.{Move, moved}
 use Rattle.ov_model.specs.Plans.{missing_of, missing, current}
 use Rattle.ov_model.specs.World.{Plan, Dataset, World, empty_world_of}
 use Rattle.law_partitions.specs.Pieces.{HasPieces, ArePieces, IsUnderWay, PlanIsUnderWay}
-use Rattle.ov_catalog.specs.Reached.{Suits, Leads, Reached}
-use Rattle.ov_catalog.proofs.Good.{IsGood, good, good_moved}
+use Rattle.ov_catalog.specs.Reached.{ByMove, Leads, MayPass, OldCheckpoint, Past, Reached, Suits, passed}
+use Rattle.ov_catalog.proofs.Good.{IsGood, good, good_passed}
 use Rattle.law_steps.proofs.Lacking.{drop_front}
 use Rattle.law_steps.proofs.Taking.{IsTaken, PlanIsTaken, AreTaken, goes_on, moved_taken}
 
@@ -16,11 +16,13 @@ built_of : (t : Bool) (P : Type 0) → IfBuilt t P → t ≡ true
 built_of true P is = refl
 built_of false P is = absurd is
 
-leads_taken : (ms : List Move) (v w : World) → Leads v ms w → IsGood v → AreTaken v.sets → AreTaken w.sets
+passed_taken : (p : Past) (w : World) → MayPass p w → IsGood w → AreTaken w.sets → AreTaken (passed p w).sets
+passed_taken (ByMove m) w may is taken = moved_taken m w (built_of (is_built m) (Suits m w) may) is.sound.placed is.sound.pieces taken
+passed_taken OldCheckpoint w may is taken = taken
+
+leads_taken : (ps : List Past) (v w : World) → Leads v ps w → IsGood v → AreTaken v.sets → AreTaken w.sets
 leads_taken [] v w leads is taken = subst (λ x. AreTaken x.sets) leads taken
-leads_taken (m ∷ ms) v w leads is taken =
-    leads_taken ms (moved m v) w leads.1 (good_moved m v leads.0 is)
-    (moved_taken m v (built_of (is_built m) (Suits m v) leads.0) is.sound.placed is.sound.pieces taken)
+leads_taken (p ∷ ps) v w leads is taken = leads_taken ps (passed p v) w leads.1 (good_passed p v leads.0 is) (passed_taken p v leads.0 is taken)
 
 all_taken : (w : World) → Reached w → AreTaken w.sets
 all_taken w reached =

@@ -15,7 +15,7 @@ use Rattle.ov_catalog.specs.Events.{applied, replayed}
 use Rattle.ov_catalog.specs.declared.field.Field.{Field}
 use Rattle.ov_catalog.specs.Numbers.{Numbers, nothing_yet}
 use Rattle.ov_catalog.specs.Raw.{event_in, whole_in}
-use Rattle.ov_catalog.specs.Reached.{Fits, Leads, LeadsByAll, Reached, ReachedByAll, Suits}
+use Rattle.ov_catalog.specs.Reached.{ByMove, Fits, Leads, LeadsByAll, MayPass, MayPassByAll, OldCheckpoint, Past, Reached, ReachedByAll, Suits, passed}
 use Rattle.ov_catalog.specs.Stands.{Readings, StandsFor, StandsForAll}
 use Rattle.ov_catalog.specs.Wholes.{whole_off}
 
@@ -111,9 +111,13 @@ built_holds false P holds = absurd holds
 pub fits_suits : (m : Move) (w : World) → Fits m w → Suits m w
 fits_suits m w fits = built_holds (is_built m) (Suits m w) fits
 
-leads_by_all : (ms : List Move) (v w : World) → Leads v ms w → LeadsByAll v ms w
+pass_by_all : (p : Past) (w : World) → MayPass p w → MayPassByAll p w
+pass_by_all (ByMove m) w may = fits_suits m w may
+pass_by_all OldCheckpoint w may = may
+
+leads_by_all : (ps : List Past) (v w : World) → Leads v ps w → LeadsByAll v ps w
 leads_by_all [] v w leads = leads
-leads_by_all (m ∷ ms) v w leads = (fits_suits m v leads.0, leads_by_all ms (moved m v) w leads.1)
+leads_by_all (p ∷ ps) v w leads = (pass_by_all p v leads.0, leads_by_all ps (passed p v) w leads.1)
 
 pub reached_by_all : (w : World) → Reached w → ReachedByAll w
 reached_by_all w reached = (reached.0, reached.1, reached.2, leads_by_all reached.2 (empty_world_of reached.0) w reached.3)

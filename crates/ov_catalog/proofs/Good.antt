@@ -24,7 +24,7 @@ use Rattle.law_partitions.specs.Sources.{PlanIsSourced, AreSourced}
 use Rattle.law_partitions.proofs.OldMoves.{moved_old}
 use Rattle.law_partitions.proofs.SoundMoves.{empty_sound, moved_sound}
 use Rattle.law_partitions.proofs.SourceMoves.{moved_sourced}
-use Rattle.ov_catalog.specs.Reached.{Fits, IfThere, IfRunning, CommitFits, PlanFits, MissesSome, MissesNone, Leads, Reached}
+use Rattle.ov_catalog.specs.Reached.{ByMove, Fits, IfThere, IfRunning, CommitFits, MayPass, OldCheckpoint, Past, PlanFits, MissesSome, MissesNone, Leads, Reached, old_checkpoint, passed}
 use Rattle.ov_catalog.specs.Told.{IsRowed, AreRowed, IsTold, BringsTo, AllBringTo, BringsRows}
 use Rattle.ov_catalog.proofs.Ranking.{order_known}
 use Rattle.ov_catalog.proofs.Showing.{PiecesAreIn}
@@ -288,9 +288,25 @@ good_moved m w fits is =
     in good_of (moved m w) (moved_rowed m w (fits_brings m w fits is) is.rowed) (moved_sound m w due.may is.sound)
     (moved_old m w due (partitions w is.sound) is.old) (moved_sourced m w due is.sound is.old is.sourced)
 
-good_leads : (ms : List Move) (v w : World) → Leads v ms w → IsGood v → IsGood w
+-- a checkpoint that leaves the format changes no dataset and no number of one
+old_sound : (w : World) → IsSound w → IsSound (old_checkpoint w)
+old_sound w sound = record {
+  numbered = record { once = sound.numbered.once; below = sound.numbered.below };
+  begun = sound.begun;
+  run = sound.run;
+  placed = sound.placed;
+  held = sound.held;
+  pieces = sound.pieces;
+  ordered = sound.ordered;
+}
+
+pub good_passed : (p : Past) (w : World) → MayPass p w → IsGood w → IsGood (passed p w)
+good_passed (ByMove m) w may is = good_moved m w may is
+good_passed OldCheckpoint w may is = good_of (old_checkpoint w) is.rowed (old_sound w is.sound) is.old is.sourced
+
+good_leads : (ps : List Past) (v w : World) → Leads v ps w → IsGood v → IsGood w
 good_leads [] v w leads is = subst IsGood leads is
-good_leads (m ∷ ms) v w leads is = good_leads ms (moved m v) w leads.1 (good_moved m v leads.0 is)
+good_leads (p ∷ ps) v w leads is = good_leads ps (passed p v) w leads.1 (good_passed p v leads.0 is)
 
 -- the empty World of either format
 begun_sound : (format : ℕ) → IsSound (empty_world_of format)
@@ -308,10 +324,19 @@ pub good : (w : World) → Reached w → IsGood w
 good w reached = good_leads reached.2 (empty_world_of reached.0) w reached.3 (good_of (empty_world_of reached.0) tt (begun_sound reached.0) tt tt)
 
 -- one move more
-leads_more : (ms : List Move) (m : Move) (v w : World) → Leads v ms w → Fits m w → Leads v (ms ++ m ∷ []) (moved m w)
+leads_more : (ps : List Past) (m : Move) (v w : World) → Leads v ps w → Fits m w → Leads v (ps ++ ByMove m ∷ []) (moved m w)
 leads_more [] m v w leads fits = (subst (Fits m) (sym leads) fits, ap (moved m) leads)
-leads_more (k ∷ ms) m v w leads fits = (leads.0, leads_more ms m (moved k v) w leads.1 fits)
+leads_more (p ∷ ps) m v w leads fits = (leads.0, leads_more ps m (passed p v) w leads.1 fits)
 
 pub reached_more : (m : Move) (w : World) → Reached w → Fits m w → Reached (moved m w)
 reached_more m w reached fits =
-    (reached.0, reached.1, reached.2 ++ m ∷ [], leads_more reached.2 m (empty_world_of reached.0) w reached.3 fits)
+    (reached.0, reached.1, reached.2 ++ ByMove m ∷ [], leads_more reached.2 m (empty_world_of reached.0) w reached.3 fits)
+
+-- one checkpoint more that leaves format 1
+leads_old : (ps : List Past) (v w : World) → Leads v ps w → MayPass OldCheckpoint w → Leads v (ps ++ OldCheckpoint ∷ []) (old_checkpoint w)
+leads_old [] v w leads may = (subst (MayPass OldCheckpoint) (sym leads) may, ap old_checkpoint leads)
+leads_old (p ∷ ps) v w leads may = (leads.0, leads_old ps (passed p v) w leads.1 may)
+
+pub reached_old : (w : World) → Reached w → w.format ≡ 1 → w.epoch < 2 ^ 32 - 1 → Reached (old_checkpoint w)
+reached_old w reached old left =
+    (reached.0, reached.1, reached.2 ++ OldCheckpoint ∷ [], leads_old reached.2 (empty_world_of reached.0) w reached.3 (old, left))

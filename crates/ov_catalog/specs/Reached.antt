@@ -1,9 +1,10 @@
 -- Which moves fit a World, and which Worlds moves reach.
 --     Suits m w      what a command asks before it makes the move
 --     Fits m w      the same, of the moves that are built so far: all but those that add columns
+--     Past, passed      what brought a store to where it is: a move, or a checkpoint that left format 1 as it was
 --     Reached w      such moves lead from the empty World of one of the formats to it; a plan of a dataset may run there
 --     ReachedByAll w      the same with all moves
-use Rattle.std.specs.Prelude.{◌≡◌, ◌≢◌, ◌⊎◌, ◌<◌, ◌≤◌, ◌^◌, ◌-◌, ℕ, IsTrue, IsUtf8, is_ok, List, [], ◌∷◌, ◌++◌, length, Option, Some, None}
+use Rattle.std.specs.Prelude.{◌≡◌, ◌≢◌, ◌⊎◌, ◌<◌, ◌≤◌, ◌+◌, ◌^◌, ◌-◌, ℕ, IsTrue, IsUtf8, is_ok, List, [], ◌∷◌, ◌++◌, length, Option, Some, None}
 use Rattle.std.specs.List.{All}
 use Rattle.ov_value.specs.declared.column.Column.{Column}
 use Rattle.ov_value.specs.Making.{widened}
@@ -100,23 +101,44 @@ Suits Checkpoint w = w.epoch < 2 ^ 32 - 1
 abbrev pub Fits : Move → World → Type 0
 Fits m w = IfBuilt (is_built m) (Suits m w)
 
--- from the World v, by moves that fit one after another
-abbrev pub Leads : World → List Move → World → Type 0
+-- What happened to a store: a move of this program; or a checkpoint of one that knew no other format than 1, which left the store's
+-- format number.
+pub data Past : Type 0 where
+  ByMove : (move : Move) → Past
+  OldCheckpoint : Past
+
+abbrev pub old_checkpoint : World → World
+old_checkpoint w = record w { epoch = w.epoch + 1; records = length w.sets + 1 }
+
+abbrev pub passed : Past → World → World
+passed (ByMove m) w = moved m w
+passed OldCheckpoint w = old_checkpoint w
+
+abbrev pub MayPass : Past → World → Type 0
+MayPass (ByMove m) w = Fits m w
+MayPass OldCheckpoint w = (w.format ≡ 1) × (w.epoch < 2 ^ 32 - 1)
+
+-- from the World v, by what may happen, one after another
+abbrev pub Leads : World → List Past → World → Type 0
 Leads v [] w = v ≡ w
-Leads v (m ∷ ms) w = Fits m v × Leads (moved m v) ms w
+Leads v (p ∷ ps) w = MayPass p v × Leads (passed p v) ps w
 
 -- a known format number
 abbrev pub IsFormat : ℕ → Type 0
 IsFormat format = (format ≡ 1) ⊎ (format ≡ 2)
 
 abbrev pub Reached : World → Type 0
-Reached w = (format : ℕ) × IsFormat format × (ms : List Move) × Leads (empty_world_of format) ms w
+Reached w = (format : ℕ) × IsFormat format × (ps : List Past) × Leads (empty_world_of format) ps w
 
 -- ---- with all moves
 
-abbrev pub LeadsByAll : World → List Move → World → Type 0
+abbrev pub MayPassByAll : Past → World → Type 0
+MayPassByAll (ByMove m) w = Suits m w
+MayPassByAll OldCheckpoint w = (w.format ≡ 1) × (w.epoch < 2 ^ 32 - 1)
+
+abbrev pub LeadsByAll : World → List Past → World → Type 0
 LeadsByAll v [] w = v ≡ w
-LeadsByAll v (m ∷ ms) w = Suits m v × LeadsByAll (moved m v) ms w
+LeadsByAll v (p ∷ ps) w = MayPassByAll p v × LeadsByAll (passed p v) ps w
 
 abbrev pub ReachedByAll : World → Type 0
-ReachedByAll w = (format : ℕ) × IsFormat format × (ms : List Move) × LeadsByAll (empty_world_of format) ms w
+ReachedByAll w = (format : ℕ) × IsFormat format × (ps : List Past) × LeadsByAll (empty_world_of format) ps w
