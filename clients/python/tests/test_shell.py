@@ -164,15 +164,20 @@ class Pictures(Case):
         if browser is None or "firefox" in browser:
             self.skipTest("there is no headless browser")
         self.drawn().history("people").save(self.at("h.svg"))
-        words = ["--headless", "--no-sandbox", "--disable-gpu", f"--user-data-dir={self.at('profile')}", f"--screenshot={self.at('h.png')}", "--window-size=600,300", f"file://{self.at('h.svg')}"]
+        self.put("none.svg", '<svg xmlns="http://www.w3.org/2000/svg" width="400" height="200"/>')
+        # A picture of one colour is packed into fewer bytes.
+        self.assertGreater(self.taken(browser, "h"), 2 * self.taken(browser, "none"))
+
+    def taken(self, browser, name):
+        """Gives the size of a browser's picture of a page."""
+        words = ["--headless", "--no-sandbox", "--disable-gpu", f"--user-data-dir={self.at('profile')}", f"--screenshot={self.at(name)}.png", "--window-size=600,300"]
         try:
-            subprocess.run([browser, *words], stdout=subprocess.DEVNULL, stderr=subprocess.DEVNULL, timeout=60, check=False, env={**os.environ, "HOME": self.room})
+            subprocess.run([browser, *words, f"file://{self.at(name)}.svg"], stdout=subprocess.DEVNULL, stderr=subprocess.DEVNULL, timeout=60, check=False, env={**os.environ, "HOME": self.room})
         except subprocess.TimeoutExpired:
             self.skipTest("the browser doesn't end")
-        if not os.path.exists(self.at("h.png")):
+        if not os.path.exists(self.at(f"{name}.png")):
             self.skipTest("the browser makes no picture here")
-        # A picture of one colour is packed into a few bytes.
-        self.assertGreater(os.path.getsize(self.at("h.png")), 3000)
+        return os.path.getsize(self.at(f"{name}.png"))
 
 
 if __name__ == "__main__":
