@@ -25,7 +25,7 @@ use Rattle.ov_journal.specs.Journal.{IsFront, IsJournal}
 use Rattle.ov_model.specs.Book.{Row}
 use Rattle.ov_model.specs.World.{empty_world}
 use Rattle.ov_catalog.specs.Extents.{covers, has_page}
-use Rattle.ov_catalog.specs.Reached.{AreRows, Fits}
+use Rattle.ov_catalog.specs.Reached.{AreRows, ByMove, Fits}
 use Rattle.ov_catalog.specs.Stands.{StandsFor}
 use Rattle.law_image.proofs.Readers.{both_true}
 use Rattle.law_image.specs.Pages.{pages_in, readings_of}
@@ -158,7 +158,7 @@ inside (suc (suc page)) some = absurd (omega (arith, some, none_past (suc (suc p
 stands_for : StandsFor (the_event ∷ []) (readings_of the_pages) the_world
 unfolding is_name is_vid is_column_name row_spelling column_refusal name_refusal key_refusal run
 stands_for = record {
-  reached = (2, inr refl, the_move ∷ [], (move_fits, refl));
+  reached = (2, inr refl, ByMove the_move ∷ [], (move_fits, refl));
   applies = (refl, tt);
   shows = refl;
   apart = record { once = once; inside = λ page some. subst (λ (n : ℕ). page < n) (sym pages_are) (inside page some) };

@@ -1,7 +1,7 @@
 -- What holds of each World that moves reach: its datasets' numbers differ and are given out in order, the pieces of partitions
 -- and of plans have known records alone, rows are rows of their schema, and all that the laws of partitions say holds, of the
 -- sources of a plan's targets too. And what is asked of a move so that it stays so, which each move that fits has.
-use Rattle.std.proofs.Common.{◌≡◌, ◌<◌, ◌≤◌, ℕ, Bool, true, false, ◌==◌, List, [], ◌∷◌, ◌++◌, length, refl, sym, ap, subst, inl, inr, arith}
+use Rattle.std.proofs.Common.{◌≡◌, ◌<◌, ◌≤◌, ◌^◌, ◌-◌, ℕ, Bool, true, false, ◌==◌, List, [], ◌∷◌, ◌++◌, length, refl, sym, ap, subst, inl, inr, arith}
 use Rattle.std.specs.Prelude.{◌≢◌, nat_lt, if◌then◌else◌, Option, Some, None, unwrap_or}
 use Rattle.std.proofs.lemmas.Bool.{cases_Bool, eqb-true, eq-eqb, ltb-true, ltb-false}
 use Rattle.ov_value.specs.Rows.{key_cmp}

@@ -115,7 +115,7 @@ returns-in-Ls-clause-acts g c = λ w built told at.
 pub returns-in-Init-clause-fetched : goal.returns-in-Init-clause-fetched
 returns-in-Init-clause-fetched g c =
     subst (λ (command : Command). IsFetched c.args.user.now command c.args.store.now.held c.init.new.store.held (IsErrOf c.init.result ending.Host) (g.H.Host.state c.args.host.now) (g.H.Host.state c.init.new.host)) (sym c.in-Init.is)
-    (fetched_still (g.H.Host.state c.args.host.now) (g.H.Host.state c.init.new.host) 0 c.init.ensures.fetched)
+    (fetched_still (g.H.Host.state c.args.host.now) (g.H.Host.state c.init.new.host) _ c.init.ensures.fetched)
 
 pub returns-in-Init-clause-unread : goal.returns-in-Init-clause-unread
 returns-in-Init-clause-unread g c = λ is. c.init.ensures.fetched
@@ -123,7 +123,7 @@ returns-in-Init-clause-unread g c = λ is. c.init.ensures.fetched
 pub returns-in-DropCvd-clause-fetched : goal.returns-in-DropCvd-clause-fetched
 returns-in-DropCvd-clause-fetched g c =
     subst (λ (command : Command). IsFetched c.args.user.now command c.args.store.now.held c.drop_cvd.new.store.held (IsErrOf c.drop_cvd.result ending.Host) (g.H.Host.state c.args.host.now) (g.H.Host.state c.drop_cvd.new.host)) (sym c.in-DropCvd.is)
-    (fetched_still (g.H.Host.state c.args.host.now) (g.H.Host.state c.drop_cvd.new.host) 0 c.drop_cvd.ensures.fetched)
+    (fetched_still (g.H.Host.state c.args.host.now) (g.H.Host.state c.drop_cvd.new.host) _ c.drop_cvd.ensures.fetched)
 
 pub returns-in-DropCvd-clause-unread : goal.returns-in-DropCvd-clause-unread
 returns-in-DropCvd-clause-unread g c = λ is. c.drop_cvd.ensures.fetched
