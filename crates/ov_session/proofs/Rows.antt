@@ -1,11 +1,10 @@
 -- What the rows of the commands say, as the calls that serve them do.
-use Rattle.std.proofs.Common.{◌≡◌, ◌∙◌, ◌⊎◌, inl, inr, ◌≤◌, ◌+◌, ℕ, Bool, true, false, List, [], ◌∷◌, ◌++◌, refl, sym, ap, subst, arith}
-use Rattle.std.specs.Prelude.{IfErr, OnOk, ◌||◌, ◌==◌, nat_le, nat_lt, not, is_some, if◌then◌else◌, length, Option, Some, None, Result, Ok, Err}
-use Rattle.std.specs.Option.{option_map, option_or}
+use Rattle.std.proofs.Common.{◌≡◌, ◌∙◌, ◌≤◌, ◌+◌, ℕ, Bool, true, false, List, [], ◌∷◌, ◌++◌, refl, sym, ap, subst, arith}
+use Rattle.std.specs.Prelude.{IfErr, OnOk, ◌||◌, ◌==◌, nat_lt, not, is_some, if◌then◌else◌, length, Option, Some, None, Result, Ok, Err}
+use Rattle.std.specs.Option.{option_or}
 use Rattle.ov_host.specs.declared.area.Extent.{Extent}
 use Rattle.ov_host.specs.Host.{State}
 use Rattle.ov_host.specs.Stage.{Staged}
-use Rattle.ov_value.specs.declared.column.Column.{Column}
 use Rattle.ov_catalog.specs.Numbers.{Numbers}
 use Rattle.ov_core.specs.Held.{Held}
 use Rattle.ov_model.specs.Act.{is_threshold}
@@ -21,22 +20,21 @@ use Rattle.ov_model.specs.declared.query.Src.{Src}
 use Rattle.ov_model.specs.declared.query.Src.TheVariants as source
 use Rattle.ov_model.specs.declared.refusal.Refusal.{Refusal}
 use Rattle.ov_model.specs.declared.refusal.Refusal.TheVariants as no
-use Rattle.ov_query.specs.Queries.{IsDamagedRead, IsQueryDamaged, asked_off, asked_set, asked_vids, bytes_read, query_fetch, query_off, set_off, taken, vids_read}
+use Rattle.ov_query.specs.Queries.{IsDamagedRead, IsQueryDamaged, asked_off, asked_set, asked_vids, bytes_read, query_fetch, query_off, taken, vids_read}
 use Rattle.ov_session.proofs.Bounds.{fetched_allowed}
 use Rattle.ov_session.specs.Bounds.{bytes_in, bytes_of_all, command_fetch, if_allowed, is_command_off}
 use Rattle.ov_session.specs.Commands.{AreBad, IsCommitDamaged, IsDamaged, IsPlanDamaged, IsScanDamaged, MeetsDamage}
 use Rattle.ov_model.specs.declared.reply.Reply.{Reply}
 use Rattle.ov_session.specs.Commands.{IsDamageOf}
-use Rattle.ov_session.specs.Errors.{plan_refusal}
 use Rattle.ov_session.specs.Standing.{IsIdle, IsIdleBy}
 use Rattle.ov_session.specs.declared.errors.EndErr.{EndErr}
 use Rattle.ov_session.specs.declared.errors.EndErr.TheVariants as ending
 use Rattle.ov_store.specs.Kept.{Kept}
 use Rattle.ov_session.specs.Reads.{columns_off, commit_row_off, plan_refused, run_off, run_sources, vids_asked}
-use Rattle.ov_store.specs.Committing.{IfSet, Set, commit_off, parents_off, parents_off_in, to_off}
+use Rattle.ov_store.specs.Committing.{Set, parents_off, parents_off_in, to_off}
 use Rattle.ov_store.specs.Planning.{optimize_off, plan_off}
 use Rattle.ov_store.specs.Planning as planning
-use Rattle.ov_store.specs.Refusals.{new_off, off_if, refusal_of, refused, vids_off}
+use Rattle.ov_store.specs.Refusals.{refusal_of, refused, vids_off}
 use Rattle.ov_store.specs.Scanning.{IsDamagedIn, scan_off, set_in, versions_off}
 use Rattle.ov_store.specs.declared.errors.StoreErr.{StoreErr}
 use Rattle.ov_store.specs.declared.errors.StoreErr.TheVariants as why

@@ -12,7 +12,6 @@ use Rattle.ov_model.specs.Replies.{reply_text}
 use Rattle.ov_model.specs.Line.{Line, Comment, Asks, Refused}
 use Rattle.ov_model.specs.World.{World}
 use Rattle.ov_model.specs.declared.command.Command.{Command}
-use Rattle.ov_model.specs.declared.command.Command.TheVariants as asks
 use Rattle.ov_model.specs.declared.reply.Reply.{Reply}
 use Rattle.ov_session.proofs.Calls.{stays_still}
 use Rattle.ov_session.proofs.Saying.{Says}

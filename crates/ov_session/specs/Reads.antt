@@ -3,7 +3,7 @@
 --     Reads      a row: what the numbers refuse, what is read, what is changed, and what is done with the stage's files
 --     reads_of n user command      the row of a command; who may ask it is decided before, but for a `run`
 --     fetch row      how many bytes of pages it may fetch; nothing where the numbers refuse it
-use Rattle.std.specs.Prelude.{ℕ, ◌+◌, ◌*◌, Bool, true, false, not, nat_lt, nat_le, if◌then◌else◌, List, [], ◌∷◌, ◌++◌, length, map, Option, Some, None, Result, Ok, Err, is_some}
+use Rattle.std.specs.Prelude.{ℕ, ◌+◌, Bool, false, not, nat_lt, if◌then◌else◌, List, [], ◌∷◌, ◌++◌, length, map, Option, Some, None, Result, Ok, Err, is_some}
 use Rattle.std.specs.Option.{option_or, option_map, option_and_then}
 use Rattle.ov_host.specs.declared.area.Extent.{Extent}
 use Rattle.ov_value.specs.declared.column.Column.{Column}
@@ -12,7 +12,7 @@ use Rattle.ov_value.specs.declared.value.Value.{Value}
 use Rattle.ov_value.specs.Naming.{is_name}
 use Rattle.ov_value.specs.Rows.{value_at}
 use Rattle.ov_value.specs.Shapes.{Shape}
-use Rattle.ov_catalog.specs.Numbers.{Numbers, SetNumbers, nothing_yet}
+use Rattle.ov_catalog.specs.Numbers.{Numbers, nothing_yet}
 use Rattle.ov_model.specs.Act.{columns_of, if_so, is_threshold, schema_with}
 use Rattle.ov_model.specs.Asking.{name_read}
 use Rattle.ov_model.specs.Book.{Row}
@@ -25,8 +25,6 @@ use Rattle.ov_model.specs.Registry.{as_text, both, is_number, is_same_schema, st
 use Rattle.ov_model.specs.Users.{is_reserved, permit_names}
 use Rattle.ov_model.specs.declared.command.Command.{Command}
 use Rattle.ov_model.specs.declared.command.Command.TheVariants as asks
-use Rattle.ov_model.specs.declared.query.JoinQuery.{JoinQuery}
-use Rattle.ov_model.specs.declared.query.Query.{Query}
 use Rattle.ov_model.specs.declared.query.Src.{Src}
 use Rattle.ov_model.specs.declared.query.Src.TheVariants as source
 use Rattle.ov_model.specs.declared.refusal.Refusal.{Refusal}

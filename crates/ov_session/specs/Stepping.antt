@@ -9,7 +9,7 @@
 --     IsOver left v held lacks      why no more come: all were taken, no plan runs, or there may be no room for the next
 --     IsRan n w result ..      of up to n steps so many were taken, and why no more; or the run ends in one
 --     migrated ran left      what a `migrate` tells of them
-use Rattle.std.specs.Prelude.{◌≡◌, ◌⊎◌, ◌≤◌, ◌+◌, ℕ, suc, Bool, true, false, not, List, Option, None, Some, Result, Ok, Err, is_some}
+use Rattle.std.specs.Prelude.{◌≡◌, ◌⊎◌, ◌≤◌, ◌+◌, ℕ, suc, Bool, true, false, List, Option, None, Some, Result, Ok, Err}
 use Rattle.ov_host.specs.declared.area.Extent.{Extent}
 use Rattle.ov_host.specs.Host.{State}
 use Rattle.ov_host.specs.Stops.{Only}

@@ -15,7 +15,7 @@ use Rattle.ov_session.proofs.Replying.{seen_missed}
 use Rattle.ov_session.proofs.Migrating.{fetched_same, none_to_take}
 use Rattle.ov_session.proofs.Plans.{refused_none}
 use Rattle.ov_session.proofs.Standing.{at_looked, at_still, idle_spared, idle_stored, idle_unstaged, on_any, result_unmoved}
-use Rattle.ov_session.specs.Bounds.{IsFetched, IsReadingCommand, bytes_in, if_allowed, is_command_off}
+use Rattle.ov_session.specs.Bounds.{IsFetched, IsReadingCommand, bytes_in, is_command_off}
 use Rattle.ov_session.specs.Standing.{IsIdleBy}
 use Rattle.ov_session.specs.Stepping.{begins_plan}
 use Rattle.ov_store.specs.Kept.{Kept}
@@ -30,7 +30,7 @@ use Rattle.ov_session.specs.Commands.{IsScanDamaged, MeetsDamage}
 use Rattle.ov_model.specs.BuiltShapes.{if_built}
 use Rattle.ov_query.specs.Queries.{query_off}
 use Rattle.ov_session.proofs.Querying.{query_acts, query_other}
-use Rattle.ov_session.proofs.Rows.{checkout_damaged, checkout_idle, checkout_met, commit_damaged, commit_fetched, commit_refused, damages_wider, fetched_refused, map_ok, plan_damaged, plan_fetched, plan_met, plan_there, refused_there, run_damaged, run_fetched, run_met, run_refused}
+use Rattle.ov_session.proofs.Rows.{checkout_idle, checkout_met, commit_damaged, commit_fetched, commit_refused, damages_wider, fetched_refused, map_ok, plan_damaged, plan_fetched, plan_met, plan_there, refused_there, run_damaged, run_fetched, run_met, run_refused}
 use Rattle.ov_model.specs.declared.command.Command.TheVariants as asks
 use Rattle.ov_session.proofs.Shaping.{done, off, ok_err}
 use Rattle.ov_session.specs.Commands.{IsCommitDamaged, IsDamageOf, IsDamaged}
