@@ -7,6 +7,7 @@ pub mod Dealing
 pub mod Saying
 pub mod Standing
 pub mod Bounds
+pub mod Rows
 pub mod Replying
 pub mod Numbering
 pub mod Meeting

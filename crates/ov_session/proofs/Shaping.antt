@@ -178,13 +178,13 @@ module _ (user : List ℕ) (command : Command) (l : Line) (is : l ≡ served_lin
         by (inl asks_) = begins (sym (ap (line_begins before.held.numbers) asks_.0) ∙ quiet) none
         by (inr other) = subst (λ (k : Kept). running k.held.numbers ≡ None) (sym (others other.0 other.2).store) none
 
-    pub whole_shaped : (met : Command) (page : ℕ) (result : Result Served EndErr) → l ≡ Asks met → (MeetsDamage user command stage before.held old page → ⊥)
+    pub whole_shaped : (met : Command) (page : ℕ) (result : Result Served EndErr) → l ≡ Asks met → (if_built command ≡ done command → MeetsDamage user command stage before.held old page → ⊥)
         → OnOk result (MeetsDamage user met stage before.held old page → ⊥)
     whole_shaped met page result asked whole = by (line_shape l command is)
       where
         by : Shape l command → OnOk result (MeetsDamage user met stage before.held old page → ⊥)
         by (inl asks_) =
-            on_any _ result (subst (λ (c : Command). MeetsDamage user c stage before.held old page → ⊥) (same_command command met (sym asks_.0 ∙ asked)) whole)
+            on_any _ result (subst (λ (c : Command). MeetsDamage user c stage before.held old page → ⊥) (same_command command met (sym asks_.0 ∙ asked)) (whole asks_.1))
         by (inr other) = absurd (refused_asks other.0 met (sym other.1 ∙ asked))
 
     module _ (w : World) (line : List ℕ) (asked : line_asked user line ≡ l) (at : IsAtWorld w before.held old) (new : State) (result : Result Served EndErr)

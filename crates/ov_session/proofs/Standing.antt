@@ -12,13 +12,13 @@ use Rattle.ov_model.specs.Replies.{reply_text}
 use Rattle.ov_model.specs.Line.{Line, Comment, Asks, Refused}
 use Rattle.ov_model.specs.World.{World}
 use Rattle.ov_model.specs.declared.command.Command.{Command}
-use Rattle.ov_model.specs.declared.command.Command.TheVariants as asks
 use Rattle.ov_model.specs.declared.reply.Reply.{Reply}
 use Rattle.ov_session.proofs.Calls.{stays_still}
 use Rattle.ov_session.proofs.Saying.{Says}
 use Rattle.ov_session.specs.Commands.{IfDamaged, IsNoDamage, IsNoHost, IsUnsaid}
 use Rattle.ov_session.specs.Errors.{end_of, reply_of}
-use Rattle.ov_session.specs.Standing.{Idle, IsAtSilently, IsAtSome, IsIdle, IsIdleBy, IsIdleOn, IsUnstaged}
+use Rattle.ov_session.specs.Reads.{Changes, Nothing, Once, Several, File, Unused, Taken, Given, GivenBehind, changes_of, file_of}
+use Rattle.ov_session.specs.Standing.{Idle, IsAtSilently, IsAtSome, IsIdle, IsIdleBy, IsIdleFor, IsIdleOf, IsIdleOn, IsUnstaged}
 use Rattle.ov_session.specs.declared.errors.EndErr.{EndErr}
 use Rattle.ov_session.specs.declared.errors.EndErr.TheVariants as ending
 use Rattle.ov_session.specs.declared.serving.Served.{Served}
@@ -104,19 +104,34 @@ module _ (before now : Kept) (stage staged : Staged) (old new : State) where
   idle_given (Err (ending.Damaged area at)) alone idle = absurd alone
 
   -- a print, whatever the line
+  unsaid_file : (file : File) (e : EndErr) → IsUnsaid e → IsIdleFor file e before now stage staged old new
+  unsaid_file Unused ending.Host alone = tt
+  unsaid_file Unused ending.Memory alone = tt
+  unsaid_file Unused ending.Stage alone = absurd alone
+  unsaid_file Unused (ending.Damaged area at) alone = absurd alone
+  unsaid_file Taken ending.Host alone = tt
+  unsaid_file Taken ending.Memory alone = tt
+  unsaid_file Taken ending.Stage alone = absurd alone
+  unsaid_file Taken (ending.Damaged area at) alone = absurd alone
+  unsaid_file Given ending.Host alone = tt
+  unsaid_file Given ending.Memory alone = tt
+  unsaid_file Given ending.Stage alone = absurd alone
+  unsaid_file Given (ending.Damaged area at) alone = absurd alone
+  unsaid_file GivenBehind ending.Host alone = tt
+  unsaid_file GivenBehind ending.Memory alone = tt
+  unsaid_file GivenBehind ending.Stage alone = absurd alone
+  unsaid_file GivenBehind (ending.Damaged area at) alone = absurd alone
+
+  unsaid_by : (changes : Changes) (file : File) (e : EndErr) → IsUnsaid e → IsIdleOf changes file e before now stage staged old new
+  unsaid_by Nothing file e alone = unsaid_file file e alone
+  unsaid_by Once file e alone = unsaid_file file e alone
+  unsaid_by Several file ending.Host alone = tt
+  unsaid_by Several file ending.Memory alone = tt
+  unsaid_by Several file ending.Stage alone = absurd alone
+  unsaid_by Several file (ending.Damaged area at) alone = absurd alone
+
   unsaid_command : (command : Command) (e : EndErr) → IsUnsaid e → IsIdleBy command e before now stage staged old new
-  unsaid_command (asks.Generate cvd seed rows versions) ending.Host alone = tt
-  unsaid_command (asks.Generate cvd seed rows versions) ending.Memory alone = tt
-  unsaid_command (asks.Generate cvd seed rows versions) ending.Stage alone = absurd alone
-  unsaid_command (asks.Generate cvd seed rows versions) (ending.Damaged area at) alone = absurd alone
-  unsaid_command (asks.Migrate count) ending.Host alone = tt
-  unsaid_command (asks.Migrate count) ending.Memory alone = tt
-  unsaid_command (asks.Migrate count) ending.Stage alone = absurd alone
-  unsaid_command (asks.Migrate count) (ending.Damaged area at) alone = absurd alone
-  unsaid_command command ending.Host alone = tt
-  unsaid_command command ending.Memory alone = tt
-  unsaid_command command ending.Stage alone = absurd alone
-  unsaid_command command (ending.Damaged area at) alone = absurd alone
+  unsaid_command command e alone = unsaid_by (changes_of command) (file_of command) e alone
 
   pub unsaid_line : (l : Line) (e : EndErr) → IsUnsaid e → IsIdleOn l e before now stage staged old new
   unsaid_line (Asks command) e alone = unsaid_command command e alone

@@ -1,14 +1,15 @@
 -- What serving a command keeps to on every host and stage.
 --     Goes old new      a host: no call changes whether it tells its bytes, and its counts of faults and of fetched bytes don't fall
 --     Attended old new      a stage
---     IsDamaged user command stage before now s page      what the user's command reads is damaged, and nothing refuses it before
---                                                         that; a `generate` by what the store keeps now, after the versions that it made,
---                                                         and a `migrate` so after its steps
---     MeetsDamage user command stage held s page      of a checkout, a query and an optimize: damage that it meets before it is answered
+--     IsBad source stage held s page      what is read of these versions is damaged, and this page names it
+--     IsDamaged user command stage before now s page      what the user's command reads by its row is damaged, and the numbers don't
+--                                                         refuse it; a `generate` by what the store keeps now, after the versions that it
+--                                                         made, and a `migrate` so after its steps
+--     MeetsDamage user command stage held s page      damage that it meets before it is answered
 --     IsOther refusal result ..      a query of a shape that isn't built was refused, and nothing else was done
 --     IfNoFile P reply      this holds where the reply is that there is no such file
 --     Acts d s t w result ..      where the store is at a World, a command does what it means, or is stopped in it
-use Rattle.std.specs.Prelude.{◌≡◌, ◌≤◌, ◌-◌, ◌^◌, min, ℕ, Bool, true, false, List, [], length, Option, Some, None, Result, Ok, Err, MatchResult}
+use Rattle.std.specs.Prelude.{◌≡◌, ◌≢◌, ◌≤◌, ◌-◌, ◌^◌, ◌⊎◌, min, ℕ, Bool, true, false, List, [], ◌∷◌, ◌++◌, length, Option, Some, None, Result, Ok, Err, MatchResult}
 use Rattle.std.specs.List.{All}
 use Rattle.ov_host.specs.declared.area.Area.TheVariants.{Pages}
 use Rattle.ov_host.specs.Host.{Rose, State}
@@ -17,20 +18,29 @@ use Rattle.ov_core.specs.Held.{Held}
 use Rattle.law_runs.specs.Serving.{Breaks, Does}
 use Rattle.ov_catalog.specs.Reached.{IfThere}
 use Rattle.ov_checkout.specs.declared.text.Checkout.{Checkout}
-use Rattle.ov_model.specs.Act.{Deed, Session, commit_deed, commit_refusal, commit_rows, does, merge_of, refuses, with_rows}
+use Rattle.ov_fetch.specs.Extents.{page_bytes}
+use Rattle.ov_fetch.specs.Scans.{rows_of as rows_in}
+use Rattle.ov_model.specs.Act.{Deed, Session, commit_deed, commit_refusal, commit_rows, does, format_one, merge_of, refuses, repeated_key, schema_with, with_rows}
 use Rattle.ov_model.specs.Csv.{text_of}
 use Rattle.ov_model.specs.Line.{Comment, Line}
 use Rattle.ov_model.specs.Moves.{Init}
 use Rattle.ov_model.specs.Book.{Row}
 use Rattle.ov_model.specs.declared.command.Command.{Command}
-use Rattle.ov_model.specs.declared.command.Command.TheVariants as asks
 use Rattle.ov_model.specs.World.{Dataset, World, set_named}
 use Rattle.ov_model.specs.declared.refusal.Refusal.{Refusal}
 use Rattle.ov_model.specs.declared.refusal.Refusal.TheVariants as no
 use Rattle.ov_model.specs.declared.reply.Reply.TheVariants as says
+use Rattle.ov_optimize.specs.Damages.{HasBadPart, HasHighRid}
+use Rattle.ov_read.specs.Agreement.{list_of}
+use Rattle.ov_read.specs.Damages.{HasBadList}
+use Rattle.ov_read.specs.Found.{IsScanned}
+use Rattle.ov_segment.specs.declared.numbered.Record.{Record}
+use Rattle.ov_value.specs.declared.column.Column.{Column}
+use Rattle.ov_value.specs.declared.schema_err.SchemaErr.{SchemaErr}
 use Rattle.ov_value.specs.Shapes.{Shape}
 use Rattle.ov_value.specs.Spelling.{IsRow}
 use Rattle.ov_store.specs.Beginning.{IsShort}
+use Rattle.ov_session.specs.Reads.{Own, Nought, Versions, Steps, Later, Reads, Source, RowsOf, ParentsOf, PlanOf, ListsOf, SegmentsOf, LastOf, Wanted, last_vid, reads_of}
 use Rattle.ov_session.specs.Stepping.{IsStepDamaged}
 use Rattle.ov_session.specs.declared.changing.Asked.{Asked}
 use Rattle.ov_session.specs.declared.changing.Asked.TheVariants as asked
@@ -42,8 +52,7 @@ use Rattle.ov_session.specs.declared.errors.EndErr.TheVariants as ending
 use Rattle.ov_store.specs.Committing.{IfSet, IsDamagedAt, Set, commit_off}
 use Rattle.ov_store.specs.Kept.{Kept}
 use Rattle.ov_store.specs.Planning.{IsDamagedFor, optimize_off}
-use Rattle.ov_store.specs.Scanning.{IsDamagedIn, scan_off, set_in}
-use Rattle.ov_query.specs.Queries.{IsQueryDamaged}
+use Rattle.ov_store.specs.Scanning.{IsDamagedIn, scan_off, set_in, vids_in}
 use Rattle.ov_generate.specs.Making.{HasDamagedVersion}
 use Rattle.ov_files.specs.Files.{file_rows}
 use Rattle.std.specs.FinMap.{get}
@@ -79,23 +88,83 @@ IsCommitDamaged cvd vids file message stage held s page =
 abbrev pub IsPlanDamaged : List ℕ → ℕ → ℕ → Held → State → ℕ → Type 0
 IsPlanDamaged cvd p q held s page = (optimize_off held.numbers cvd p q ≡ None) × IfSet (λ set. IsDamagedFor set s page) (set_in held.numbers cvd)
 
-abbrev pub IsDamaged : List ℕ → Command → Staged → Held → Held → State → ℕ → Type 0
-IsDamaged user (asks.Checkout cvd vids file table) stage before now s page = IsScanDamaged cvd vids before s page
-IsDamaged user (asks.Commit cvd vids file message added) stage before now s page = IsCommitDamaged cvd vids file message stage before s page
-IsDamaged user (asks.Run text) stage before now s page = IsQueryDamaged before.numbers user text s page
-IsDamaged user (asks.Generate cvd seed rows versions) stage before now s page = HasDamagedVersion now cvd rows versions s page
-IsDamaged user (asks.Optimize cvd p q) stage before now s page = IsPlanDamaged cvd p q before s page
-IsDamaged user (asks.Migrate count) stage before now s page = IsStepDamaged count now s page
-IsDamaged user _ stage before now s page = ⊥
+-- ---- by its row
 
--- A checkout, a query or an optimize that isn't refused by numbers reads all that is its own before it is answered: an optimize
--- where there is no room for its record, too. A commit may be refused for its rows before that, and a `generate` and a `migrate`
--- for room.
+-- the rows of the last version, as they are read
+pub record IsLast (set : Set) (s : State) (rows : List Row) : Type 0 where
+  pub records : List Record
+  pub pick : List ℕ
+  pub scanned : IsScanned (page_bytes s) set records (length set.versions) pick
+  pub rows_are : rows ≡ rows_in scanned.found
+
+-- those of a dataset that may not be there, where the host tells its bytes
+abbrev pub AreLast : Option Set → State → List Row → Type 0
+AreLast None s rows = rows ≡ []
+AreLast (Some set) s rows = s.tells ≡ true → IsLast set s rows
+
+-- and a key stands twice among them: this is the first page of the version's list
+abbrev pub IsKeyTwice : Set → State → ℕ → Type 0
+IsKeyTwice set s page =
+    s.tells ≡ true → (rows : List Row) × IsLast set s rows × (repeated_key set.schema [] 1 rows ≢ None) × (page ≡ (list_of set (length set.versions)).page)
+
+-- of a file with the columns that are added: rows that the numbers don't refuse; the parents are tested by the schema before it grows
+abbrev pub AreTaken : Held → Shape → List Row → Type 0
+AreTaken held schema rows = (length rows ≤ 1000000) × (repeated_key schema [] 1 rows ≡ None) × (format_one held.journal.format true rows ≡ None)
+
+abbrev pub IsWideDamagedIn : Result Shape SchemaErr → Set → Wanted → List Row → Staged → Held → State → ℕ → Type 0
+IsWideDamagedIn (Err why) set wanted rows stage held s page = ⊥
+IsWideDamagedIn (Ok schema) set wanted rows stage held s page =
+    AreTaken held schema rows × AreRowsOf schema wanted.file stage rows
+    × IsDamagedAt set (record { vids = wanted.vids; message = wanted.message; rows = rows }) s page
+
+abbrev pub IsParentsDamaged : Wanted → List Column → Staged → Held → State → ℕ → Type 0
+IsParentsDamaged wanted [] stage held s page = IsCommitDamaged wanted.cvd wanted.vids wanted.file wanted.message stage held s page
+IsParentsDamaged wanted (column ∷ added) stage held s page =
+    (rows : List Row)
+    × IfSet (λ set. IsWideDamagedIn (schema_with set.schema (column ∷ added)) set wanted rows stage held s page) (set_in held.numbers wanted.cvd)
+
+abbrev pub IsListsDamaged : Set → State → ℕ → Type 0
+IsListsDamaged set s page = s.tells ≡ true → HasBadList (page_bytes s) set (vids_in set) page ⊎ HasHighRid (page_bytes s) set page
+
+abbrev pub IsSegmentsDamaged : Set → State → ℕ → Type 0
+IsSegmentsDamaged set s page = s.tells ≡ true → HasBadPart (page_bytes s) set page
+
+-- what is read of these versions is damaged
+abbrev pub IsBad : Source → Staged → Held → State → ℕ → Type 0
+IsBad (RowsOf set vids) stage held s page = IsDamagedIn set vids s page
+IsBad (ParentsOf set wanted) stage held s page = IsParentsDamaged wanted wanted.added stage held s page
+IsBad (PlanOf set) stage held s page = IfSet (λ d. IsDamagedFor d s page) set
+IsBad (ListsOf set) stage held s page = IfSet (λ d. IsListsDamaged d s page) set
+IsBad (SegmentsOf set) stage held s page = IfSet (λ d. IsSegmentsDamaged d s page) set
+IsBad (LastOf set) stage held s page = IsDamagedIn set (last_vid set) s page ⊎ IfSet (λ d. IsKeyTwice d s page) set
+
+-- the first of them that is names the page
+abbrev pub AreBad : List Source → Staged → Held → State → ℕ → Type 0
+AreBad [] stage held s page = ⊥
+AreBad (x ∷ []) stage held s page = IsBad x stage held s page
+AreBad (x ∷ y ∷ sources) stage held s page =
+    IsBad x stage held s page ⊎ (((other : ℕ) → IsBad x stage held s other → ⊥) × AreBad (y ∷ sources) stage held s page)
+
+-- with what is read by the rows of the registry, where there is any
+abbrev pub AreAnyBad : Option Later → List Source → Staged → Held → State → ℕ → Type 0
+AreAnyBad None sources stage held s page = AreBad sources stage held s page
+AreAnyBad (Some later) sources stage held s page =
+    AreBad sources stage held s page ⊎ ((rows : List Row) × AreLast later.registry s rows × AreBad (later.sources rows) stage held s page)
+
+abbrev pub DamagedBy : Own → Reads → Staged → Held → Held → State → ℕ → Type 0
+DamagedBy Nought row stage before now s page = (row.off ≡ None) × AreAnyBad row.later (row.always ++ row.if_done) stage before s page
+DamagedBy (Versions cvd seed rows versions) row stage before now s page = HasDamagedVersion now cvd rows versions s page
+DamagedBy (Steps count) row stage before now s page = IsStepDamaged count now s page
+
+abbrev pub IsDamaged : List ℕ → Command → Staged → Held → Held → State → ℕ → Type 0
+IsDamaged user command stage before now s page =
+    DamagedBy (reads_of before.numbers user command).own (reads_of before.numbers user command) stage before now s page
+
+-- What is read always is read before an answer that isn't a refusal by numbers: by an optimize where there is no room for its record,
+-- too.
 abbrev pub MeetsDamage : List ℕ → Command → Staged → Held → State → ℕ → Type 0
-MeetsDamage user (asks.Checkout cvd vids file table) stage held s page = IsDamaged user (asks.Checkout cvd vids file table) stage held held s page
-MeetsDamage user (asks.Run text) stage held s page = IsDamaged user (asks.Run text) stage held held s page
-MeetsDamage user (asks.Optimize cvd p q) stage held s page = IsDamaged user (asks.Optimize cvd p q) stage held held s page
-MeetsDamage user _ stage held s page = ⊥
+MeetsDamage user command stage held s page =
+    ((reads_of held.numbers user command).off ≡ None) × AreBad (reads_of held.numbers user command).always stage held s page
 
 -- what holds where the reply is that there is no file of some name
 abbrev pub IfNoFile : Type 0 → Reply → Type 0

@@ -3,6 +3,7 @@ pub mod Asking
 pub mod Commands
 pub mod Bounds
 pub mod Standing
+pub mod Reads
 pub mod Replying
 pub mod Stepping
 pub mod Damages

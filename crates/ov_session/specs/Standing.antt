@@ -2,8 +2,9 @@
 --     IsAtSome held s      the store is at some World
 --     IsAtSilently held old new      it is, and nothing was printed since
 --     IsIdle why ..      damage and a fault of the stage are met before anything is changed
---     IsIdleOn line why ..      so it is for each line but a `generate`, which may have made versions before, and a `migrate`, which
---                               may have taken steps; these leave the stage alone
+--     IsIdleBehind why ..      damage is, and a fault of the stage behind the change
+--     IsIdleOn line why ..      so it is by the command's row; a `generate`, which may have made versions before, and a `migrate`, which
+--                               may have taken steps, leave the stage alone
 use Rattle.std.specs.Prelude.{◌≡◌}
 use Rattle.ov_host.specs.Host.{State}
 use Rattle.ov_host.specs.Stage.{Staged}
@@ -13,8 +14,9 @@ use Rattle.ov_fetch.specs.Extents.{Looked}
 use Rattle.ov_model.specs.Line.{Line, Asks}
 use Rattle.ov_model.specs.World.{World}
 use Rattle.ov_model.specs.declared.command.Command.{Command}
-use Rattle.ov_model.specs.declared.command.Command.TheVariants as asks
+use Rattle.ov_store.specs.Changes.{Bringing, IsDone}
 use Rattle.ov_store.specs.Kept.{Kept}
+use Rattle.ov_session.specs.Reads.{Changes, Nothing, Once, Several, File, Unused, Taken, Given, GivenBehind, changes_of, file_of}
 use Rattle.ov_session.specs.declared.errors.EndErr.{EndErr}
 use Rattle.ov_session.specs.declared.errors.EndErr.TheVariants as ending
 use Rattle.law_runs.specs.Stops.{printed_of}
@@ -43,10 +45,30 @@ IsUnstaged (ending.Damaged area at) stage staged = staged.files ≡ stage.files
 IsUnstaged ending.Stage stage staged = ⊥
 IsUnstaged _ stage staged = Unit {0}
 
+-- where the stage failed behind a change, the change was made
+pub record IsBehindIt (before now : Kept) : Type 0 where
+  pub brought : Bringing
+  pub done : IsDone brought before.held now.held
+
+abbrev pub IsIdleBehind : EndErr → Kept → Kept → Staged → Staged → State → State → Type 0
+IsIdleBehind (ending.Damaged area at) before now stage staged old new = Idle before now old new × (staged.files ≡ stage.files)
+IsIdleBehind ending.Stage before now stage staged old new = IsBehindIt before now
+IsIdleBehind ending.Host before now stage staged old new = Unit {0}
+IsIdleBehind ending.Memory before now stage staged old new = Unit {0}
+
+abbrev pub IsIdleFor : File → EndErr → Kept → Kept → Staged → Staged → State → State → Type 0
+IsIdleFor Unused why before now stage staged old new = IsIdle why before now stage staged old new
+IsIdleFor Taken why before now stage staged old new = IsIdle why before now stage staged old new
+IsIdleFor Given why before now stage staged old new = IsIdle why before now stage staged old new
+IsIdleFor GivenBehind why before now stage staged old new = IsIdleBehind why before now stage staged old new
+
+abbrev pub IsIdleOf : Changes → File → EndErr → Kept → Kept → Staged → Staged → State → State → Type 0
+IsIdleOf Nothing file why before now stage staged old new = IsIdleFor file why before now stage staged old new
+IsIdleOf Once file why before now stage staged old new = IsIdleFor file why before now stage staged old new
+IsIdleOf Several file why before now stage staged old new = IsUnstaged why stage staged
+
 abbrev pub IsIdleBy : Command → EndErr → Kept → Kept → Staged → Staged → State → State → Type 0
-IsIdleBy (asks.Generate cvd seed rows versions) why before now stage staged old new = IsUnstaged why stage staged
-IsIdleBy (asks.Migrate count) why before now stage staged old new = IsUnstaged why stage staged
-IsIdleBy command why before now stage staged old new = IsIdle why before now stage staged old new
+IsIdleBy command why before now stage staged old new = IsIdleOf (changes_of command) (file_of command) why before now stage staged old new
 
 abbrev pub IsIdleOn : Line → EndErr → Kept → Kept → Staged → Staged → State → State → Type 0
 IsIdleOn (Asks command) why before now stage staged old new = IsIdleBy command why before now stage staged old new

@@ -9,7 +9,7 @@
 --     IsOver left v held lacks      why no more come: all were taken, no plan runs, or there may be no room for the next
 --     IsRan n w result ..      of up to n steps so many were taken, and why no more; or the run ends in one
 --     migrated ran left      what a `migrate` tells of them
-use Rattle.std.specs.Prelude.{◌≡◌, ◌⊎◌, ◌≤◌, ◌+◌, ℕ, suc, Bool, true, false, not, List, Option, None, Some, Result, Ok, Err, is_some}
+use Rattle.std.specs.Prelude.{◌≡◌, ◌⊎◌, ◌≤◌, ◌+◌, ℕ, suc, Bool, true, false, List, Option, None, Some, Result, Ok, Err}
 use Rattle.ov_host.specs.declared.area.Extent.{Extent}
 use Rattle.ov_host.specs.Host.{State}
 use Rattle.ov_host.specs.Stops.{Only}
@@ -28,11 +28,10 @@ use Rattle.ov_model.specs.Line.{Line, Asks}
 use Rattle.ov_model.specs.Moves.{Move, moved}
 use Rattle.ov_model.specs.Steps.{next_step}
 use Rattle.ov_model.specs.World.{World}
-use Rattle.ov_model.specs.declared.command.Command.{Command}
-use Rattle.ov_model.specs.declared.command.Command.TheVariants as asks
 use Rattle.ov_model.specs.declared.refusal.Refusal.TheVariants as no
 use Rattle.ov_model.specs.declared.reply.Reply.{Reply}
 use Rattle.ov_model.specs.declared.reply.Reply.TheVariants as says
+pub use Rattle.ov_session.specs.Reads.{begins_plan}
 use Rattle.ov_session.specs.declared.errors.EndErr.{EndErr}
 use Rattle.ov_session.specs.declared.errors.EndErr.TheVariants as ending
 use Rattle.ov_session.specs.declared.stepping.Lack.{Lack}
@@ -40,7 +39,6 @@ use Rattle.ov_session.specs.declared.stepping.Lack.TheVariants as lack
 use Rattle.ov_session.specs.declared.stepping.Ran.{Ran}
 use Rattle.ov_session.specs.declared.stepping.Turn.{Turn}
 use Rattle.ov_session.specs.declared.stepping.Turn.TheVariants as turn
-use Rattle.ov_store.specs.Planning.{optimize_off}
 use Rattle.ov_store.specs.declared.step_errors.StepErr.{StepErr}
 use Rattle.ov_store.specs.declared.step_errors.StepErr.TheVariants as off
 use Rattle.ov_store.specs.declared.stepping.Stepped.{Stepped}
@@ -48,11 +46,6 @@ use Rattle.ov_store.specs.declared.stepping.Stepped.TheVariants as stepped
 
 abbrev pub TakesNoStep : ℕ → Numbers Extent Extent → Type 0
 TakesNoStep steps n = (steps ≡ 0) ⊎ (running n ≡ None)
-
--- an optimize that the numbers don't refuse
-abbrev pub begins_plan : Numbers Extent Extent → Command → Bool
-begins_plan n (asks.Optimize cvd p q) = not (is_some (optimize_off n cvd p q))
-begins_plan n _ = false
 
 -- a line by its command; a comment and a refusal begin none
 abbrev pub line_begins : Numbers Extent Extent → Line → Bool

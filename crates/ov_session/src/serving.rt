@@ -72,7 +72,7 @@ fn answer<H: Host, T: Stage>(
     ensures damaged { IfErr result (IsDamageOf (IsDamaged user.now command (T.staged stage.old) store.old.held store.new.held (H.state host.new))) }
     ensures begins_none { begins_plan store.old.held.numbers command ≡ false → running store.old.held.numbers ≡ None → OnOk result (running store.new.held.numbers ≡ None) }
     ensures whole { (page : ℕ) → (H.state host.old).tells ≡ true
-        → OnOk result (MeetsDamage user.now command (T.staged stage.old) store.old.held (H.state host.old) page → ⊥) }
+        → OnOk result (if_built command ≡ Ok command → MeetsDamage user.now command (T.staged stage.old) store.old.held (H.state host.old) page → ⊥) }
     ensures usable { OnOk result (MayCall store.new (H.state host.new)) }
     ensures by_journal { IsByJournal store.old.held (H.state host.old) → (IsErrOf result EndErr.Host → ⊥) → IsByJournal store.new.held (H.state host.new) }
     ensures at { (w : World) → IsAtWorld w store.old.held (H.state host.old) → OnOk result (IsAtSilently store.new.held (H.state host.old) (H.state host.new)) }

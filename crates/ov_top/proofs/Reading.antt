@@ -11,9 +11,12 @@ use Rattle.ov_host.specs.Host.{State}
 use Rattle.ov_host.specs.Source.{Script}
 use Rattle.ov_host.specs.Stage.{Files as Map, Staged}
 use Rattle.ov_files.specs.Files.{file_rows}
+use Rattle.ov_value.specs.declared.column.Column.{Column}
+use Rattle.ov_value.specs.declared.schema_err.SchemaErr.{SchemaErr}
 use Rattle.ov_value.specs.Shapes.{Shape}
 use Rattle.ov_catalog.specs.Numbers.{Numbers}
 use Rattle.ov_core.specs.Held.{Held, IsByJournal}
+use Rattle.ov_model.specs.Act.{schema_with}
 use Rattle.ov_model.specs.Book.{Row}
 use Rattle.ov_model.specs.BuiltShapes.{served_forms}
 use Rattle.ov_model.specs.Line.{Line, Asks, Comment, Refused, line_of}
@@ -25,13 +28,15 @@ use Rattle.ov_model.specs.declared.refusal.Refusal.TheVariants.{LongLine}
 use Rattle.ov_model.specs.declared.reply.Reply.{Reply}
 use Rattle.ov_store.specs.Committing.{IfSet, Set}
 use Rattle.ov_store.specs.Kept.{Kept}
+use Rattle.ov_store.specs.Scanning.{set_in}
 use Rattle.ov_session.specs.Asking.{line_asked}
 use Rattle.ov_session.specs.Bounds.{IsFetchedBy, IsReading, IsReadingCommand, may_fetch}
 use Rattle.ov_session.proofs.Bounds.{reading_fetched}
-use Rattle.ov_session.specs.Commands.{AreRowsOf, IsDamageOf, IsDamaged, IsNoDamage, is_comment_in, is_comment_of}
+use Rattle.ov_session.specs.Commands.{AreAnyBad, AreBad, AreRowsOf, DamagedBy, IsBad, IsDamageOf, IsDamaged, IsNoDamage, IsParentsDamaged, IsWideDamagedIn, is_comment_in, is_comment_of}
+use Rattle.ov_session.specs.Reads.{Own, Nought, Versions, Steps, File, Unused, Taken, Given, GivenBehind, Later, Reads, Source, RowsOf, ParentsOf, PlanOf, ListsOf, SegmentsOf, LastOf, Wanted, file_of, reads_of}
 use Rattle.ov_session.specs.Damages.{IsCommandMet, IsMetBy, IsStepMet}
 use Rattle.ov_session.specs.Replying.{IsReplied, IsReplyTo}
-use Rattle.ov_session.specs.Standing.{IsIdle, IsIdleBy, IsIdleOn}
+use Rattle.ov_session.specs.Standing.{IsIdle, IsIdleBy, IsIdleFor, IsIdleOn}
 use Rattle.ov_session.specs.Stepping.{NoneBehind, TakesNoStep, begins_plan, line_begins}
 use Rattle.ov_session.specs.declared.errors.EndErr.{EndErr}
 use Rattle.ov_session.specs.declared.errors.EndErr.TheVariants as ending
@@ -89,6 +94,9 @@ fetches_start held lines s are = record { same = refl; reading = are; bound = om
 -- a line that changes no store begins no plan
 quiet_command : (n : Numbers Extent Extent) (command : Command) → IsReadingCommand command → begins_plan n command ≡ false
 quiet_command n (asks.Optimize cvd p q) reads = absurd reads
+quiet_command n (asks.OptimizeWithin cvd budget) reads = absurd reads
+quiet_command n (asks.Checkout cvd vids file None) reads = refl
+quiet_command n (asks.Checkout cvd vids file (Some table)) reads = refl
 quiet_command n command reads = refl
 
 quiet_line : (n : Numbers Extent Extent) (l : Line) → IsReading l → line_begins n l ≡ false
@@ -151,28 +159,50 @@ module _ (stage staged : Staged) (files : staged.files ≡ stage.files) (told : 
   set_as file rows P None is = absurd is
   set_as file rows P (Some set) is = (rows_as set.schema file rows is.0, is.1)
 
+  wide_as : (schema : Result Shape SchemaErr) (set : Set) (wanted : Wanted) (rows : List Row) → IsWideDamagedIn schema set wanted rows stage held s page
+      → IsWideDamagedIn schema set wanted rows staged held s page
+  wide_as (Err why) set wanted rows is = absurd is
+  wide_as (Ok schema) set wanted rows is = (is.0, rows_as schema wanted.file rows is.1, is.2)
+
+  wide_set_as : (wanted : Wanted) (added : List Column) (rows : List Row) (o : Option Set)
+      → IfSet (λ set. IsWideDamagedIn (schema_with set.schema added) set wanted rows stage held s page) o
+      → IfSet (λ set. IsWideDamagedIn (schema_with set.schema added) set wanted rows staged held s page) o
+  wide_set_as wanted added rows None is = absurd is
+  wide_set_as wanted added rows (Some set) is = wide_as (schema_with set.schema added) set wanted rows is
+
+  parents_as : (wanted : Wanted) (added : List Column) → IsParentsDamaged wanted added stage held s page → IsParentsDamaged wanted added staged held s page
+  parents_as wanted [] is = (is.0, is.1, set_as wanted.file is.0 _ _ is.2)
+  parents_as wanted (column ∷ added) is = (is.0, wide_set_as wanted (column ∷ added) is.0 (set_in held.numbers wanted.cvd) is.1)
+
+  bad_as : (source : Source) → IsBad source stage held s page → IsBad source staged held s page
+  bad_as (RowsOf set vids) is = is
+  bad_as (ParentsOf set wanted) is = parents_as wanted wanted.added is
+  bad_as (PlanOf set) is = is
+  bad_as (ListsOf set) is = is
+  bad_as (SegmentsOf set) is = is
+  bad_as (LastOf set) is = is
+
+module _ (stage staged : Staged) (files : staged.files ≡ stage.files) (told : staged.tells ≡ stage.tells) (held : Held) (s : State) (page : ℕ) where
+  all_as : (sources : List Source) → AreBad sources stage held s page → AreBad sources staged held s page
+  all_as [] is = absurd is
+  all_as (x ∷ []) is = bad_as stage staged files told held s page x is
+  all_as (x ∷ y ∷ sources) (inl first) = inl (bad_as stage staged files told held s page x first)
+  all_as (x ∷ y ∷ sources) (inr later) =
+      inr (λ other bad. later.0 other (bad_as staged stage (sym files) (sym told) held s other x bad), all_as (y ∷ sources) later.1)
+
+  any_as : (later : Option Later) (sources : List Source) → AreAnyBad later sources stage held s page → AreAnyBad later sources staged held s page
+  any_as None sources is = all_as sources is
+  any_as (Some later) sources (inl first) = inl (all_as sources first)
+  any_as (Some later) sources (inr rows) = inr (rows.0, rows.1, all_as (later.sources rows.0) rows.2)
+
+  row_as : (own : Own) (row : Reads) → DamagedBy own row stage held held s page → DamagedBy own row staged held held s page
+  row_as Nought row is = (is.0, any_as row.later (row.always ++ row.if_done) is.1)
+  row_as (Versions cvd seed rows versions) row is = is
+  row_as (Steps count) row is = is
+
   -- what is read of the stage is the same
   damaged_as : (user : List ℕ) (command : Command) → IsDamaged user command stage held held s page → IsDamaged user command staged held held s page
-  damaged_as user (asks.Checkout cvd vids file table) is = is
-  damaged_as user (asks.Commit cvd vids file message added) is = (is.0, is.1, set_as file is.0 _ _ is.2)
-  damaged_as user (asks.Init cvd schema file) is = absurd is
-  damaged_as user (asks.CommitStaged owner table message) is = absurd is
-  damaged_as user (asks.Run text) is = is
-  damaged_as user (asks.Optimize cvd p q) is = is
-  damaged_as user (asks.OptimizeWithin cvd budget) is = absurd is
-  damaged_as user (asks.Advise cvd budget a b) is = absurd is
-  damaged_as user (asks.Migrate count) is = is
-  damaged_as user (asks.Layout cvd) is = absurd is
-  damaged_as user (asks.Log cvd) is = absurd is
-  damaged_as user asks.Ls is = absurd is
-  damaged_as user (asks.DropCvd cvd) is = absurd is
-  damaged_as user asks.Checkpoint is = absurd is
-  damaged_as user (asks.Generate cvd seed rows versions) is = is
-  damaged_as user (asks.CreateUser name) is = absurd is
-  damaged_as user (asks.Config name) is = absurd is
-  damaged_as user asks.Whoami is = absurd is
-  damaged_as user (asks.Unstage owner table) is = absurd is
-  damaged_as user asks.Tables is = absurd is
+  damaged_as user command is = row_as (reads_of held.numbers user command).own (reads_of held.numbers user command) is
 
 -- what a command but a `generate` and a `migrate` met, it met before it changed anything
 module _ (before now : Kept) (stage staged : Staged) (old new : State) (told : staged.tells ≡ stage.tells) (area : Area) (page : ℕ) where
@@ -182,10 +212,19 @@ module _ (before now : Kept) (stage staged : Staged) (old new : State) (told : s
       damaged_as stage staged idle.1 told now.held new page user command
       (subst (λ (k : Kept). IsDamaged user command stage k.held now.held new page) (sym idle.0.store) is)
 
+  idle_file : (file : File) → IsIdleFor file (ending.Damaged area page) before now stage staged old new → IsIdle (ending.Damaged area page) before now stage staged old new
+  idle_file Unused idle = idle
+  idle_file Taken idle = idle
+  idle_file Given idle = idle
+  idle_file GivenBehind idle = idle
+
   now_damaged : (user : List ℕ) (command : Command) → IsIdleBy command (ending.Damaged area page) before now stage staged old new
       → IsDamaged user command stage before.held now.held new page → IsDamaged user command staged now.held now.held new page
   now_damaged user (asks.Generate cvd seed rows versions) idle is = is
   now_damaged user (asks.Migrate count) idle is = is
+  now_damaged user (asks.Checkout cvd vids file None) idle is =
+      still_damaged user (asks.Checkout cvd vids file None) (idle_file (file_of (asks.Checkout cvd vids file None)) idle) is
+  now_damaged user (asks.Checkout cvd vids file (Some table)) idle is = still_damaged user (asks.Checkout cvd vids file (Some table)) idle is
   now_damaged user command idle is = still_damaged user command idle is
 
 -- what has a reply is no comment

@@ -1,4 +1,4 @@
-use Rattle.std.proofs.Common.{◌≡◌, sym, ap, refl, subst, rules}
+use Rattle.std.proofs.Common.{◌≡◌, ◌∙◌, sym, ap, refl, subst, rules}
 use Rattle.law_runs.proofs.Doing.{breaks_looked, does_told}
 use Rattle.law_runs.specs.Serving.{Breaks, Does, session_of}
 use Rattle.ov_cmd.specs.Asked.{IsAsked}
@@ -10,12 +10,12 @@ use Rattle.ov_session.proofs.Dealing.{checkout_asked, commit_asked}
 use Rattle.ov_session.specs.Commands.{Acts}
 use Rattle.std.proofs.Common.{◌+◌, ℕ, List, Some, None, true, false}
 use Rattle.std.specs.Prelude.{◌≤◌}
-use Rattle.ov_session.proofs.Bounds.{fetched_allowed, fetched_still, off_there, unread_command}
+use Rattle.ov_session.proofs.Bounds.{fetched_still, off_there, unread_command}
 use Rattle.ov_session.proofs.Replying.{seen_missed}
 use Rattle.ov_session.proofs.Migrating.{fetched_same, none_to_take}
 use Rattle.ov_session.proofs.Plans.{refused_none}
 use Rattle.ov_session.proofs.Standing.{at_looked, at_still, idle_spared, idle_stored, idle_unstaged, on_any, result_unmoved}
-use Rattle.ov_session.specs.Bounds.{IsFetched, IsReadingCommand, bytes_in, if_allowed, is_command_off}
+use Rattle.ov_session.specs.Bounds.{IsFetched, IsReadingCommand, bytes_in, is_command_off}
 use Rattle.ov_session.specs.Standing.{IsIdleBy}
 use Rattle.ov_session.specs.Stepping.{begins_plan}
 use Rattle.ov_store.specs.Kept.{Kept}
@@ -30,6 +30,8 @@ use Rattle.ov_session.specs.Commands.{IsScanDamaged, MeetsDamage}
 use Rattle.ov_model.specs.BuiltShapes.{if_built}
 use Rattle.ov_query.specs.Queries.{query_off}
 use Rattle.ov_session.proofs.Querying.{query_acts, query_other}
+use Rattle.ov_session.proofs.Rows.{checkout_idle, checkout_met, commit_damaged, commit_fetched, commit_refused, damages_wider, fetched_refused, map_ok, plan_damaged, plan_fetched, plan_met, plan_there, refused_there, run_damaged, run_fetched, run_met, run_refused}
+use Rattle.ov_model.specs.declared.command.Command.TheVariants as asks
 use Rattle.ov_session.proofs.Shaping.{done, off, ok_err}
 use Rattle.ov_session.specs.Commands.{IsCommitDamaged, IsDamageOf, IsDamaged}
 use Rattle.std.specs.Prelude.{IfErr, IsErrOf, OnOk}
@@ -113,7 +115,7 @@ returns-in-Ls-clause-acts g c = λ w built told at.
 pub returns-in-Init-clause-fetched : goal.returns-in-Init-clause-fetched
 returns-in-Init-clause-fetched g c =
     subst (λ (command : Command). IsFetched c.args.user.now command c.args.store.now.held c.init.new.store.held (IsErrOf c.init.result ending.Host) (g.H.Host.state c.args.host.now) (g.H.Host.state c.init.new.host)) (sym c.in-Init.is)
-    (fetched_still (g.H.Host.state c.args.host.now) (g.H.Host.state c.init.new.host) 0 c.init.ensures.fetched)
+    (fetched_still (g.H.Host.state c.args.host.now) (g.H.Host.state c.init.new.host) _ c.init.ensures.fetched)
 
 pub returns-in-Init-clause-unread : goal.returns-in-Init-clause-unread
 returns-in-Init-clause-unread g c = λ is. c.init.ensures.fetched
@@ -121,40 +123,47 @@ returns-in-Init-clause-unread g c = λ is. c.init.ensures.fetched
 pub returns-in-DropCvd-clause-fetched : goal.returns-in-DropCvd-clause-fetched
 returns-in-DropCvd-clause-fetched g c =
     subst (λ (command : Command). IsFetched c.args.user.now command c.args.store.now.held c.drop_cvd.new.store.held (IsErrOf c.drop_cvd.result ending.Host) (g.H.Host.state c.args.host.now) (g.H.Host.state c.drop_cvd.new.host)) (sym c.in-DropCvd.is)
-    (fetched_still (g.H.Host.state c.args.host.now) (g.H.Host.state c.drop_cvd.new.host) 0 c.drop_cvd.ensures.fetched)
+    (fetched_still (g.H.Host.state c.args.host.now) (g.H.Host.state c.drop_cvd.new.host) _ c.drop_cvd.ensures.fetched)
 
 pub returns-in-DropCvd-clause-unread : goal.returns-in-DropCvd-clause-unread
 returns-in-DropCvd-clause-unread g c = λ is. c.drop_cvd.ensures.fetched
 
 pub returns-in-Commit-clause-fetched : goal.returns-in-Commit-clause-fetched
 returns-in-Commit-clause-fetched g c =
-    subst (λ (command : Command). IsFetched c.args.user.now command c.args.store.now.held c.commit.new.store.held (IsErrOf c.commit.result ending.Host) (g.H.Host.state c.args.host.now) (g.H.Host.state c.commit.new.host)) (sym c.in-Commit.is)
-    (subst (λ (v : List ℕ). (g.H.Host.state c.commit.new.host).fetched ≤ (g.H.Host.state c.args.host.now).fetched
-    + if_allowed (parents_off_in (set_in c.args.store.now.held.numbers c.in-Commit.cvd) v) (bytes_in (set_in c.args.store.now.held.numbers c.in-Commit.cvd) v)) c.as_slice.ensures
-    (fetched_allowed (parents_off_in (set_in c.args.store.now.held.numbers c.in-Commit.cvd) c.as_slice.result.now) (bytes_in (set_in c.args.store.now.held.numbers c.in-Commit.cvd) c.as_slice.result.now)
-    (g.H.Host.state c.args.host.now).fetched (g.H.Host.state c.commit.new.host).fetched c.commit.ensures.fetched
-    (λ off is. ap (λ (s : State). s.fetched) (c.commit.ensures.unread off is))))
+    let asked = subst IsAsked c.in-Commit.is c.requires.asked
+    in subst (λ (command : Command). IsFetched c.args.user.now command c.args.store.now.held c.commit.new.store.held (IsErrOf c.commit.result ending.Host) (g.H.Host.state c.args.host.now) (g.H.Host.state c.commit.new.host))
+    (sym (c.in-Commit.is ∙ ap (asks.Commit c.in-Commit.cvd c.in-Commit.vids c.in-Commit.file c.in-Commit.message) asked.2))
+    (commit_fetched c.args.store.now.held.numbers c.args.user.now c.in-Commit.cvd c.in-Commit.vids c.in-Commit.file c.in-Commit.message (g.H.Host.state c.args.host.now).fetched (g.H.Host.state c.commit.new.host).fetched
+    (subst (λ (v : List ℕ). (g.H.Host.state c.commit.new.host).fetched ≤ (g.H.Host.state c.args.host.now).fetched + bytes_in (set_in c.args.store.now.held.numbers c.in-Commit.cvd) v) c.as_slice.ensures c.commit.ensures.fetched)
+    (λ off is. ap (λ (s : State). s.fetched) (c.commit.ensures.unread off
+    (subst (λ (v : List ℕ). parents_off_in (set_in c.args.store.now.held.numbers c.in-Commit.cvd) v ≡ Some off) (sym c.as_slice.ensures) is))))
 
 pub returns-in-Commit-clause-unread : goal.returns-in-Commit-clause-unread
 returns-in-Commit-clause-unread g c = λ is.
-    let there = off_there (parents_off_in (set_in c.args.store.now.held.numbers c.in-Commit.cvd) c.in-Commit.vids)
-    (subst (λ (command : Command). is_command_off c.args.store.now.held.numbers c.args.user.now command ≡ true) c.in-Commit.is is)
+    let asked = subst IsAsked c.in-Commit.is c.requires.asked
+    in let there = commit_refused c.args.store.now.held.numbers c.args.user.now c.in-Commit.cvd c.in-Commit.vids c.in-Commit.file c.in-Commit.message
+    (subst (λ (command : Command). is_command_off c.args.store.now.held.numbers c.args.user.now command ≡ true)
+    (c.in-Commit.is ∙ ap (asks.Commit c.in-Commit.cvd c.in-Commit.vids c.in-Commit.file c.in-Commit.message) asked.2) is)
     in ap (λ (s : State). s.fetched) (c.commit.ensures.unread there.0
     (subst (λ (v : List ℕ). parents_off_in (set_in c.args.store.now.held.numbers c.in-Commit.cvd) v ≡ Some there.0) (sym c.as_slice.ensures) there.1))
 
 pub returns-in-Checkout-clause-fetched : goal.returns-in-Checkout-clause-fetched
 returns-in-Checkout-clause-fetched g c =
-    subst (λ (command : Command). IsFetched c.args.user.now command c.args.store.now.held c.args.store.now.held (IsErrOf c.checkout.result ending.Host) (g.H.Host.state c.args.host.now) (g.H.Host.state c.checkout.new.host)) (sym c.in-Checkout.is)
-    (subst (λ (v : List ℕ). (g.H.Host.state c.checkout.new.host).fetched ≤ (g.H.Host.state c.args.host.now).fetched
-    + if_allowed (scan_off c.args.store.now.held.numbers c.in-Checkout.cvd v) (bytes_in (set_in c.args.store.now.held.numbers c.in-Checkout.cvd) v)) c.as_slice-in-Checkout.ensures
-    (fetched_allowed (scan_off c.args.store.now.held.numbers c.in-Checkout.cvd c.as_slice-in-Checkout.result.now) (bytes_in (set_in c.args.store.now.held.numbers c.in-Checkout.cvd) c.as_slice-in-Checkout.result.now)
-    (g.H.Host.state c.args.host.now).fetched (g.H.Host.state c.checkout.new.host).fetched c.checkout.ensures.fetched
-    (λ off is. ap (λ (s : State). s.fetched) (c.checkout.ensures.unread off is))))
+    let asked = subst IsAsked c.in-Checkout.is c.requires.asked
+    in subst (λ (command : Command). IsFetched c.args.user.now command c.args.store.now.held c.args.store.now.held (IsErrOf c.checkout.result ending.Host) (g.H.Host.state c.args.host.now) (g.H.Host.state c.checkout.new.host))
+    (sym (c.in-Checkout.is ∙ ap (asks.Checkout c.in-Checkout.cvd c.in-Checkout.vids c.in-Checkout.file) asked.1))
+    (fetched_refused c.in-Checkout.cvd (scan_off c.args.store.now.held.numbers c.in-Checkout.cvd c.in-Checkout.vids) (bytes_in (set_in c.args.store.now.held.numbers c.in-Checkout.cvd) c.in-Checkout.vids)
+    (g.H.Host.state c.args.host.now).fetched (g.H.Host.state c.checkout.new.host).fetched
+    (subst (λ (v : List ℕ). (g.H.Host.state c.checkout.new.host).fetched ≤ (g.H.Host.state c.args.host.now).fetched + bytes_in (set_in c.args.store.now.held.numbers c.in-Checkout.cvd) v) c.as_slice-in-Checkout.ensures c.checkout.ensures.fetched)
+    (λ off is. ap (λ (s : State). s.fetched) (c.checkout.ensures.unread off
+    (subst (λ (v : List ℕ). scan_off c.args.store.now.held.numbers c.in-Checkout.cvd v ≡ Some off) (sym c.as_slice-in-Checkout.ensures) is))))
 
 pub returns-in-Checkout-clause-unread : goal.returns-in-Checkout-clause-unread
 returns-in-Checkout-clause-unread g c = λ is.
-    let there = off_there (scan_off c.args.store.now.held.numbers c.in-Checkout.cvd c.in-Checkout.vids)
-    (subst (λ (command : Command). is_command_off c.args.store.now.held.numbers c.args.user.now command ≡ true) c.in-Checkout.is is)
+    let asked = subst IsAsked c.in-Checkout.is c.requires.asked
+    in let there = refused_there c.in-Checkout.cvd (scan_off c.args.store.now.held.numbers c.in-Checkout.cvd c.in-Checkout.vids)
+    (subst (λ (command : Command). is_command_off c.args.store.now.held.numbers c.args.user.now command ≡ true)
+    (c.in-Checkout.is ∙ ap (asks.Checkout c.in-Checkout.cvd c.in-Checkout.vids c.in-Checkout.file) asked.1) is)
     in ap (λ (s : State). s.fetched) (c.checkout.ensures.unread there.0
     (subst (λ (v : List ℕ). scan_off c.args.store.now.held.numbers c.in-Checkout.cvd v ≡ Some there.0) (sym c.as_slice-in-Checkout.ensures) there.1))
 
@@ -187,8 +196,10 @@ returns-in-Commit-clause-idle g c =
 
 pub returns-in-Checkout-clause-idle : goal.returns-in-Checkout-clause-idle
 returns-in-Checkout-clause-idle g c =
-    subst (λ (command : Command). IfErr c.checkout.result (λ e. IsIdleBy command e c.args.store.now c.args.store.now (g.T.Stage.staged c.args.stage.now) (g.T.Stage.staged c.checkout.new.stage)
-    (g.H.Host.state c.args.host.now) (g.H.Host.state c.checkout.new.host))) (sym c.in-Checkout.is) c.checkout.ensures.idle
+    let asked = subst IsAsked c.in-Checkout.is c.requires.asked
+    in subst (λ (command : Command). IfErr c.checkout.result (λ e. IsIdleBy command e c.args.store.now c.args.store.now (g.T.Stage.staged c.args.stage.now) (g.T.Stage.staged c.checkout.new.stage)
+    (g.H.Host.state c.args.host.now) (g.H.Host.state c.checkout.new.host))) (sym (c.in-Checkout.is ∙ ap (asks.Checkout c.in-Checkout.cvd c.in-Checkout.vids c.in-Checkout.file) asked.1))
+    (checkout_idle c.in-Checkout.cvd c.in-Checkout.vids c.in-Checkout.file c.args.store.now (g.T.Stage.staged c.args.stage.now) (g.T.Stage.staged c.checkout.new.stage) (g.H.Host.state c.args.host.now) (g.H.Host.state c.checkout.new.host) c.checkout.result c.checkout.ensures.idle)
 
 pub returns-in_err-layout-in-Layout-clause-fetched : goal.returns-in_err-layout-in-Layout-clause-fetched
 returns-in_err-layout-in-Layout-clause-fetched g c = unread_command c.args.user.now c.args.command c.args.store.now.held _ (g.H.Host.state c.args.host.now)
@@ -250,31 +261,35 @@ returns-in-Ls-clause-by_journal g c = λ by fine. by
 
 pub returns-in-Init-clause-whole : goal.returns-in-Init-clause-whole
 returns-in-Init-clause-whole g c = λ page told.
-    on_any _ c.init.result (subst (λ (command : Command). MeetsDamage c.args.user.now command (g.T.Stage.staged c.args.stage.now) c.args.store.now.held (g.H.Host.state c.args.host.now) page → ⊥) (sym c.in-Init.is) (λ met. met))
+    on_any _ c.init.result (λ built. subst (λ (command : Command). MeetsDamage c.args.user.now command (g.T.Stage.staged c.args.stage.now) c.args.store.now.held (g.H.Host.state c.args.host.now) page → ⊥) (sym c.in-Init.is) (λ met. met.1))
 
 pub returns-in-Commit-clause-whole : goal.returns-in-Commit-clause-whole
 returns-in-Commit-clause-whole g c = λ page told.
-    on_any _ c.commit.result (subst (λ (command : Command). MeetsDamage c.args.user.now command (g.T.Stage.staged c.args.stage.now) c.args.store.now.held (g.H.Host.state c.args.host.now) page → ⊥) (sym c.in-Commit.is) (λ met. met))
+    on_any _ c.commit.result (λ built. subst (λ (command : Command). MeetsDamage c.args.user.now command (g.T.Stage.staged c.args.stage.now) c.args.store.now.held (g.H.Host.state c.args.host.now) page → ⊥) (sym c.in-Commit.is) (λ met. met.1))
 
 pub returns-in-DropCvd-clause-whole : goal.returns-in-DropCvd-clause-whole
 returns-in-DropCvd-clause-whole g c = λ page told.
-    on_any _ c.drop_cvd.result (subst (λ (command : Command). MeetsDamage c.args.user.now command (g.T.Stage.staged c.args.stage.now) c.args.store.now.held (g.H.Host.state c.args.host.now) page → ⊥) (sym c.in-DropCvd.is) (λ met. met))
+    on_any _ c.drop_cvd.result (λ built. subst (λ (command : Command). MeetsDamage c.args.user.now command (g.T.Stage.staged c.args.stage.now) c.args.store.now.held (g.H.Host.state c.args.host.now) page → ⊥) (sym c.in-DropCvd.is) (λ met. met.1))
 
 pub returns-in-Layout-clause-whole : goal.returns-in-Layout-clause-whole
 returns-in-Layout-clause-whole g c = λ page told.
-    subst (λ (command : Command). MeetsDamage c.args.user.now command (g.T.Stage.staged c.args.stage.now) c.args.store.now.held (g.H.Host.state c.args.host.now) page → ⊥) (sym c.in-Layout.is) (λ met. met)
+    λ built. subst (λ (command : Command). MeetsDamage c.args.user.now command (g.T.Stage.staged c.args.stage.now) c.args.store.now.held (g.H.Host.state c.args.host.now) page → ⊥) (sym c.in-Layout.is) (λ met. met.1)
 
 pub returns-in-Log-clause-whole : goal.returns-in-Log-clause-whole
 returns-in-Log-clause-whole g c = λ page told.
-    subst (λ (command : Command). MeetsDamage c.args.user.now command (g.T.Stage.staged c.args.stage.now) c.args.store.now.held (g.H.Host.state c.args.host.now) page → ⊥) (sym c.in-Log.is) (λ met. met)
+    λ built. subst (λ (command : Command). MeetsDamage c.args.user.now command (g.T.Stage.staged c.args.stage.now) c.args.store.now.held (g.H.Host.state c.args.host.now) page → ⊥) (sym c.in-Log.is) (λ met. met.1)
 
 pub returns-in-Ls-clause-whole : goal.returns-in-Ls-clause-whole
 returns-in-Ls-clause-whole g c = λ page told.
-    subst (λ (command : Command). MeetsDamage c.args.user.now command (g.T.Stage.staged c.args.stage.now) c.args.store.now.held (g.H.Host.state c.args.host.now) page → ⊥) (sym c.in-Ls.is) (λ met. met)
+    λ built. subst (λ (command : Command). MeetsDamage c.args.user.now command (g.T.Stage.staged c.args.stage.now) c.args.store.now.held (g.H.Host.state c.args.host.now) page → ⊥) (sym c.in-Ls.is) (λ met. met.1)
 
 pub returns-in-Checkout-clause-whole : goal.returns-in-Checkout-clause-whole
 returns-in-Checkout-clause-whole g c = λ page told.
-    subst (λ (command : Command). OnOk c.checkout.result (MeetsDamage c.args.user.now command (g.T.Stage.staged c.args.stage.now) c.args.store.now.held (g.H.Host.state c.args.host.now) page → ⊥)) (sym c.in-Checkout.is)
+    let asked = subst IsAsked c.in-Checkout.is c.requires.asked
+    in map_ok _ _ c.checkout.result
+    (λ whole built met. whole (checkout_met c.args.user.now c.in-Checkout.cvd c.in-Checkout.vids c.in-Checkout.file (g.T.Stage.staged c.args.stage.now) c.args.store.now.held c.args.store.now.held (g.H.Host.state c.args.host.now) page
+    (subst (λ (command : Command). MeetsDamage c.args.user.now command (g.T.Stage.staged c.args.stage.now) c.args.store.now.held (g.H.Host.state c.args.host.now) page)
+    (c.in-Checkout.is ∙ ap (asks.Checkout c.in-Checkout.cvd c.in-Checkout.vids c.in-Checkout.file) asked.1) met)))
     (subst (λ (v : List ℕ). OnOk c.checkout.result (IsScanDamaged c.in-Checkout.cvd v c.args.store.now.held (g.H.Host.state c.args.host.now) page → ⊥))
     c.as_slice-in-Checkout.ensures (c.checkout.ensures.whole page told))
 
@@ -329,23 +344,27 @@ returns-in-Run-clause-still g c = λ is. refl
 pub returns-in-Run-clause-fetched : goal.returns-in-Run-clause-fetched
 returns-in-Run-clause-fetched g c =
     subst (λ (command : Command). IsFetched c.args.user.now command c.args.store.now.held c.args.store.now.held (IsErrOf c.run_query.result ending.Host) (g.H.Host.state c.args.host.now) (g.H.Host.state c.run_query.new.host))
-    (sym c.in-Run.is) c.run_query.ensures.fetched
+    (sym c.in-Run.is) (run_fetched c.args.store.now.held.numbers c.args.user.now c.in-Run.text (g.H.Host.state c.args.host.now).fetched (g.H.Host.state c.run_query.new.host).fetched c.run_query.ensures.fetched)
 
 pub returns-in-Run-clause-unread : goal.returns-in-Run-clause-unread
 returns-in-Run-clause-unread g c = λ is.
     let there = off_there (query_off c.args.store.now.held.numbers c.args.user.now c.in-Run.text)
-    (subst (λ (command : Command). is_command_off c.args.store.now.held.numbers c.args.user.now command ≡ true) c.in-Run.is is)
+    (run_refused c.args.store.now.held.numbers c.args.user.now c.in-Run.text
+    (subst (λ (command : Command). is_command_off c.args.store.now.held.numbers c.args.user.now command ≡ true) c.in-Run.is is))
     in ap (λ (s : State). s.fetched) (c.run_query.ensures.unread there.0 there.1)
 
 pub returns-in-Run-clause-whole : goal.returns-in-Run-clause-whole
 returns-in-Run-clause-whole g c = λ page told.
-    subst (λ (command : Command). OnOk c.run_query.result (MeetsDamage c.args.user.now command (g.T.Stage.staged c.args.stage.now) c.args.store.now.held (g.H.Host.state c.args.host.now) page → ⊥)) (sym c.in-Run.is)
+    map_ok _ _ c.run_query.result
+    (λ whole built met. whole (run_met c.args.user.now c.in-Run.text (g.T.Stage.staged c.args.stage.now) c.args.store.now.held (g.H.Host.state c.args.host.now) page
+    (subst (λ (command : Command). if_built command ≡ done command) c.in-Run.is built)
+    (subst (λ (command : Command). MeetsDamage c.args.user.now command (g.T.Stage.staged c.args.stage.now) c.args.store.now.held (g.H.Host.state c.args.host.now) page) c.in-Run.is met)))
     (c.run_query.ensures.whole page told)
 
 pub returns-in-Run-clause-damaged : goal.returns-in-Run-clause-damaged
 returns-in-Run-clause-damaged g c =
     subst (λ (command : Command). IfErr c.run_query.result (IsDamageOf (IsDamaged c.args.user.now command (g.T.Stage.staged c.args.stage.now) c.args.store.now.held c.args.store.now.held (g.H.Host.state c.run_query.new.host)))) (sym c.in-Run.is)
-    c.run_query.ensures.damaged
+    (damages_wider _ _ c.run_query.result (run_damaged c.args.user.now c.in-Run.text (g.T.Stage.staged c.args.stage.now) c.args.store.now.held c.args.store.now.held (g.H.Host.state c.run_query.new.host)) c.run_query.ensures.damaged)
 
 pub returns-in-Run-clause-by_journal : goal.returns-in-Run-clause-by_journal
 returns-in-Run-clause-by_journal g c = λ by fine.
@@ -381,9 +400,12 @@ returns-in-Run-clause-acts g c = λ w built told at.
 
 pub returns-in-Commit-clause-damaged : goal.returns-in-Commit-clause-damaged
 returns-in-Commit-clause-damaged g c =
-    subst (λ (command : Command). IfErr c.commit.result (IsDamageOf (IsDamaged c.args.user.now command (g.T.Stage.staged c.args.stage.now) c.args.store.now.held c.commit.new.store.held (g.H.Host.state c.commit.new.host)))) (sym c.in-Commit.is)
+    let asked = subst IsAsked c.in-Commit.is c.requires.asked
+    in subst (λ (command : Command). IfErr c.commit.result (IsDamageOf (IsDamaged c.args.user.now command (g.T.Stage.staged c.args.stage.now) c.args.store.now.held c.commit.new.store.held (g.H.Host.state c.commit.new.host))))
+    (sym (c.in-Commit.is ∙ ap (asks.Commit c.in-Commit.cvd c.in-Commit.vids c.in-Commit.file c.in-Commit.message) asked.2))
+    (damages_wider _ _ c.commit.result (commit_damaged c.args.user.now c.in-Commit.cvd c.in-Commit.vids c.in-Commit.file c.in-Commit.message (g.T.Stage.staged c.args.stage.now) c.args.store.now.held c.commit.new.store.held (g.H.Host.state c.commit.new.host))
     (subst (λ (v : List ℕ). IfErr c.commit.result (IsDamageOf (IsCommitDamaged c.in-Commit.cvd v c.in-Commit.file c.in-Commit.message (g.T.Stage.staged c.args.stage.now) c.args.store.now.held (g.H.Host.state c.commit.new.host))))
-    c.as_slice.ensures c.commit.ensures.damaged)
+    c.as_slice.ensures c.commit.ensures.damaged))
 
 -- ---- a dataset that is generated
 
@@ -405,7 +427,7 @@ returns-in-Generate-clause-fetched g c =
 
 pub returns-in-Generate-clause-unread : goal.returns-in-Generate-clause-unread
 returns-in-Generate-clause-unread g c = λ is.
-    let there = off_there (new_off c.args.store.now.held.numbers c.in-Generate.cvd)
+    let there = refused_there c.in-Generate.cvd (new_off c.args.store.now.held.numbers c.in-Generate.cvd)
     (subst (λ (command : Command). is_command_off c.args.store.now.held.numbers c.args.user.now command ≡ true) c.in-Generate.is is)
     in ap (λ (s : State). s.fetched) (c.make_versions.ensures.unread there.0 there.1)
 
@@ -416,7 +438,7 @@ returns-in-Generate-clause-damaged g c =
 
 pub returns-in-Generate-clause-whole : goal.returns-in-Generate-clause-whole
 returns-in-Generate-clause-whole g c = λ page told.
-    on_any _ c.make_versions.result (subst (λ (command : Command). MeetsDamage c.args.user.now command (g.T.Stage.staged c.args.stage.now) c.args.store.now.held (g.H.Host.state c.args.host.now) page → ⊥) (sym c.in-Generate.is) (λ met. met))
+    on_any _ c.make_versions.result (λ built. subst (λ (command : Command). MeetsDamage c.args.user.now command (g.T.Stage.staged c.args.stage.now) c.args.store.now.held (g.H.Host.state c.args.host.now) page → ⊥) (sym c.in-Generate.is) (λ met. met.1))
 
 pub returns-in-Generate-clause-missed : goal.returns-in-Generate-clause-missed
 returns-in-Generate-clause-missed g c = seen_missed _ c.make_versions.result c.make_versions.ensures.seen
@@ -445,18 +467,18 @@ returns-in-Optimize-clause-still g c = λ is. absurd (subst IsReadingCommand c.i
 pub returns-in-Optimize-clause-fetched : goal.returns-in-Optimize-clause-fetched
 returns-in-Optimize-clause-fetched g c =
     subst (λ (command : Command). IsFetched c.args.user.now command c.args.store.now.held c.optimize.new.store.held (IsErrOf c.optimize.result ending.Host) (g.H.Host.state c.args.host.now) (g.H.Host.state c.optimize.new.host)) (sym c.in-Optimize.is)
-    c.optimize.ensures.fetched
+    (plan_fetched c.args.store.now.held.numbers c.args.user.now c.in-Optimize.cvd c.in-Optimize.p c.in-Optimize.q _ (g.H.Host.state c.args.host.now).fetched (g.H.Host.state c.optimize.new.host).fetched c.optimize.ensures.fetched)
 
 pub returns-in-Optimize-clause-unread : goal.returns-in-Optimize-clause-unread
 returns-in-Optimize-clause-unread g c = λ is.
-    let there = off_there (optimize_off c.args.store.now.held.numbers c.in-Optimize.cvd c.in-Optimize.p c.in-Optimize.q)
+    let there = plan_there c.in-Optimize.cvd (optimize_off c.args.store.now.held.numbers c.in-Optimize.cvd c.in-Optimize.p c.in-Optimize.q)
     (subst (λ (command : Command). is_command_off c.args.store.now.held.numbers c.args.user.now command ≡ true) c.in-Optimize.is is)
     in ap (λ (s : State). s.fetched) (c.optimize.ensures.unread there.0 there.1)
 
 pub returns-in-Optimize-clause-damaged : goal.returns-in-Optimize-clause-damaged
 returns-in-Optimize-clause-damaged g c =
     subst (λ (command : Command). IfErr c.optimize.result (IsDamageOf (IsDamaged c.args.user.now command (g.T.Stage.staged c.args.stage.now) c.args.store.now.held c.optimize.new.store.held (g.H.Host.state c.optimize.new.host)))) (sym c.in-Optimize.is)
-    c.optimize.ensures.damaged
+    (damages_wider _ _ c.optimize.result (plan_damaged c.args.user.now c.in-Optimize.cvd c.in-Optimize.p c.in-Optimize.q (g.T.Stage.staged c.args.stage.now) c.args.store.now.held c.optimize.new.store.held (g.H.Host.state c.optimize.new.host)) c.optimize.ensures.damaged)
 
 pub returns-in-Optimize-clause-begins_none : goal.returns-in-Optimize-clause-begins_none
 returns-in-Optimize-clause-begins_none g c = λ quiet none.
@@ -465,7 +487,9 @@ returns-in-Optimize-clause-begins_none g c = λ quiet none.
 
 pub returns-in-Optimize-clause-whole : goal.returns-in-Optimize-clause-whole
 returns-in-Optimize-clause-whole g c = λ page told.
-    subst (λ (command : Command). OnOk c.optimize.result (MeetsDamage c.args.user.now command (g.T.Stage.staged c.args.stage.now) c.args.store.now.held (g.H.Host.state c.args.host.now) page → ⊥)) (sym c.in-Optimize.is)
+    map_ok _ _ c.optimize.result
+    (λ whole built met. whole (plan_met c.args.user.now c.in-Optimize.cvd c.in-Optimize.p c.in-Optimize.q (g.T.Stage.staged c.args.stage.now) c.args.store.now.held c.args.store.now.held (g.H.Host.state c.args.host.now) page
+    (subst (λ (command : Command). MeetsDamage c.args.user.now command (g.T.Stage.staged c.args.stage.now) c.args.store.now.held (g.H.Host.state c.args.host.now) page) c.in-Optimize.is met)))
     (c.optimize.ensures.whole page told)
 
 pub returns-in-Optimize-clause-missed : goal.returns-in-Optimize-clause-missed
@@ -513,7 +537,7 @@ returns-in-Migrate-clause-begins_none g c = λ quiet none.
 
 pub returns-in-Migrate-clause-whole : goal.returns-in-Migrate-clause-whole
 returns-in-Migrate-clause-whole g c = λ page told.
-    on_any _ c.migrate.result (subst (λ (command : Command). MeetsDamage c.args.user.now command (g.T.Stage.staged c.args.stage.now) c.args.store.now.held (g.H.Host.state c.args.host.now) page → ⊥) (sym c.in-Migrate.is) (λ met. met))
+    on_any _ c.migrate.result (λ built. subst (λ (command : Command). MeetsDamage c.args.user.now command (g.T.Stage.staged c.args.stage.now) c.args.store.now.held (g.H.Host.state c.args.host.now) page → ⊥) (sym c.in-Migrate.is) (λ met. met.1))
 
 pub returns-in-Migrate-clause-missed : goal.returns-in-Migrate-clause-missed
 returns-in-Migrate-clause-missed g c = seen_missed _ c.migrate.result c.migrate.ensures.seen
@@ -549,7 +573,7 @@ returns-in-Checkpoint-clause-unread g c = λ is. c.checkpoint.ensures.fetched
 
 pub returns-in-Checkpoint-clause-whole : goal.returns-in-Checkpoint-clause-whole
 returns-in-Checkpoint-clause-whole g c = λ page told.
-    on_any _ c.checkpoint.result (subst (λ (command : Command). MeetsDamage c.args.user.now command (g.T.Stage.staged c.args.stage.now) c.args.store.now.held (g.H.Host.state c.args.host.now) page → ⊥) (sym c.in-Checkpoint.is) (λ met. met))
+    on_any _ c.checkpoint.result (λ built. subst (λ (command : Command). MeetsDamage c.args.user.now command (g.T.Stage.staged c.args.stage.now) c.args.store.now.held (g.H.Host.state c.args.host.now) page → ⊥) (sym c.in-Checkpoint.is) (λ met. met.1))
 
 pub returns-in-Checkpoint-clause-missed : goal.returns-in-Checkpoint-clause-missed
 returns-in-Checkpoint-clause-missed g c = seen_missed _ c.checkpoint.result c.checkpoint.ensures.seen
