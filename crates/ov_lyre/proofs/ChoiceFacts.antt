@@ -1,6 +1,7 @@
 -- The best candidate so far.
 use Rattle.std.proofs.Common.{leb, ◌≡◌, ℕ, ◌+◌, ◌-◌, ◌*◌, ◌<◌, ◌≤◌, Bool, true, false, Option, Some, None, List, [], ◌∷◌, length, drop, get_or, refl, sym, ◌∙◌, ap, subst, inl, inr, arith}
 use Rattle.std.specs.Int.{abs_diff}
+use Rattle.std.specs.Option.{IfSome}
 use Rattle.std.proofs.lemmas.Bool.{cases_Bool}
 use Rattle.std.proofs.lemmas.List.{drop_more}
 use Rattle.ov_graph.specs.Trees.{VersionTree, total, fresh}
@@ -85,3 +86,8 @@ fresh-le tree sound (top ∷ rest) = let h = records-fresh tree sound top rest i
 -- the sum of what stands at the versions under one
 pub stands-total : (tree : VersionTree) (f : ℕ → ℕ) (part sums : List ℕ) (vid : ℕ) → Stands f part sums → total (slice_index sums) (lower tree vid part) ≡ total f (lower tree vid part)
 stands-total tree f part sums vid stands = total-same (slice_index sums) f (lower tree vid part) (λ x has. stands x (filter-has (λ version. is_under tree vid version) part x has).has)
+
+-- what holds anyhow holds of a result
+pub if-some : {A : Type 0} (o : Option ℕ) → A → IfSome o (λ _. A)
+if-some None a = tt
+if-some (Some it) a = a

@@ -12,3 +12,11 @@ pub mod StateFacts
 pub mod LawFacts
 pub mod DivisionFacts
 pub mod Worked
+pub mod PeelFacts
+pub mod LineFacts
+pub mod KeyFacts
+pub mod PeelingFacts
+pub mod RecordFacts
+pub mod KeysFacts
+pub mod StepFacts
+pub mod SidesFacts

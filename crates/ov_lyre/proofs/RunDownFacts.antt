@@ -1,12 +1,12 @@
 -- Sums that each version passes on to its tree parent, from the greatest vid down.
-use Rattle.std.proofs.Common.{◌≡◌, ℕ, zero, suc, ◌+◌, ◌-◌, ◌<◌, ◌≤◌, Bool, false, cond, eqb, List, [], ◌∷◌, ◌++◌, length, take, drop, set, get_or, get_or-set_same, get_or-set_other, refl, sym, ◌∙◌, ap, subst, inl, inr, arith}
+use Rattle.std.proofs.Common.{◌≡◌, ℕ, zero, suc, ◌+◌, ◌-◌, ◌<◌, ◌≤◌, cond, eqb, List, [], ◌∷◌, ◌++◌, length, take, drop, set, get_or, get_or-set_same, get_or-set_other, refl, sym, ◌∙◌, ap, subst, inl, inr, arith}
 use Rattle.std.proofs.lemmas.Bool.{cases_Bool, cases_eq, eq-eqb, ne_eqb}
 use Rattle.std.proofs.lemmas.List.{take_more, drop_more, take_all, drop_all, take-append-drop}
 use Rattle.ov_graph.specs.Trees.{VersionTree, total}
 use Rattle.ov_graph.specs.Splits.{Has, IsPart, edges, is_under, lower}
 use Rattle.std.specs.List.{slice_index}
-use Rattle.ov_lyre.specs.Sums.{Stands, Marks}
-use Rattle.ov_lyre.proofs.PartFacts.{total-append, total-raised, le-total, total-filter-le, filter-append, filter-none, has-filter, has-left, has-right, has-cases, lies, Round, round, part-at, edge-at, parents-has}
+use Rattle.ov_lyre.specs.Sums.{Stands}
+use Rattle.ov_lyre.proofs.PartFacts.{total-append, total-raised, le-total, total-filter-le, filter-append, filter-none, has-filter, has-left, has-right, has-cases, Round, round, part-at, edge-at, parents-has}
 use Rattle.ov_lyre.proofs.UnderFacts.{IsSoundTree, under-self, under-smaller, under-parent}
 
 -- The versions before the place at still wait: the sums of those under one of them make up its sum. The others are done.
@@ -143,29 +143,3 @@ stands-more f part sums k b lt stands is within vid has =
     only : (y : ℕ) → Has (y ∷ []) vid → (vid ≡ y → ⊥) → ⊥
     only y (inl same) other = other (sym same)
     only y (inr none) other = none
-
--- one more version is marked
-pub marks-more : (tree : VersionTree) (child : ℕ) (part : List ℕ) (marks : List Bool) (k : ℕ) (b : Bool) → k < length part → Marks tree child (take k part) marks → b ≡ is_under tree child (get_or part k 0) → get_or part k 0 < length marks → Marks tree child (take (k + 1) part) (set marks (get_or part k 0) b)
-marks-more tree child part marks k b lt stands is within vid has =
-    let y = get_or part k 0 in
-    elim (cases_eq vid y) [
-      | inl same ↦ rw same (get_or-set_same marks y b false within ∙ is)
-      | inr other ↦
-          elim (has-cases (take k part) (y ∷ []) vid (rw (take_more part k 0 lt) at has)) [
-            | inl before ↦ get_or-set_other marks y vid b false other ∙ stands vid before
-            | inr last ↦ absurd (only y last other)
-          ]
-    ]
-  where
-    only : (y : ℕ) → Has (y ∷ []) vid → (vid ≡ y → ⊥) → ⊥
-    only y (inl same) other = other (sym same)
-    only y (inr none) other = none
-
--- the topmost version lies under no other one
-pub marks-start : (tree : VersionTree) (sound : IsSoundTree tree) (count child : ℕ) (part : List ℕ) (marks : List Bool) → IsPart tree count part → Has (edges part) child → get_or part 0 0 < length marks → Marks tree child (take 1 part) (set marks (get_or part 0 0) false)
-marks-start tree sound count child [] marks is has within version none = absurd has
-marks-start tree sound count child (top ∷ rest) marks is has within version (inr none) = absurd none
-marks-start tree sound count child (top ∷ rest) marks is has within version (inl same) =
-    let above = (lies top count rest child is.ascends.2 has).above in
-    let P : ℕ → Type 0 = λ v. get_or (set marks top false) v false ≡ is_under tree child v in
-    subst P same (get_or-set_same marks top false false within ∙ sym (under-smaller tree sound child top above))

@@ -1,12 +1,14 @@
 -- A split under way: its start, a part that stops, a cut, and its end.
-use Rattle.std.proofs.Common.{◌≡◌, ℕ, suc, ◌+◌, ◌-◌, ◌<◌, ◌≤◌, max, Result, Ok, Err, Some, None, List, [], ◌∷◌, ◌++◌, length, refl, sym, ◌∙◌, ap, append_assoc, arith}
+use Rattle.std.proofs.Common.{◌≡◌, ℕ, suc, ◌+◌, ◌-◌, ◌<◌, ◌≤◌, max, Result, Ok, Err, Some, None, List, [], ◌∷◌, ◌++◌, length, refl, sym, ◌∙◌, ap, subst, append_assoc, arith}
 use Rattle.std.specs.Result.{OnOk}
 use Rattle.std.proofs.lemmas.List.{append-nil, map_push}
 use Rattle.ov_graph.specs.Trees.{VersionTree}
 use Rattle.ov_graph.specs.Splits.{Has, IsPart, edges, lower, upper, next_cut_of, cuts_of, leaves, cut_vids, depth}
 use Rattle.ov_lyre.specs.declared.run.Piece.{Piece}
-use Rattle.ov_lyre.specs.Runs.{piece_of, pieces_of, leaves_left, cuts_left, depth_left, ArePieces, Leads, pieces_left}
+use Rattle.ov_lyre.specs.Runs.{piece_of, pieces_of, waiting, leaves_left, cuts_left, depth_left, ArePieces, Leads, pieces_left}
 use Rattle.ov_lyre.proofs.UnderFacts.{IsSoundTree}
+use Rattle.ov_lyre.specs.Sides.{left, lowers, AreInside, AreNext}
+use Rattle.ov_lyre.proofs.EdgeFacts.{cut-at}
 use Rattle.ov_lyre.proofs.CutFacts.{sides}
 use Rattle.ov_lyre.proofs.CutsFacts.{shorter, cuts_of-whole, cuts_of-cut}
 
@@ -117,3 +119,58 @@ on-ok (Err e) a b c d f = tt
 -- the last piece of those that wait
 pub pieces_of-last : (pieces : List Piece) (piece : Piece) → pieces_of (pieces ++ piece ∷ []) ≡ pieces_of pieces ++ piece_of piece ∷ []
 pieces_of-last pieces piece = map_push piece_of pieces piece
+
+-- cuts that were made one after another
+module _ (tree : VersionTree) (sound : IsSoundTree tree) (p q : ℕ) (p_up_to_q : p ≤ q) (count : ℕ) where
+  pub next-inside : (part cuts : List ℕ) → IsPart tree count part → AreNext tree p q part cuts → AreInside tree part cuts
+  next-inside part [] is are = tt
+  next-inside part (cut ∷ cuts) is are =
+      let has = (cut-at tree sound p q p_up_to_q count part cut is are.0).inside in
+      (has, next-inside (upper tree cut part) cuts (sides tree sound count part cut is has).upper_part are.1)
+
+  pub lowers-long : (part cuts : List ℕ) → length (lowers tree part cuts) ≡ length cuts
+  lowers-long part [] = refl
+  lowers-long part (cut ∷ cuts) = ap suc (lowers-long (upper tree cut part) cuts)
+
+  abbrev pub behind : List (List ℕ × ℕ) → List ℕ → ℕ → List ℕ → List (List ℕ × ℕ)
+  behind pieces part level cuts = (pieces ++ waiting level (lowers tree part cuts)) ++ (left tree part cuts, level + length cuts) ∷ []
+
+  behind-more : (pieces : List (List ℕ × ℕ)) (part : List ℕ) (level cut : ℕ) (cuts : List ℕ) → behind (pieces ++ (lower tree cut part, level + 1) ∷ []) (upper tree cut part) (level + 1) cuts ≡ behind pieces part level (cut ∷ cuts)
+  behind-more pieces part level cut cuts =
+      let deep : (level + 1) + length cuts ≡ level + suc (length cuts) = omega arith in
+      rw (deep, append_assoc pieces ((lower tree cut part, level + 1) ∷ []) (waiting (level + 1) (lowers tree (upper tree cut part) cuts))) refl
+
+  behind-none : (pieces : List (List ℕ × ℕ)) (part : List ℕ) (level : ℕ) → pieces ++ (part, level) ∷ [] ≡ behind pieces part level []
+  behind-none pieces part level =
+      let flat : level + 0 ≡ level = omega arith in
+      rw (flat, append-nil pieces) refl
+
+  pub leads-cuts : (all : List ℕ) (pieces : List (List ℕ × ℕ)) (part : List ℕ) (level : ℕ) (parts : List (List ℕ)) (made : List ℕ) (deepest : ℕ) (cuts : List ℕ) → IsPart tree count part → level + length part ≤ count → AreNext tree p q part cuts → Leads tree count p q all (pieces ++ (part, level) ∷ []) parts made deepest → Leads tree count p q all (behind pieces part level cuts) parts (made ++ cuts) deepest
+  leads-cuts all pieces part level parts made deepest [] is within are leads = rw (append-nil made) (subst (λ (ps : List (List ℕ × ℕ)). Leads tree count p q all ps parts made deepest) (behind-none pieces part level) leads)
+  leads-cuts all pieces part level parts made deepest (cut ∷ cuts) is within are leads =
+      let has = (cut-at tree sound p q p_up_to_q count part cut is are.0).inside in
+      let two = sides tree sound count part cut is has in
+      let some = two.lower_part.some in
+      let sum = two.lengths in
+      let one = leads-cut tree sound p q p_up_to_q count all pieces part level parts made deepest cut is has within are.0 leads in
+      let rest = leads-cuts all (pieces ++ (lower tree cut part, level + 1) ∷ []) (upper tree cut part) (level + 1) parts (made ++ cut ∷ []) deepest cuts two.upper_part (omega arith) are.1 one in
+      let moved = subst (λ (ps : List (List ℕ × ℕ)). Leads tree count p q all ps parts ((made ++ cut ∷ []) ++ cuts) deepest) (behind-more pieces part level cut cuts) rest in
+      subst (λ (vids : List ℕ). Leads tree count p q all (behind pieces part level (cut ∷ cuts)) parts vids deepest) (append_assoc made (cut ∷ []) cuts) moved
+
+  few-cuts : (pieces : List (List ℕ × ℕ)) (part : List ℕ) (level : ℕ) (cuts : List ℕ) → IsPart tree count part → AreInside tree part cuts → pieces_left (behind pieces part level cuts) ≤ pieces_left (pieces ++ (part, level) ∷ [])
+  few-cuts pieces part level [] is are = let same = ap pieces_left (behind-none pieces part level) in omega arith
+  few-cuts pieces part level (cut ∷ cuts) is are =
+      let two = sides tree sound count part cut is are.0 in
+      let one = fewer-cut tree sound p q p_up_to_q count [] pieces part level cut is are.0 in
+      let rest = few-cuts (pieces ++ (lower tree cut part, level + 1) ∷ []) (upper tree cut part) (level + 1) cuts two.upper_part are.1 in
+      let same = ap pieces_left (behind-more pieces part level cut cuts) in
+      omega arith
+
+  pub fewer-cuts : (pieces : List (List ℕ × ℕ)) (part : List ℕ) (level : ℕ) (cuts : List ℕ) → 0 < length cuts → IsPart tree count part → AreInside tree part cuts → pieces_left (behind pieces part level cuts) < pieces_left (pieces ++ (part, level) ∷ [])
+  fewer-cuts pieces part level [] some is are = absurd (omega arith)
+  fewer-cuts pieces part level (cut ∷ cuts) some is are =
+      let two = sides tree sound count part cut is are.0 in
+      let one = fewer-cut tree sound p q p_up_to_q count [] pieces part level cut is are.0 in
+      let rest = few-cuts (pieces ++ (lower tree cut part, level + 1) ∷ []) (upper tree cut part) (level + 1) cuts two.upper_part are.1 in
+      let same = ap pieces_left (behind-more pieces part level cut cuts) in
+      omega arith

@@ -4,3 +4,5 @@ pub mod Candidates
 pub mod Runs
 pub mod Orders
 pub mod Examples
+pub mod Peeling
+pub mod Sides

@@ -13,6 +13,11 @@ piece_of piece = (piece.part.items, piece.level)
 abbrev pub pieces_of : List Piece → List (List ℕ × ℕ)
 pieces_of pieces = map piece_of pieces
 
+-- the sides below cuts of a part of this level, each one level deeper than the one before it
+abbrev pub waiting : ℕ → List (List ℕ) → List (List ℕ × ℕ)
+waiting level [] = []
+waiting level (side ∷ sides) = (side, level + 1) ∷ waiting (level + 1) sides
+
 -- what the parts that wait will give, the last one first
 abbrev pub leaves_left : VersionTree → ℕ → ℕ → List (List ℕ × ℕ) → List (List ℕ)
 leaves_left tree p q [] = []

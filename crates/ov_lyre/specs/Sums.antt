@@ -1,7 +1,7 @@
 -- What the arrays by vid have to say while a part is cut.
-use Rattle.std.specs.Prelude.{◌≡◌, ℕ, List, slice_index, slice_index_or, Bool, false}
+use Rattle.std.specs.Prelude.{◌≡◌, ℕ, List, slice_index}
 use Rattle.ov_graph.specs.Trees.{VersionTree, total}
-use Rattle.ov_graph.specs.Splits.{Has, is_under, lower}
+use Rattle.ov_graph.specs.Splits.{Has, lower}
 
 -- at each version of the part stands f of it
 abbrev pub Stands : (ℕ → ℕ) → List ℕ → List ℕ → Type 0
@@ -10,7 +10,3 @@ Stands f part sums = (vid : ℕ) → Has part vid → slice_index sums vid ≡ f
 -- the sum over the versions under a vid
 abbrev pub total_under : VersionTree → (ℕ → ℕ) → List ℕ → ℕ → ℕ
 total_under tree f part vid = total f (lower tree vid part)
-
--- a mark at each version of the part that lies under a vid, and at no other one of it
-abbrev pub Marks : VersionTree → ℕ → List ℕ → List Bool → Type 0
-Marks tree vid part marks = (version : ℕ) → Has part version → slice_index_or marks version false ≡ is_under tree vid version

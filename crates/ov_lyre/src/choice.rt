@@ -1,6 +1,6 @@
 //! The edge at which a part is cut.
 
-ghost use Rattle.std.specs.Prelude.{◌≡◌, ◌+◌, ◌*◌, ◌^◌, ◌<◌, ◌≤◌, nat_le, Option, None, length, slice_index};
+ghost use Rattle.std.specs.Prelude.{◌≡◌, ◌+◌, ◌*◌, ◌^◌, ◌<◌, ◌≤◌, nat_le, Option, None, IfSome, length, slice_index};
 ghost use Rattle.ov_graph.specs.Trees.{IsSound, tree_of, fresh, total};
 ghost use Rattle.ov_graph.specs.Splits.{IsPart, Has, edges, records, lower, stops, may_cut, versions_apart, records_apart, comes_first, chosen, next_cut_of};
 ghost use Rattle.ov_lyre.specs.Sums.{Stands, total_under};
@@ -44,7 +44,7 @@ fn better(candidate: Candidate, found: Option<Candidate>) -> Candidate
 }
 
 /// Whether a part stops: p * R * V <= q * E.
-fn stops(totals: Totals, versions: usize, threshold: Threshold) -> bool
+pub(crate) fn stops(totals: Totals, versions: usize, threshold: Threshold) -> bool
     requires versions { versions ≤ 65535 }
     requires records { totals.records < 2 ^ 49 }
     requires members { totals.members < 2 ^ 49 }
@@ -55,7 +55,7 @@ fn stops(totals: Totals, versions: usize, threshold: Threshold) -> bool
 }
 
 /// Whether an edge may be cut: q * w <= p * R.
-fn may_cut(weight: u32, records: u64, threshold: Threshold) -> bool
+pub(crate) fn may_cut(weight: u32, records: u64, threshold: Threshold) -> bool
     ensures { result ≡ nat_le (threshold.q * weight) (threshold.p * records) }
 {
     threshold.q as u128 * weight as u128 <= threshold.p as u128 * records as u128
@@ -134,7 +134,7 @@ fn choose(
 }
 
 /// The edge at which a part is cut next, by the vid of its child; `None` where the part stops. The arrays by vid may
-/// hold anything before.
+/// hold anything before; behind a cut they have how many versions stand under each version, and how many fresh records.
 pub fn next_cut(
     nodes: &[Node],
     part: &[u32],
@@ -146,7 +146,9 @@ pub fn next_cut(
     requires part { IsPart (tree_of nodes.now) (length nodes.now) part.now }
     requires counts { length nodes.now < length counts.old }
     requires sums { length nodes.now < length sums.old }
-    ensures { result ≡ next_cut_of (tree_of nodes.now) threshold.p threshold.q part.now }
+    ensures next { result ≡ next_cut_of (tree_of nodes.now) threshold.p threshold.q part.now }
+    ensures counts { IfSome result (λ _. Stands (total_under (tree_of nodes.now) (λ _. 1) part.now) part.now counts.new) }
+    ensures sums { IfSome result (λ _. Stands (total_under (tree_of nodes.now) (fresh (tree_of nodes.now)) part.now) part.now sums.new) }
 {
     let totals = add_totals(nodes, part);
     if stops(totals, part.len(), threshold) {

@@ -46,8 +46,8 @@ fn in_order(mut split: Split) -> Result<Split, AllocError>
 
 /// The split of a sound tree, of 1 to 65,535 versions, under the threshold p/q, from 1/1000000 to 1.
 ///
-/// In the memory of a few numbers a version; in the order of n log n where cuts halve their parts, and of n squared where
-/// each takes a single version from its part.
+/// In the memory of a few numbers a version; in the order of n log n where cuts halve their parts, and of n times the root of n
+/// at most.
 pub fn split(alloc: Global, tree: &Tree, p: u32, q: u32) -> Result<Split, AllocError>
     requires from_one { 1 ≤ p }
     requires up_to_q { p ≤ q }

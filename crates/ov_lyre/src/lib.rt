@@ -7,16 +7,18 @@
 //! The algorithm is LyreSplit of OrpheusDB (Huang et al., PVLDB 10(10), 2017); the exact tests and the choice among light
 //! edges are this project's. `specs/Splits.antt` of `ov_graph` says what a split is.
 //!
-//! Each part that is cut is gone over a few times. A tree whose cuts halve it is divided in the order of n log n, one
-//! from which each cut takes a single version, as a star at the threshold 1/1, in the order of n squared. Of 65,535
-//! versions at that threshold a chain, a binary or a random tree took 25 to 50 ms and the star 32 s, a star of 4,000
-//! versions 0.1 s; the test `large_trees_are_divided` of `test_graph` prints the times anew.
+//! A part is gone over a few times for each number of versions that its cuts take off, however many cuts take as many. So a tree whose
+//! cuts halve it is divided in the order of n log n, and none takes more than n times the root of n, which is less than n log² n for
+//! as many versions as there may be. Of 65,535 versions at the threshold 1/1 a chain, a comb, a star, a star on a handle, 256
+//! stars, a binary or a random tree took 26 to 45 ms each; the test `large_trees_are_divided` of `test_graph` prints the times
+//! anew.
 #![tactic(auto)]
 
 mod choice;
 mod examples;
 mod front;
 mod outcome;
+mod peeling;
 mod run;
 mod sides;
 mod sums;

@@ -64,6 +64,18 @@ pub fn fill(nodes: &[Node], part: &[u32], counts: &mut [u64], sums: &mut [u64])
     }
 }
 
+/// Writes at each version of a part the number of its members.
+pub fn fill_members(nodes: &[Node], part: &[u32], members: &mut [u64])
+    requires sound { IsSound nodes.now }
+    requires part { IsPart (tree_of nodes.now) (length nodes.now) part.now }
+    requires members { length nodes.now < length members.old }
+    ensures { Stands (tree_of nodes.now).records part.now members.new }
+{
+    for vid in part {
+        members[*vid as usize] = u64::from(node_of(nodes, *vid).records);
+    }
+}
+
 /// Makes of what stands at each version of a part the sum over the versions under it. From the greatest vid down each
 /// version passes its sum on to its tree parent, so this takes the time of the part's versions.
 pub fn add_up(nodes: &[Node], part: &[u32], sums: &mut [u64])

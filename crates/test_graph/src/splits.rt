@@ -37,7 +37,11 @@ enum Shape {
     Chain,
     Binary,
     Random,
+    Comb,
     Star,
+    Handle,
+    Stars,
+    Broom,
 }
 
 /// A tree of versions that share nothing, so that at the threshold 1/1 each edge is cut.
@@ -55,8 +59,13 @@ fn shaped_tree(alloc: Global, shape: Shape, count: u32) -> Result<Tree, AllocErr
             Shape::Chain => before,
             Shape::Binary => (before - 1) / 2 + 1,
             Shape::Random => (random >> 8) % before + 1,
+            Shape::Comb => before - before % 2,
             Shape::Star => 1,
+            Shape::Handle => before.min(2),
+            Shape::Stars => before - before % 256,
+            Shape::Broom => before.min(count / 2),
         };
+        let parent = parent.max(1);
         nodes.push(Node {
             records: 1,
             parent,
@@ -66,18 +75,23 @@ fn shaped_tree(alloc: Global, shape: Shape, count: u32) -> Result<Tree, AllocErr
     Ok(Tree { nodes })
 }
 
-// Trees of as many versions as there may be; and the worst case, a star, each cut of which takes a single version from its
-// part. Each prints its time.
+// Trees of as many versions as there may be: some are halved by each cut, from others each cut takes a single version. Each prints its
+// time.
 #[test]
 fn large_trees_are_divided(rt: HostRuntime) -> Result<(), Fail> {
     let alloc = rt.alloc();
+    let count = 65_535;
     let cases = [
-        ("a chain", Shape::Chain, 65_535, 16),
-        ("a binary tree", Shape::Binary, 65_535, 18),
-        ("a random tree", Shape::Random, 65_535, 23),
-        ("a star", Shape::Star, 4_000, 3_999),
+        ("a chain", Shape::Chain, 16),
+        ("a binary tree", Shape::Binary, 18),
+        ("a random tree", Shape::Random, 23),
+        ("a comb", Shape::Comb, 16),
+        ("a star", Shape::Star, 65_534),
+        ("a star on a handle", Shape::Handle, 65_534),
+        ("256 stars", Shape::Stars, 263),
+        ("a broom", Shape::Broom, 32_769),
     ];
-    for (name, shape, count, depth) in cases {
+    for (name, shape, depth) in cases {
         let tree = shaped_tree(alloc, shape, count)?;
         assert!(rt; is_sound(&tree));
         let start = Instant::now(&rt)?;

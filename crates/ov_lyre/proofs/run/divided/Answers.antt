@@ -16,7 +16,8 @@ loop-piece-init c =
       rw (pushed, c.new-3.ensures.items, c.new-4.ensures.items) (leads-start (tree_of nodes) (sound-tree nodes c.requires.sound) c.args.threshold.p c.args.threshold.q c.requires.threshold (length nodes) c.args.whole.items c.requires.part long),
       (let n = c.in_ok-scratch.ensures.counts in omega arith),
       (let n = c.in_ok-scratch.ensures.sums in omega arith),
-      (let n = c.in_ok-scratch.ensures.marks in omega arith),
+      (let n = c.in_ok-scratch.ensures.members in omega arith),
+      (let n = c.in_ok-scratch.ensures.numbers in omega arith),
     )
 
 pub advance-requires-clause-part : goal.advance-requires-clause-part
@@ -41,9 +42,11 @@ loop-piece-preserved c =
     let leads = subst P (ap pieces_of c.in-Some.ensures.items ∙ pieces_of-last c.pop.new.self.items c.in-Some.piece) c.loop-piece.invariant.0 in
     let a = c.loop-piece.invariant.1 in
     let b = c.loop-piece.invariant.2 in
-    let d = c.loop-piece.invariant.3 in (
+    let d = c.loop-piece.invariant.3 in
+    let e = c.loop-piece.invariant.4 in (
       c.in_ok-advance.ensures.leads c.args.whole.items leads,
       (let n = c.in_ok-advance.ensures.counts in omega arith),
       (let n = c.in_ok-advance.ensures.sums in omega arith),
-      (let n = c.in_ok-advance.ensures.marks in omega arith),
+      (let n = c.in_ok-advance.ensures.members in omega arith),
+      (let n = c.in_ok-advance.ensures.numbers in omega arith),
     )
