@@ -1,9 +1,7 @@
 -- A flip over partitions as they are kept and as they are seen.
 use Rattle.std.proofs.Common.{◌≡◌, ℕ, zero, suc, ◌+◌, ◌-◌, ◌<◌, ◌≤◌, false, eqb, List, [], ◌∷◌, ◌++◌, length, get_or, map, refl, ap, ◌∙◌, inl, inr, arith}
-use Rattle.std.specs.Prelude.{flat_map, sum_by}
+use Rattle.std.specs.Prelude.{flat_map}
 use Rattle.std.proofs.lemmas.Bool.{cases_Bool, ne_eqb}
-use Rattle.std.proofs.lemmas.List.{length-append}
-use Rattle.std.proofs.lemmas.List.Sums.{sum_by-cons}
 use Rattle.ov_host.specs.declared.area.Extent.{Extent}
 use Rattle.ov_layout.specs.declared.part.Part.{Part}
 use Rattle.ov_layout.specs.Parts.{has}
@@ -94,17 +92,4 @@ parted-few t part =
     elim (cases_Bool (eqb part.id t.source)) [
       | inl e ↦ rw e (others-few 0 t.kept part.segments)
       | inr e ↦ rw e (omega arith)
-    ]
-
-pub given-few : (t : TargetNumbers) (parts : List Part) → length (flat_map (parted_with t) (emptied t (map part_in parts))) ≤ sum_by (λ (p : Part). length p.segments) parts
-given-few t [] = omega arith
-given-few t (part ∷ parts) =
-    let rest = given-few t parts in
-    let own = parted-few t part in
-    let sum = sum_by-cons (λ (p : Part). length p.segments) part parts in
-    elim (cases_Bool (is_empty (leaving t.versions (part_in part)))) [
-      | inl e ↦
-          let all = length-append (parted_with t (part_in part)) (flat_map (parted_with t) (emptied t (map part_in parts))) in
-          rw e (omega (arith, rest, own, sum, all))
-      | inr e ↦ rw e (omega (arith, rest, sum))
     ]

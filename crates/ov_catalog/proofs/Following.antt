@@ -8,7 +8,7 @@ use Rattle.ov_event.specs.declared.event.Event.TheVariants as says
 use Rattle.ov_event.specs.declared.whole.Whole.{Whole}
 use Rattle.ov_host.specs.declared.area.Extent.{Extent}
 use Rattle.ov_model.specs.Built.{is_built, IfBuilt}
-use Rattle.ov_model.specs.Moves.{Move, moved}
+use Rattle.ov_model.specs.Moves.{Move}
 use Rattle.ov_model.specs.World.{World, empty_world_of}
 use Rattle.ov_catalog.specs.Applying.{AllApply, AllFollow, Reach, Stage, first_off, is_built_event, next_off, number_off, off_at, reach_after, stage_after, start_of}
 use Rattle.ov_catalog.specs.Events.{applied, replayed}

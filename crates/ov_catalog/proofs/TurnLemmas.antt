@@ -1,6 +1,6 @@
 -- A target's turn: it can become a partition, and the plan can run on.
 use Rattle.std.proofs.Common.{◌≡◌, ℕ, suc, ◌+◌, ◌-◌, ◌<◌, ◌≤◌, ◌^◌, Bool, true, false, ◌||◌, eqb, List, [], ◌∷◌, ◌++◌, length, drop, map, refl, sym, ap, subst, ◌∙◌, inl, inr, arith, append-nil}
-use Rattle.std.specs.Prelude.{Option, Some, None, filter, flat_map, sum_by, nat_le, min, ◌==◌, ◌&&◌}
+use Rattle.std.specs.Prelude.{Option, Some, None, filter, flat_map, nat_le, min, ◌==◌, ◌&&◌}
 use Rattle.std.specs.Option.{option_or}
 use Rattle.std.proofs.lemmas.Bool.{cases_Bool, eq-eqb, eqb-true, leb-true}
 use Rattle.std.proofs.lemmas.List.{drop_more, length-drop}
@@ -27,7 +27,7 @@ use Rattle.ov_catalog.specs.Extents.{emptied, given_by, parted_with}
 use Rattle.ov_catalog.specs.Numbers.{PartNumbers, PlanNumbers, SetNumbers, TargetNumbers}
 use Rattle.ov_catalog.specs.Planning.{copy_off, flip_off, missing}
 use Rattle.ov_catalog.specs.Thresholds.{IsSaid}
-use Rattle.ov_catalog.proofs.FlipLemmas.{chosen-in, given-few, given-in, left-in, push-in, segments-in}
+use Rattle.ov_catalog.proofs.FlipLemmas.{chosen-in, given-in, left-in, push-in, segments-in}
 use Rattle.ov_catalog.specs.Applying.{targets_from}
 use Rattle.ov_catalog.specs.Steps.{current_steps, later_steps, plan_steps, steps_for}
 use Rattle.ov_catalog.proofs.TargetLemmas.{current-in, from-in}
@@ -283,15 +283,6 @@ given-is d plan is lt =
     given-in (flip_by plan) (target_in (current plan)) d.layout.parts refl refl refl
     ∙ ap (λ (t : TargetNumbers). flat_map (parted_with t) (emptied t (map part_in d.layout.parts))) (sym (seen-current plan lt))
     ∙ ap (λ (o : Option Plan). given_by (plan_in o) (map part_in d.layout.parts)) (sym is)
-
-pub given-most : (d : Cvd) (plan : Plan) → d.plan ≡ Some plan → plan.at < length plan.targets → length (given_by (plan_in d.plan) (map part_in d.layout.parts)) ≤ sum_by (λ (p : Part). length p.segments) d.layout.parts
-given-most d plan is lt =
-    let same : given_by (plan_in d.plan) (map part_in d.layout.parts) ≡ flat_map (parted_with (target_in (current plan))) (emptied (target_in (current plan)) (map part_in d.layout.parts)) =
-    ap (λ (o : Option Plan). given_by (plan_in o) (map part_in d.layout.parts)) is
-    ∙ ap (λ (t : TargetNumbers). flat_map (parted_with t) (emptied t (map part_in d.layout.parts))) (seen-current plan lt) in
-    let few = given-few (target_in (current plan)) d.layout.parts in
-    let long = ap (λ (es : List Extent). length es) same in
-    omega (arith, few, long)
 
 pub flipped-number : (d : SetNumbers Extent Extent) → (events.flipped d).number ≡ d.number
 flipped-number d = by d.plan

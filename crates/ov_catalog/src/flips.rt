@@ -16,7 +16,6 @@ use crate::cvd::{Cvd, Plan};
 use crate::error::ApplyErr;
 use crate::field::Field;
 use crate::finding::place_of;
-use crate::freeing::segments_in;
 use crate::refusing::unless;
 use ov_host::Extent;
 use std::alloc::{AllocError, Global};
@@ -62,7 +61,7 @@ fn room_in(alloc: Global, d: &mut Cvd, freed: &mut Vec<Extent>) -> Result<Vec<u3
     check_flip(plan)?;
     let versions = room_in_plan(alloc, plan)?;
     d.layout.reserve(versions.len() as u32, None)?;
-    let Some(count) = segments_in(d.layout.parts()) else {
+    let Some(count) = d.layout.segments_led(&versions) else {
         return Err(ApplyErr::Memory);
     };
     freed.reserve(count)?;

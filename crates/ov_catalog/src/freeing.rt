@@ -37,7 +37,7 @@ fn copied_in(plan: &Option<Plan>) -> usize
 }
 
 /// How many segments partitions have; `None` where a usize can't count them.
-pub fn segments_in(parts: &[Part]) -> Option<usize>
+fn segments_in(parts: &[Part]) -> Option<usize>
     ensures { IfSome result (λ count. count ≡ sum_by (λ part. length part.segments) parts.now) }
 {
     let mut count = 0usize;

@@ -1,7 +1,8 @@
 -- Partitions without versions.
-use Rattle.std.proofs.Common.{◌≡◌, ℕ, zero, suc, ◌+◌, ◌<◌, ◌≤◌, Bool, true, false, not, cond, List, [], ◌∷◌, ◌++◌, length, get_or, take, drop, refl, ap, inl, inr, arith}
+use Rattle.std.proofs.Common.{◌≡◌, ℕ, zero, suc, ◌+◌, ◌<◌, ◌≤◌, Bool, true, false, not, cond, All, List, [], ◌∷◌, ◌++◌, length, get_or, take, drop, refl, ap, inl, inr, arith}
 use Rattle.std.specs.Prelude.{filter, sum_by}
 use Rattle.std.proofs.lemmas.Bool.{cases_Bool}
+use Rattle.std.proofs.lemmas.List.Elements.{All-head, All-tail}
 use Rattle.std.proofs.lemmas.List.Sums.{sum_by-cons, sum_by_more_le_part}
 use Rattle.ov_layout.specs.declared.part.Part.{Part}
 use Rattle.ov_layout.specs.Parts.{stored_of}
@@ -50,3 +51,16 @@ take-all zero [] le = refl
 take-all (suc k) [] le = refl
 take-all zero (part ∷ parts) le = absurd (omega arith)
 take-all (suc k) (part ∷ parts) le = ap (λ (ps : List Part). part ∷ ps) (take-all k parts (omega arith))
+
+-- where no partition is empty, none goes
+pub none-empty : (parts : List Part) → All (λ p. is_empty p ≡ false) parts → filter (λ p. not (is_empty p)) parts ≡ parts
+none-empty [] some = refl
+none-empty (part ∷ parts) some =
+    let here = All-head (λ (p : Part). is_empty p ≡ false) part parts some in
+    rw here (ap (λ (ps : List Part). part ∷ ps) (none-empty parts (All-tail (λ (p : Part). is_empty p ≡ false) part parts some)))
+
+pub none-gone : (source : ℕ) (kept : List ℕ) (parts : List Part) → All (λ p. is_empty p ≡ false) parts → gone_from source kept parts ≡ []
+none-gone source kept [] some = refl
+none-gone source kept (part ∷ parts) some =
+    let here = All-head (λ (p : Part). is_empty p ≡ false) part parts some in
+    rw here (none-gone source kept parts (All-tail (λ (p : Part). is_empty p ≡ false) part parts some))

@@ -2,14 +2,14 @@
 use Rattle.std.proofs.Common.{◌≡◌, ℕ, zero, suc, ◌+◌, ◌*◌, ◌<◌, ◌≤◌, Bool, true, false, not, ◌||◌, eqb, List, [], ◌∷◌, length, get_or, set, take, map, refl, sym, ap, subst, ◌∙◌, inl, inr, arith}
 use Rattle.std.specs.Prelude.{All, filter}
 use Rattle.std.proofs.Math.Seq.{map-set_same}
-use Rattle.std.proofs.lemmas.Bool.{cases_Bool, eq-eqb, ne_eqb, eqb-true}
+use Rattle.std.proofs.lemmas.Bool.{cases_Bool, or_parts, eq-eqb, ne_eqb, eqb-true}
 use Rattle.std.proofs.lemmas.List.{get_or-set_same, length-set}
 use Rattle.std.proofs.lemmas.List.Elements.{All-set}
 use Rattle.std.proofs.lemmas.List.Sums.{sum_by-set, sum_by_more_le}
 use Rattle.ov_layout.specs.declared.part.Part.{Part}
 use Rattle.ov_layout.specs.Parts.{has, serves, Ascend, cost_of}
 use Rattle.ov_layout.specs.Index.{numbers_of}
-use Rattle.ov_layout.specs.Flips.{leaving}
+use Rattle.ov_layout.specs.Flips.{leaving, is_empty}
 use Rattle.ov_layout.specs.Leaving.{IsOwned, VersionsAscend}
 use Rattle.ov_layout.proofs.VidLemmas.{Ascend-weaker, has-more, has-get, keys-one}
 
@@ -179,3 +179,9 @@ cost-one now at d lt =
     let more = sum_by_more_le (λ (p : Part). length p.versions * p.records) now at d lt in
     let total : cost_of (take at now) + length (get_or now at d).versions * (get_or now at d).records ≤ cost_of now = more in
     omega (arith, total)
+
+-- no partition is empty, where none was and the one that was left isn't
+pub some-left : (now : List Part) (at : ℕ) (part : Part) (was is : Bool) → (was ≡ false → All (λ p. is_empty p ≡ false) now) → is ≡ is_empty part → (was || is) ≡ false → All (λ p. is_empty p ≡ false) (set now at part)
+some-left now at part was is before said none =
+    let both = or_parts was is none in
+    All-set (λ (p : Part). is_empty p ≡ false) now at part (sym said ∙ both.1) (before both.0)

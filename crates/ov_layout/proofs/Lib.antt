@@ -11,3 +11,5 @@ pub mod JoinLemmas
 pub mod CountLemmas
 pub mod FlippedLemmas
 pub mod NewLemmas
+pub mod LedLemmas
+pub mod TakenLemmas

@@ -1,8 +1,8 @@
 -- A flip in steps: versions leave, then partitions without versions go.
-use Rattle.std.specs.Prelude.{◌≡◌, ℕ, true, ◌==◌, if◌then◌else◌, List, [], ◌∷◌, ◌++◌}
+use Rattle.std.specs.Prelude.{◌≡◌, ℕ, Bool, true, false, ◌==◌, if◌then◌else◌, Option, Some, None, List, [], ◌∷◌, ◌++◌, length}
 use Rattle.ov_host.specs.declared.area.Extent.{Extent}
 use Rattle.ov_layout.specs.declared.part.Part.{Part}
-use Rattle.ov_layout.specs.Parts.{serves, Ascend}
+use Rattle.ov_layout.specs.Parts.{has, serves, Ascend}
 use Rattle.ov_layout.specs.Flips.{is_empty, others}
 
 -- each version of a partition has the partition's number as its own
@@ -21,3 +21,13 @@ abbrev pub gone_from : ℕ → List ℕ → List Part → List Extent
 gone_from source kept [] = []
 gone_from source kept (part ∷ parts) =
     if is_empty part then gone_of source kept part ++ gone_from source kept parts else gone_from source kept parts
+
+-- whether a list's first number is among others
+abbrev pub is_led : List ℕ → List ℕ → Bool
+is_led versions [] = false
+is_led versions (vid ∷ vids) = has versions vid
+
+-- the number of segments of a partition that a version is the first of
+abbrev pub led_by : ℕ → Option Part → ℕ
+led_by vid None = 0
+led_by vid (Some part) = if is_led (vid ∷ []) part.versions then length part.segments else 0

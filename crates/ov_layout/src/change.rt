@@ -85,6 +85,7 @@ pub fn join_part(part: &mut Part, vid: u32, added: u32, segment: Extent, spare: 
 /// Versions leave a partition. Answers by how much its cost falls.
 pub fn leave_part(part: &mut Part, versions: &[u32]) -> u64
     requires ascend { Ascend 0 versions.now }
+    requires own { Ascend 0 part.old.versions }
     requires cost { length part.old.versions * part.old.records < 2 ^ 64 }
     ensures left { part.new ≡ leaving versions.now part.old }
     ensures saved { result + length part.new.versions * part.new.records ≡ length part.old.versions * part.old.records }

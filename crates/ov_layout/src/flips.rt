@@ -1,10 +1,10 @@
 //! A flip, step by step.
 
-ghost use Rattle.std.specs.Prelude.{◌≡◌, ℕ, true, ◌+◌, ◌*◌, ◌<◌, ◌≤◌, ◌^◌, ◌++◌, not, filter, map, length, vec_capacity, All};
+ghost use Rattle.std.specs.Prelude.{◌≡◌, ℕ, true, false, ◌+◌, ◌*◌, ◌<◌, ◌≤◌, ◌^◌, ◌++◌, ◌∷◌, [], not, filter, map, length, vec_capacity, All};
 ghost use Rattle.ov_layout.specs.Parts.{has, Ascend, cost_of, stored_of};
 ghost use Rattle.ov_layout.specs.Index.{AreEntries, number_at, numbers_of};
 ghost use Rattle.ov_layout.specs.Flips.{AreBelow, leaving, is_empty, chosen, others, segments_at};
-ghost use Rattle.ov_layout.specs.Leaving.{IsOwned, VersionsAscend, gone_from, gone_of};
+ghost use Rattle.ov_layout.specs.Leaving.{IsOwned, VersionsAscend, gone_from, gone_of, is_led};
 
 use crate::change::leave_part;
 use crate::index::{Entry, number_at};
@@ -12,9 +12,25 @@ use crate::part::Part;
 use crate::search::{is_among, place_of};
 use ov_host::Extent;
 
-/// Versions leave their partitions. Answers by how much the cost falls. Each partition is gone through once, at the
-/// first of its versions that leave it.
-pub fn leave(parts: &mut [Part], index: &[Entry], versions: &[u32]) -> u64
+/// Whether a version is the first of a list.
+pub fn is_first(vids: &[u32], vid: u32) -> bool
+    ensures { result ≡ is_led (vid ∷ []) vids.now }
+{
+    match vids.first() {
+        None => false,
+        Some(first) => vid == *first,
+    }
+}
+
+/// What versions that left their partitions leave behind them: by how much the cost falls, and whether a partition is empty.
+#[derive(Clone, Copy)]
+pub struct Gone {
+    pub saved: u64,
+    pub emptied: bool,
+}
+
+/// Versions leave their partitions. Each partition is gone through once, at the first of its versions that leave it.
+pub fn leave(parts: &mut [Part], index: &[Entry], versions: &[u32]) -> Gone
     requires ascend { Ascend 0 versions.now }
     requires entries { AreEntries 0 index.now }
     requires numbers { Ascend 0 (numbers_of parts.old) }
@@ -22,23 +38,34 @@ pub fn leave(parts: &mut [Part], index: &[Entry], versions: &[u32]) -> u64
     requires owned { All (IsOwned (λ vid. number_at vid index.now)) parts.old }
     requires placed { (vid : ℕ) → has versions.now vid ≡ true → has (numbers_of parts.old) (number_at vid index.now) ≡ true }
     requires cost { cost_of parts.old < 2 ^ 64 }
+    requires some { All (λ part. is_empty part ≡ false) parts.old }
     ensures left { parts.new ≡ map (leaving versions.now) parts.old }
-    ensures saved { result + cost_of parts.new ≡ cost_of parts.old }
+    ensures saved { result.saved + cost_of parts.new ≡ cost_of parts.old }
+    ensures emptied { result.emptied ≡ false → All (λ part. is_empty part ≡ false) parts.new }
 {
     let mut saved = 0;
+    let mut emptied = false;
     for vid in versions {
         let at = place_of(parts, number_at(index, *vid));
         let part = &mut parts[at];
         if is_among(part.versions.as_slice(), *vid as usize) {
             saved += leave_part(part, versions);
+            emptied |= part.versions.as_slice().is_empty();
         }
     }
-    saved
+    Gone { saved, emptied }
 }
 
 /// Partitions without versions go, and give their segments up, but for those that a flip keeps of its source.
-/// Answers how many records they kept.
-pub fn give_up(parts: &mut Vec<Part>, source: u32, kept: &[u32], freed: &mut Vec<Extent>) -> u64
+/// Answers how many records they kept. Where none was emptied, none is looked at.
+pub fn give_up(
+    parts: &mut Vec<Part>,
+    emptied: bool,
+    source: u32,
+    kept: &[u32],
+    freed: &mut Vec<Extent>,
+) -> u64
+    requires emptied { emptied ≡ false → All (λ part. is_empty part ≡ false) parts.old.items }
     requires ascend { Ascend 0 kept.now }
     requires room { length freed.old.items + length (gone_from source kept.now parts.old.items) ≤ vec_capacity freed.old }
     requires stored { stored_of parts.old.items < 2 ^ 64 }
@@ -47,6 +74,9 @@ pub fn give_up(parts: &mut Vec<Part>, source: u32, kept: &[u32], freed: &mut Vec
     ensures gone { result + stored_of parts.new.items ≡ stored_of parts.old.items }
     ensures capacity { vec_capacity parts.old ≤ vec_capacity parts.new }
 {
+    if !emptied {
+        return 0;
+    }
     let mut gone = 0;
     for part in parts.iter() {
         if part.versions.as_slice().is_empty() {

@@ -1,10 +1,11 @@
 //! A layout.
 
-ghost use Rattle.std.specs.Prelude.{◌≡◌, ◌+◌, ◌-◌, ◌*◌, ◌<◌, ◌≤◌, ◌^◌, true, [], ◌++◌, None, length, option_copied, vec_capacity, OnOk, OnErr, IfOk};
+ghost use Rattle.std.specs.Prelude.{◌≡◌, ◌+◌, ◌-◌, ◌*◌, ◌<◌, ◌≤◌, ◌^◌, true, [], ◌++◌, None, length, option_copied, vec_capacity, OnOk, OnErr, IfOk, IfSome};
 ghost use Rattle.ov_layout.specs.declared.room.Room.TheVariants.{Nothing, Placing, Joining};
 ghost use Rattle.ov_layout.specs.Parts.{AreParts, part_with, is_placed, records_at, stored_of, cost_of, pages_for, segments_for};
 ghost use Rattle.ov_layout.specs.Changes.{IsNew, IsRoomFor, IsThere, room_for, with_own, with_joined};
-ghost use Rattle.ov_layout.specs.Flips.{MayFlip, flip_of, given_up, with_flipped};
+ghost use Rattle.ov_layout.specs.Leaving.{led_by};
+ghost use Rattle.ov_layout.specs.Flips.{Flip, MayFlip, flip_of, given_up, with_flipped};
 
 use crate::index::{self, Entry, index_of};
 use crate::lists::{Extents, Vids};
@@ -201,6 +202,36 @@ impl Layout {
         self.room = Room::Nothing;
     }
 
+    /// The number of segments of the partition that a version is the first of; 0 where it is the first of none.
+    fn led_by(&self, vid: u32) -> usize
+        ensures { result ≡ led_by vid (part_with vid self.now.parts) }
+    {
+        match self.part_of(vid) {
+            None => 0,
+            Some(part) => {
+                if flips::is_first(part.versions.as_slice(), vid) {
+                    part.segments.as_slice().len()
+                } else {
+                    0
+                }
+            }
+        }
+    }
+
+    /// How many segments the partitions have whose first versions are among these: at least as many as a flip of them gives up.
+    /// `None` past the greatest `usize`.
+    pub fn segments_led(&self, versions: &[u32]) -> Option<usize>
+        ensures { IfSome result (λ count. (flip : Flip) → flip.versions ≡ versions.now → length (given_up flip self.now.parts) ≤ count) }
+    {
+        // No partition is empty, and no version is in two.
+        let _ = self.parts();
+        let mut count = 0usize;
+        for vid in versions {
+            count = count.checked_add(self.led_by(*vid))?;
+        }
+        Some(count)
+    }
+
     /// A target becomes a partition: it serves and holds these versions, which leave their partitions, and its
     /// segments are those of the partition `source` at the places `kept`, then the copied ones. A partition without
     /// versions goes, and its segments, but for the kept ones, are put behind `freed`. A `source` of 0 is none.
@@ -225,10 +256,10 @@ impl Layout {
         let id = self.next;
         let mut segments = copied;
         flips::with_kept(&self.parts, source, kept, &mut segments);
-        let saved = flips::leave(&mut self.parts, &self.index, &versions);
-        let gone = flips::give_up(&mut self.parts, source, kept, freed);
+        let left = flips::leave(&mut self.parts, &self.index, &versions);
+        let gone = flips::give_up(&mut self.parts, left.emptied, source, kept, freed);
         index::move_to(&mut self.index, &versions, id);
-        self.cost = self.cost - saved + versions.len() as u64 * u64::from(records);
+        self.cost = self.cost - left.saved + versions.len() as u64 * u64::from(records);
         self.stored = self.stored - gone + u64::from(records);
         let mut holds = mem::replace(&mut self.fresh.holds, Vec::new(self.alloc));
         // There is room, so this takes no memory.

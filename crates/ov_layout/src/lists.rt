@@ -1,6 +1,6 @@
 //! Lists of versions and of extents.
 
-ghost use Rattle.std.specs.Prelude.{◌≡◌, ◌<◌, [], ◌∷◌, ◌++◌, not, filter, length, vec_capacity};
+ghost use Rattle.std.specs.Prelude.{◌≡◌, ◌<◌, ◌==◌, [], ◌∷◌, ◌++◌, not, filter, length, vec_capacity};
 ghost use Rattle.ov_layout.specs.Parts.{has, Ascend};
 
 use crate::search::is_among;
@@ -14,14 +14,43 @@ pub type Vids = Items<u32>;
 /// Extents in order.
 pub type Extents = Items<Extent>;
 
+/// Up to so many vids are searched and taken off one by one, so that those that stay are moved and not looked at.
+const FEW: usize = 8;
+
 /// Takes these vids off.
 pub(crate) fn leave(vids: &mut Vids, leaving: &[u32])
-    requires { Ascend 0 leaving.now }
+    requires leaving { Ascend 0 leaving.now }
+    requires vids { Ascend 0 vids.old }
     ensures { vids.new ≡ filter (λ vid. not (has leaving.now vid)) vids.old }
 {
     let mut kept = vids.take();
-    kept.retain(|vid| !is_among(leaving, *vid as usize));
+    if leaving.len() <= FEW {
+        take_each_off(&mut kept, leaving);
+    } else {
+        kept.retain(|vid| !is_among(leaving, *vid as usize));
+    }
     *vids = Items::new(kept);
+}
+
+/// Takes these vids off, one after another.
+fn take_each_off(list: &mut Vec<u32>, leaving: &[u32])
+    requires { Ascend 0 list.old.items }
+    ensures { list.new.items ≡ filter (λ vid. not (has leaving.now vid)) list.old.items }
+{
+    for vid in leaving {
+        take_off(list, *vid);
+    }
+}
+
+/// Takes a vid off, where it is there.
+fn take_off(list: &mut Vec<u32>, vid: u32)
+    requires { Ascend 0 list.old.items }
+    ensures { list.new.items ≡ filter (λ v. not (v == vid)) list.old.items }
+{
+    let at = list.partition_point(|v| *v < vid);
+    if at < list.len() && list[at] == vid {
+        list.remove(at);
+    }
 }
 
 /// Puts an item at the end. Takes no memory: see [`push_or_move`].

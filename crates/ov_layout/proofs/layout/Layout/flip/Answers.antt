@@ -6,6 +6,7 @@ use Rattle.ov_layout.specs.Parts.{Partitions}
 use Rattle.ov_layout.specs.Flips.{flip_of, leaving, left_parts, flipped_part, chosen, segments_at}
 use Rattle.ov_layout.proofs.VidLemmas.{Ascend-weaker}
 use Rattle.ov_layout.proofs.PlacedLemmas.{ids-ascend, versions-ascend}
+use Rattle.ov_layout.proofs.LedLemmas.{none-empty-yet}
 use Rattle.ov_layout.proofs.AddLemmas.{next-some}
 use Rattle.ov_layout.proofs.RoomLemmas.{placing-room, numbers-fit}
 use Rattle.ov_layout.proofs.FlippedLemmas.{HasFlipped, flip-all, length-left, gone-given, owned-index, placed-index, some-index, whole}
@@ -15,21 +16,24 @@ pub with_kept-requires-clause-numbers : goal.with_kept-requires-clause-numbers
 with_kept-requires-clause-numbers c =
     rw c.deref.ensures.value (Ascend-weaker 0 1 _ (omega arith) (ids-ascend 1 _ _ c.self.invariant.0.sound.sound))
 
-pub leave-saved-requires-clause-numbers : goal.leave-saved-requires-clause-numbers
-leave-saved-requires-clause-numbers c =
+pub leave-left-requires-clause-numbers : goal.leave-left-requires-clause-numbers
+leave-left-requires-clause-numbers c =
     rw c.deref_mut.ensures.value (Ascend-weaker 0 1 _ (omega arith) (ids-ascend 1 _ _ c.self.invariant.0.sound.sound))
 
-pub leave-saved-requires-clause-versions : goal.leave-saved-requires-clause-versions
-leave-saved-requires-clause-versions c =
+pub leave-left-requires-clause-versions : goal.leave-left-requires-clause-versions
+leave-left-requires-clause-versions c =
     rw c.deref_mut.ensures.value (versions-ascend 1 _ _ c.self.invariant.0.sound.sound)
 
-pub leave-saved-requires-clause-owned : goal.leave-saved-requires-clause-owned
-leave-saved-requires-clause-owned c =
+pub leave-left-requires-clause-some : goal.leave-left-requires-clause-some
+leave-left-requires-clause-some c = rw c.deref_mut.ensures.value (none-empty-yet 1 _ _ c.self.invariant.0.sound.sound)
+
+pub leave-left-requires-clause-owned : goal.leave-left-requires-clause-owned
+leave-left-requires-clause-owned c =
     let numbers = c.self.invariant.0 in
     rw (c.deref_mut.ensures.value, c.deref-2.ensures.value) (owned-index c.self.inside.index.items c.self.inside.parts.items c.self.inside.next numbers.sound numbers.index_is)
 
-pub leave-saved-requires-clause-placed : goal.leave-saved-requires-clause-placed
-leave-saved-requires-clause-placed c =
+pub leave-left-requires-clause-placed : goal.leave-left-requires-clause-placed
+leave-left-requires-clause-placed c =
     let numbers = c.self.invariant.0 in
     let may = rw (← c.self.view_is) at c.requires.flip in
     rw (c.deref-3.ensures.value, c.deref_mut.ensures.value, c.deref-2.ensures.value) (placed-index c.self.inside.index.items c.self.inside.parts.items c.self.inside.next c.args.versions.items numbers.sound numbers.index_is may.placed)
@@ -39,9 +43,9 @@ give_up-gone-requires-clause-room c =
     let parts = c.self.inside.parts.items in
     let versions = c.args.versions.items in
     let flip = flip_of versions c.args.records c.args.source c.args.kept.now c.args.copied.items in
-    let new : c.leave-saved.new.parts ≡ map (leaving versions) parts = c.leave-saved.ensures.left ∙ rw (c.deref-3.ensures.value, c.deref_mut.ensures.value) refl in
-    let len : length c.leave-saved.new.parts ≡ length parts = c.leave-saved.auto.parts ∙ ap (λ (ps : List Part). length ps) c.deref_mut.ensures.value in
-    let written = whole c.leave-saved.new.parts parts c.self.inside.parts.len len c.self.inside.parts.ok.0 ∙ new in
+    let new : c.leave-left.new.parts ≡ map (leaving versions) parts = c.leave-left.ensures.left ∙ rw (c.deref-3.ensures.value, c.deref_mut.ensures.value) refl in
+    let len : length c.leave-left.new.parts ≡ length parts = c.leave-left.auto.parts ∙ ap (λ (ps : List Part). length ps) c.deref_mut.ensures.value in
+    let written = whole c.leave-left.new.parts parts c.self.inside.parts.len len c.self.inside.parts.ok.0 ∙ new in
     let room = rw (← c.self.view_is) at c.requires.freed in
     rw (written, gone-given flip parts) room
 
@@ -61,10 +65,10 @@ overflow_add-self c =
     let versions = c.args.versions.items in
     let flip = flip_of versions c.args.records c.args.source c.args.kept.now c.args.copied.items in
     let may = rw (← c.self.view_is) at c.requires.flip in
-    let new : c.leave-saved.new.parts ≡ map (leaving versions) parts = c.leave-saved.ensures.left ∙ rw (c.deref-3.ensures.value, c.deref_mut.ensures.value) refl in
-    let len : length c.leave-saved.new.parts ≡ length parts = c.leave-saved.auto.parts ∙ ap (λ (ps : List Part). length ps) c.deref_mut.ensures.value in
-    let written = whole c.leave-saved.new.parts parts inside.parts.len len inside.parts.ok.0 ∙ new in
-    let saved = rw (new, c.deref_mut.ensures.value) at c.leave-saved.ensures.saved in
+    let new : c.leave-left.new.parts ≡ map (leaving versions) parts = c.leave-left.ensures.left ∙ rw (c.deref-3.ensures.value, c.deref_mut.ensures.value) refl in
+    let len : length c.leave-left.new.parts ≡ length parts = c.leave-left.auto.parts ∙ ap (λ (ps : List Part). length ps) c.deref_mut.ensures.value in
+    let written = whole c.leave-left.new.parts parts inside.parts.len len inside.parts.ok.0 ∙ new in
+    let saved = rw (new, c.deref_mut.ensures.value) at c.leave-left.ensures.saved in
     let left = rw written at c.give_up-gone.ensures.left in
     let gone = rw (left, written) at c.give_up-gone.ensures.gone in
     let moved : HasFlipped inside.index.items c.move_to.new.index versions inside.next = record {
@@ -72,7 +76,7 @@ overflow_add-self c =
       numbers = rw (c.deref-4.ensures.value, c.deref_mut-2.ensures.value) at c.move_to.ensures.moved;
       count = c.move_to.auto.index ∙ ap (λ (es : List Entry). length es) c.deref_mut-2.ensures.value;
     } in
-    let all = flip-all inside.index.items c.move_to.new.index parts inside.next inside.stored inside.cost c.leave-saved.result c.give_up-gone.result flip c.self.invariant.0 may moved c.ranges.records.fits saved gone in
+    let all = flip-all inside.index.items c.move_to.new.index parts inside.next inside.stored inside.cost c.leave-left.result.saved c.give_up-gone.result flip c.self.invariant.0 may moved c.ranges.records.fits saved gone in
     let fit = numbers-fit _ _ _ _ _ all in
     let len_is : c.len.result ≡ length versions = c.len.ensures ∙ c.args.versions.ok.0 in
     rw (len_is, c.from.ensures) (omega (arith, fit.cost_fits))
@@ -84,10 +88,10 @@ overflow_add-self-2 c =
     let versions = c.args.versions.items in
     let flip = flip_of versions c.args.records c.args.source c.args.kept.now c.args.copied.items in
     let may = rw (← c.self.view_is) at c.requires.flip in
-    let new : c.leave-saved.new.parts ≡ map (leaving versions) parts = c.leave-saved.ensures.left ∙ rw (c.deref-3.ensures.value, c.deref_mut.ensures.value) refl in
-    let len : length c.leave-saved.new.parts ≡ length parts = c.leave-saved.auto.parts ∙ ap (λ (ps : List Part). length ps) c.deref_mut.ensures.value in
-    let written = whole c.leave-saved.new.parts parts inside.parts.len len inside.parts.ok.0 ∙ new in
-    let saved = rw (new, c.deref_mut.ensures.value) at c.leave-saved.ensures.saved in
+    let new : c.leave-left.new.parts ≡ map (leaving versions) parts = c.leave-left.ensures.left ∙ rw (c.deref-3.ensures.value, c.deref_mut.ensures.value) refl in
+    let len : length c.leave-left.new.parts ≡ length parts = c.leave-left.auto.parts ∙ ap (λ (ps : List Part). length ps) c.deref_mut.ensures.value in
+    let written = whole c.leave-left.new.parts parts inside.parts.len len inside.parts.ok.0 ∙ new in
+    let saved = rw (new, c.deref_mut.ensures.value) at c.leave-left.ensures.saved in
     let left = rw written at c.give_up-gone.ensures.left in
     let gone = rw (left, written) at c.give_up-gone.ensures.gone in
     let moved : HasFlipped inside.index.items c.move_to.new.index versions inside.next = record {
@@ -95,7 +99,7 @@ overflow_add-self-2 c =
       numbers = rw (c.deref-4.ensures.value, c.deref_mut-2.ensures.value) at c.move_to.ensures.moved;
       count = c.move_to.auto.index ∙ ap (λ (es : List Entry). length es) c.deref_mut-2.ensures.value;
     } in
-    let all = flip-all inside.index.items c.move_to.new.index parts inside.next inside.stored inside.cost c.leave-saved.result c.give_up-gone.result flip c.self.invariant.0 may moved c.ranges.records.fits saved gone in
+    let all = flip-all inside.index.items c.move_to.new.index parts inside.next inside.stored inside.cost c.leave-left.result.saved c.give_up-gone.result flip c.self.invariant.0 may moved c.ranges.records.fits saved gone in
     let fit = numbers-fit _ _ _ _ _ all in
     rw c.from-2.ensures (omega (arith, fit.stored_fits))
 
@@ -106,10 +110,10 @@ invariant_of-self c =
     let versions = c.args.versions.items in
     let flip = flip_of versions c.args.records c.args.source c.args.kept.now c.args.copied.items in
     let may = rw (← c.self.view_is) at c.requires.flip in
-    let new : c.leave-saved.new.parts ≡ map (leaving versions) parts = c.leave-saved.ensures.left ∙ rw (c.deref-3.ensures.value, c.deref_mut.ensures.value) refl in
-    let len : length c.leave-saved.new.parts ≡ length parts = c.leave-saved.auto.parts ∙ ap (λ (ps : List Part). length ps) c.deref_mut.ensures.value in
-    let written = whole c.leave-saved.new.parts parts inside.parts.len len inside.parts.ok.0 ∙ new in
-    let saved = rw (new, c.deref_mut.ensures.value) at c.leave-saved.ensures.saved in
+    let new : c.leave-left.new.parts ≡ map (leaving versions) parts = c.leave-left.ensures.left ∙ rw (c.deref-3.ensures.value, c.deref_mut.ensures.value) refl in
+    let len : length c.leave-left.new.parts ≡ length parts = c.leave-left.auto.parts ∙ ap (λ (ps : List Part). length ps) c.deref_mut.ensures.value in
+    let written = whole c.leave-left.new.parts parts inside.parts.len len inside.parts.ok.0 ∙ new in
+    let saved = rw (new, c.deref_mut.ensures.value) at c.leave-left.ensures.saved in
     let left = rw written at c.give_up-gone.ensures.left in
     let gone = rw (left, written) at c.give_up-gone.ensures.gone in
     let moved : HasFlipped inside.index.items c.move_to.new.index versions inside.next = record {
@@ -117,7 +121,7 @@ invariant_of-self c =
       numbers = rw (c.deref-4.ensures.value, c.deref_mut-2.ensures.value) at c.move_to.ensures.moved;
       count = c.move_to.auto.index ∙ ap (λ (es : List Entry). length es) c.deref_mut-2.ensures.value;
     } in
-    let all = flip-all inside.index.items c.move_to.new.index parts inside.next inside.stored inside.cost c.leave-saved.result c.give_up-gone.result flip c.self.invariant.0 may moved c.ranges.records.fits saved gone in
+    let all = flip-all inside.index.items c.move_to.new.index parts inside.next inside.stored inside.cost c.leave-left.result.saved c.give_up-gone.result flip c.self.invariant.0 may moved c.ranges.records.fits saved gone in
     let space = c.self.invariant.1 in
     let room = rw (← c.self.view_is) at c.requires.room in
     let place = placing-room inside.room (length versions) inside.parts inside.index inside.fresh inside.spare room space in
@@ -156,9 +160,9 @@ returns-clause-flipped c =
     let versions = c.args.versions.items in
     let flip = flip_of versions c.args.records c.args.source c.args.kept.now c.args.copied.items in
     let may = rw (← c.self.view_is) at c.requires.flip in
-    let new : c.leave-saved.new.parts ≡ map (leaving versions) parts = c.leave-saved.ensures.left ∙ rw (c.deref-3.ensures.value, c.deref_mut.ensures.value) refl in
-    let len : length c.leave-saved.new.parts ≡ length parts = c.leave-saved.auto.parts ∙ ap (λ (ps : List Part). length ps) c.deref_mut.ensures.value in
-    let written = whole c.leave-saved.new.parts parts inside.parts.len len inside.parts.ok.0 ∙ new in
+    let new : c.leave-left.new.parts ≡ map (leaving versions) parts = c.leave-left.ensures.left ∙ rw (c.deref-3.ensures.value, c.deref_mut.ensures.value) refl in
+    let len : length c.leave-left.new.parts ≡ length parts = c.leave-left.auto.parts ∙ ap (λ (ps : List Part). length ps) c.deref_mut.ensures.value in
+    let written = whole c.leave-left.new.parts parts inside.parts.len len inside.parts.ok.0 ∙ new in
     let left = rw written at c.give_up-gone.ensures.left in
     let space = c.self.invariant.1 in
     let room = rw (← c.self.view_is) at c.requires.room in
@@ -188,7 +192,7 @@ returns-clause-freed c =
     let versions = c.args.versions.items in
     let flip = flip_of versions c.args.records c.args.source c.args.kept.now c.args.copied.items in
     let may = rw (← c.self.view_is) at c.requires.flip in
-    let new : c.leave-saved.new.parts ≡ map (leaving versions) parts = c.leave-saved.ensures.left ∙ rw (c.deref-3.ensures.value, c.deref_mut.ensures.value) refl in
-    let len : length c.leave-saved.new.parts ≡ length parts = c.leave-saved.auto.parts ∙ ap (λ (ps : List Part). length ps) c.deref_mut.ensures.value in
-    let written = whole c.leave-saved.new.parts parts inside.parts.len len inside.parts.ok.0 ∙ new in
+    let new : c.leave-left.new.parts ≡ map (leaving versions) parts = c.leave-left.ensures.left ∙ rw (c.deref-3.ensures.value, c.deref_mut.ensures.value) refl in
+    let len : length c.leave-left.new.parts ≡ length parts = c.leave-left.auto.parts ∙ ap (λ (ps : List Part). length ps) c.deref_mut.ensures.value in
+    let written = whole c.leave-left.new.parts parts inside.parts.len len inside.parts.ok.0 ∙ new in
     rw (← c.self.view_is) (c.give_up-gone.ensures.freed ∙ rw (written, gone-given flip parts) refl)
