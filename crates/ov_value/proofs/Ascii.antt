@@ -1,8 +1,11 @@
 -- Eight bytes more that are ASCII.
-use Rattle.std.proofs.Common.{◌≡◌, ◌<◌, ◌≤◌, ◌-◌, ℕ, zero, suc, refl, List, [], ◌∷◌, length, get_or, take, drop, ◌∙◌, ap, subst, arith}
+use Rattle.std.proofs.Common.{◌≡◌, ◌<◌, ◌≤◌, ◌-◌, ◌/◌, ◌%◌, ◌^◌, bit_and, sym, w64, ℕ, zero, suc, refl, List, [], ◌∷◌, length, get_or, take, drop, ◌∙◌, ap, subst, arith}
+use Rattle.std.specs.Prelude.{min}
+use Rattle.std.specs.Int.{bit_at, from_le_bytes}
 use Rattle.std.specs.List.{All}
+use Rattle.std.proofs.lemmas.Nat.Bits.{bit_at_and, bit_at-zero}
 use Rattle.std.proofs.lemmas.List.{take_all}
-use Rattle.std.proofs.lemmas.List.Elements.{All-append, All-tail}
+use Rattle.std.proofs.lemmas.List.Elements.{All-append, All-from_recursion, All-tail}
 use Rattle.std.specs.Str.{IsAscii}
 
 abbrev pub Low : ℕ → Type 0
@@ -38,3 +41,44 @@ pub ascii_of : (xs : List ℕ) → All Low xs → IsAscii xs
 ascii_of [] all i = omega arith
 ascii_of (x ∷ xs) all zero = all 0 0 (omega arith)
 ascii_of (x ∷ xs) all (suc i) = ascii_of xs (All-tail Low x xs all) i
+
+-- ---- the highest bits of eight bytes
+
+no_bit : (v i : ℕ) → bit_and v 0x8080_8080_8080_8080 ≡ 0 → bit_at 0x8080_8080_8080_8080 i ≡ 1 → v / 2 ^ i % 2 ≡ 0
+no_bit v i none one =
+    let least : min (bit_at v i) 1 ≡ 0 = ap (λ n. min (bit_at v i) n) (sym one) ∙ sym (bit_at_and v 0x8080_8080_8080_8080 i) ∙ ap (λ n. bit_at n i) none ∙ bit_at-zero i in
+    omega (arith, least)
+
+pub low_eight : (a b c d e f g h v : ℕ) → a < 256 → b < 256 → c < 256 → d < 256 → e < 256 → f < 256 → g < 256 → h < 256
+    → v ≡ from_le_bytes w64 (a ∷ b ∷ c ∷ d ∷ e ∷ f ∷ g ∷ h ∷ []) → bit_and v 0x8080_8080_8080_8080 ≡ 0 → All Low (a ∷ b ∷ c ∷ d ∷ e ∷ f ∷ g ∷ h ∷ [])
+low_eight a b c d e f g h v fa fb fc fd fe ff fg fh is none =
+    let ba : v / 2 ^ 7 % 2 ≡ 0 = no_bit v 7 none refl in
+    let bb : v / 2 ^ 15 % 2 ≡ 0 = no_bit v 15 none refl in
+    let bc : v / 2 ^ 23 % 2 ≡ 0 = no_bit v 23 none refl in
+    let bd : v / 2 ^ 31 % 2 ≡ 0 = no_bit v 31 none refl in
+    let be : v / 2 ^ 39 % 2 ≡ 0 = no_bit v 39 none refl in
+    let bf : v / 2 ^ 47 % 2 ≡ 0 = no_bit v 47 none refl in
+    let bg : v / 2 ^ 55 % 2 ≡ 0 = no_bit v 55 none refl in
+    let bh : v / 2 ^ 63 % 2 ≡ 0 = no_bit v 63 none refl in
+    All-from_recursion Low (a ∷ b ∷ c ∷ d ∷ e ∷ f ∷ g ∷ h ∷ []) (
+      omega (arith, is, ba, fa),
+      (
+        omega (arith, is, bb, fa, fb),
+        (
+          omega (arith, is, bc, fa, fb, fc),
+          (
+            omega (arith, is, bd, fa, fb, fc, fd),
+            (
+              omega (arith, is, be, fa, fb, fc, fd, fe),
+              (
+                omega (arith, is, bf, fa, fb, fc, fd, fe, ff),
+                (
+                  omega (arith, is, bg, fa, fb, fc, fd, fe, ff, fg),
+                  (omega (arith, is, bh, fa, fb, fc, fd, fe, ff, fg, fh), tt),
+                ),
+              ),
+            ),
+          ),
+        ),
+      ),
+    )
