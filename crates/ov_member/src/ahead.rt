@@ -59,6 +59,19 @@ impl<'a> Ahead<'a> {
         }
     }
 
+    /// Goes on to this rid, as [`Ahead::at`] does. Where it passes no edge, as with most records, nothing changes.
+    #[inline(always)]
+    pub fn go_to(&mut self, rid: u32)
+        ensures inside { self.new.inside ≡ status self.old.inside self.old.edges rid }
+        ensures ahead { (n : ℕ) → rid ≤ n → status self.new.inside self.new.edges n ≡ status self.old.inside self.old.edges n }
+    {
+        if let Some(edge) = self.edges.first() {
+            if *edge <= rid {
+                *self = self.at(rid);
+            }
+        }
+    }
+
     // The same, edge by edge.
     fn near(&self, rid: u32) -> Ahead<'a>
         ensures inside { result.inside ≡ status self.now.inside self.now.edges rid }
