@@ -18,6 +18,7 @@ pub(crate) fn push_separator(text: &mut Vec<u8>, place: usize) -> Result<(), All
 }
 
 /// Adds a field: between quotes where one of its bytes calls for them.
+#[inline(always)]
 pub(crate) fn push_field(text: &mut Vec<u8>, field: &[u8]) -> Result<(), AllocError>
     ensures { OnOk result (text.new.items ≡ text.old.items ++ field_text default_writer field.now) }
 {

@@ -15,6 +15,7 @@ mod fields;
 mod header_line;
 mod lines;
 mod names;
+mod numbers;
 mod reading;
 mod records;
 mod row_line;

@@ -7,7 +7,7 @@ ghost use Rattle.ov_model.specs.Csv.{field_of, fields_of as row_fields, null_fie
 
 use crate::field_line::{end_line, push_field, push_separator};
 use crate::fields::is_null_mark;
-use itoa::Buffer;
+use crate::numbers::push_number;
 use ov_value::{CellRef, Cells, Column, Kind};
 use std::alloc::AllocError;
 
@@ -43,12 +43,13 @@ fn push_cells(text: &mut Vec<u8>, columns: &[Column], row: Cells<'_>) -> Result<
 }
 
 /// Adds the field of a value in a column of the kind.
+#[inline(always)]
 pub(crate) fn push_cell(text: &mut Vec<u8>, kind: Kind, cell: CellRef<'_>) -> Result<(), AllocError>
     ensures { OnOk result (text.new.items ≡ text.old.items ++ field_text default_writer (field_of kind (value_of cell.entry))) }
 {
     match cell {
         // No digit and no sign calls for quotes.
-        CellRef::Int(number) => text.extend_from_slice(Buffer::new().format(number).as_bytes()),
+        CellRef::Int(number) => push_number(text, number),
         CellRef::Text(written) => push_text(text, written.as_bytes()),
         CellRef::Flag(flag) => push_field(text, if flag { b"true" } else { b"false" }),
         CellRef::Null => push_field(text, null_field(kind)),
@@ -66,6 +67,7 @@ fn null_field(kind: Kind) -> &'static [u8]
 }
 
 // A text that would be read as NULL, or as a text with a backslash less, gets a backslash more.
+#[inline(always)]
 fn push_text(text: &mut Vec<u8>, written: &[u8]) -> Result<(), AllocError>
     ensures { OnOk result (text.new.items ≡ text.old.items ++ field_text default_writer (text_field written.now)) }
 {
@@ -75,6 +77,7 @@ fn push_text(text: &mut Vec<u8>, written: &[u8]) -> Result<(), AllocError>
     }
 }
 
+#[inline(never)]
 fn push_escaped(text: &mut Vec<u8>, written: &[u8], rest: &[u8]) -> Result<(), AllocError>
     requires { written.now ≡ 92 ∷ rest.now }
     ensures { OnOk result (text.new.items ≡ text.old.items ++ field_text default_writer (text_field written.now)) }

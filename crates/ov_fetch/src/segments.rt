@@ -81,7 +81,7 @@ pub(crate) fn gather<H: Host>(
         (λ found. AreWanted schema.now (page_bytes (H.state host.old)) segments.now wanted.now found.kept.records)
         (λ e. RefusesSegments e schema.now (page_bytes (H.state host.old)) segments.now) }
 {
-    let mut kept = Table::new(alloc, schema)?;
+    let mut kept = Table::with_room(alloc, schema, most_kept(segments, wanted))?;
     let mut rids = Vec::with_capacity(alloc, segments.len())?;
     let mut piece = room(alloc, PIECE_BYTES)?;
     let mut cursor = Cursor::new(alloc, Extent { page: 0, bytes: 0 })?;
@@ -90,4 +90,13 @@ pub(crate) fn gather<H: Host>(
         rids.push(cursor.keep_wanted(alloc, host, schema, wanted, &mut piece, &mut kept)?)?;
     }
     Ok(Gathered { kept, rids })
+}
+
+// How many records are kept at most: each that is wanted is there once, and each takes more than eight bytes.
+fn most_kept(segments: &[Extent], wanted: &Members) -> usize {
+    let mut bytes = 0usize;
+    for segment in segments {
+        bytes = bytes.saturating_add(segment.bytes as usize);
+    }
+    (bytes / 8).min(wanted.len() as usize)
 }

@@ -8,3 +8,4 @@ pub mod WalkLemmas
 pub mod ReadLemmas
 pub mod SetLemmas
 pub mod LeapLemmas
+pub mod OddLemmas

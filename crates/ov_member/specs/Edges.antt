@@ -1,6 +1,6 @@
 -- How a set of rids is kept: by its edges, ascending. At the first edge its first range begins, one past
 -- that range's last rid is the second edge, and so on in turn.
-use Rattle.std.specs.Prelude.{◌≡◌, ℕ, ◌+◌, ◌-◌, ◌^◌, ◌<◌, ◌≤◌, Bool, false, not, nat_lt, if◌then◌else◌, List, [], ◌∷◌}
+use Rattle.std.specs.Prelude.{◌≡◌, ℕ, ◌+◌, ◌-◌, ◌%◌, ◌==◌, ◌^◌, ◌<◌, ◌≤◌, Bool, false, not, nat_lt, if◌then◌else◌, List, [], ◌∷◌}
 use Rattle.ov_member.specs.Lists.{Range, rids_of}
 
 -- the edges ascend strictly above low, and the last rid before one is at most 2^31
@@ -12,6 +12,9 @@ Ascend low (edge ∷ edges) = (low < edge) × (edge ≤ 2 ^ 31 + 1) × Ascend ed
 abbrev pub status : Bool → List ℕ → ℕ → Bool
 status inside [] number = inside
 status inside (edge ∷ edges) number = if nat_lt number edge then inside else status (not inside) edges number
+
+abbrev pub is_odd : ℕ → Bool
+is_odd n = n % 2 == 1
 
 -- what is left of a set from some number on: its edges from there, and whether the numbers before the first of them are in
 pub record Left : Type 0 where

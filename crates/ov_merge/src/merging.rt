@@ -4,7 +4,7 @@ ghost use Rattle.std.specs.Prelude.{◌≡◌, ℕ, List, map, IfOk};
 ghost use Rattle.std.specs.List.{All};
 ghost use Rattle.ov_model.specs.Lists.{IsIn};
 ghost use Rattle.ov_model.specs.Merge.{merged};
-ghost use Rattle.ov_fetch.specs.Scans.{IsSound, AllStand, InKeyOrder, rows_at};
+ghost use Rattle.ov_fetch.specs.Scans.{IsSound, AllFit, AllStand, InKeyOrder, rows_at};
 ghost use Rattle.ov_merge.specs.Places.{IsMerge, IsFirstPlace, place_cmp};
 ghost use Rattle.ov_model.specs.Lists.{joined};
 
@@ -34,6 +34,7 @@ fn merge_picks(
     records: &RecordTable,
     picks: &[Pick],
 ) -> Result<Vec<usize>, AllocError>
+    requires fit { AllFit schema.now records.now }
     requires stand { All (AllStand records.now) picks.now }
     requires ordered { All (λ pick. InKeyOrder schema.now (rows_at records.now pick)) picks.now }
     ensures stand { IfOk result (λ places. AllStand records.now places.items) }

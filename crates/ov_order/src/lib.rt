@@ -10,6 +10,8 @@ mod front;
 mod keyed;
 mod merging;
 mod ordering;
+mod rising;
 mod slots;
 
 pub use ordering::in_key_order;
+pub use rising::do_keys_rise;

@@ -9,3 +9,4 @@ pub mod RowLemmas
 pub mod MovedLemmas
 pub mod DraftLemmas
 pub mod PassLemmas
+pub mod KeyLemmas

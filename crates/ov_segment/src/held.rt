@@ -45,7 +45,7 @@ pub(crate) fn pass_all<'a, 'b>(
     loop {
         match front_at(schema, last, rest) {
             Front::Record(rid, marked, row) => {
-                walk = walk.at(rid);
+                walk.go_to(rid);
                 put(table, walk.is_inside(), rid, marked, row)?;
                 rids.push(rid)?;
                 last = rid;

@@ -95,9 +95,7 @@ impl<'a> RowRef<'a> {
         if order != Ordering::Equal {
             return order;
         }
-        let a = self.cells();
-        let b = other.cells();
-        cmp_cells(schema, &a, &b)
+        cmp_walked(schema, self, other)
     }
 
     /// The value in the first column, where it is an int and no marks stand before it. It takes no walk over the row.
@@ -155,6 +153,37 @@ fn are_same(a_marked: bool, a: &[u8], b_marked: bool, b: &[u8]) -> bool
     ensures { IsTrue result ↔ ((a_marked ≡ b_marked) × (a.now ≡ b.now)) }
 {
     a_marked == b_marked && a == b
+}
+
+// Most keys are the columns from the first one on: both rows are walked once, side by side.
+fn cmp_walked(schema: &Schema, a: &RowRef<'_>, b: &RowRef<'_>) -> Ordering
+    ensures { result ≡ key_cmp schema.now a.now b.now }
+{
+    let mut x = a.cells();
+    let mut y = b.cells();
+    for (i, place) in schema.key().iter().enumerate() {
+        if *place as usize != i {
+            return cmp_anywhere(schema, a, b);
+        }
+        match (x.next(), y.next()) {
+            (Some(first), Some(second)) => {
+                let order = first.compare(second);
+                if order != Ordering::Equal {
+                    return order;
+                }
+            }
+            _ => return cmp_anywhere(schema, a, b),
+        }
+    }
+    Ordering::Equal
+}
+
+// The same of a key whose columns stand anywhere.
+#[inline(never)]
+fn cmp_anywhere(schema: &Schema, a: &RowRef<'_>, b: &RowRef<'_>) -> Ordering
+    ensures { result ≡ key_cmp schema.now a.now b.now }
+{
+    cmp_cells(schema, &a.cells(), &b.cells())
 }
 
 fn cmp_cells(schema: &Schema, a: &Cells<'_>, b: &Cells<'_>) -> Ordering

@@ -51,6 +51,19 @@ impl Table {
         })
     }
 
+    /// The same, with room for the places of so many records.
+    pub fn with_room(alloc: Global, schema: &Schema, records: usize) -> Result<Table, AllocError>
+        ensures columns { IfOk result (λ made. made.columns ≡ schema.now.columns) }
+        ensures records { IfOk result (λ made. made.records ≡ []) }
+    {
+        let columns = copies_of(alloc, schema.columns())?;
+        Ok(Table {
+            columns,
+            bytes: Vec::new(alloc),
+            places: Vec::with_capacity(alloc, records)?,
+        })
+    }
+
     /// A table without a record, with the columns of this one.
     pub fn like(&self, alloc: Global) -> Result<Table, AllocError>
         ensures columns { IfOk result (λ made. made.columns ≡ self.now.columns) }

@@ -12,3 +12,4 @@ pub mod Standing
 pub mod CellLemmas
 pub mod Ascii
 pub mod FullLemmas
+pub mod PlanLemmas

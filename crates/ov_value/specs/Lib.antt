@@ -8,3 +8,4 @@ pub mod Reading
 pub mod Texts
 pub mod Decoding
 pub mod Cells
+pub mod Plans

@@ -15,6 +15,7 @@ mod laws;
 mod marked;
 mod names;
 mod plain;
+mod plan;
 mod reading;
 mod row;
 mod schema;

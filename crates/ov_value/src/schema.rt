@@ -3,12 +3,14 @@
 ghost use Rattle.std.specs.Prelude.{◌≡◌, ◌≢◌, ◌↔◌, ◌≤◌, IsTrue, IfOk, OnOk, IfErr, length, None, Some, map, Ok, Err, [], ◌++◌};
 ghost use Rattle.std.specs.List.{All};
 ghost use Rattle.ov_value.specs.Naming.{is_column_name as is_column_name_of};
+ghost use Rattle.ov_value.specs.Plans.{plan_of};
 ghost use Rattle.ov_value.specs.Shapes.{IsSound, names};
 ghost use Rattle.ov_value.specs.Making.{schema_of, widened, column_refusal, key_refusal, place_of as place_named, name_refusal, is_among};
 ghost use Rattle.ov_value.specs.Rows.{Fits, HasKinds, key_of, key_cmp, value_at, value_cmp};
 
 use crate::column::Column;
 use crate::names::is_column_name;
+use crate::plan::RowPlan;
 use crate::row::Row;
 use crate::schema_err::SchemaErr;
 use crate::txt::Txt;
@@ -23,16 +25,20 @@ use std::marker::Model;
 pub struct Schema {
     columns: Vec<Column>,
     key: Vec<u8>,
+    // Where the values of most rows stand in their bytes.
+    plan: RowPlan,
 }
 
 impl Model for Schema {
+    ghost use Rattle.std.specs.Prelude.{◌≡◌};
+    ghost use Rattle.ov_value.specs.Plans.{plan_of};
     ghost use Rattle.ov_value.specs.Shapes.{Shape, IsSound};
 
     ghost Value = { Shape };
 
     ghost view = { λ s. record { columns = s.columns.items; key = s.key.items } };
 
-    ghost invariant = { λ s. IsSound (record { columns = s.columns.items; key = s.key.items }) };
+    ghost invariant = { λ s. IsSound (record { columns = s.columns.items; key = s.key.items }) × (s.plan ≡ plan_of s.columns.items) };
 }
 
 impl Schema {
@@ -45,9 +51,11 @@ impl Schema {
         check_columns(alloc, columns.as_slice())?;
         check_key(alloc, columns.as_slice(), key.as_slice())?;
         let places = places_of(alloc, columns.as_slice(), key.as_slice())?;
+        let plan = RowPlan::of(alloc, columns.as_slice())?;
         Ok(Schema {
             columns,
             key: places,
+            plan,
         })
     }
 
@@ -63,9 +71,11 @@ impl Schema {
         let mut columns = copies_of(alloc, self.columns.as_slice())?;
         append_copies(alloc, &mut columns, added)?;
         check_columns(alloc, columns.as_slice())?;
+        let plan = RowPlan::of(alloc, columns.as_slice())?;
         Ok(Schema {
             columns,
             key: Vec::from_slice(alloc, self.key.as_slice())?,
+            plan,
         })
     }
 
@@ -76,6 +86,7 @@ impl Schema {
         Ok(Schema {
             columns: copies_of(alloc, self.columns.as_slice())?,
             key: Vec::from_slice(alloc, self.key.as_slice())?,
+            plan: RowPlan::of(alloc, self.columns.as_slice())?,
         })
     }
 
@@ -93,6 +104,14 @@ impl Schema {
         ensures sound { IsSound self.now }
     {
         self.key.as_slice()
+    }
+
+    /// Where the values of a row without NULLs stand in its bytes.
+    pub(crate) fn plan(&self) -> &RowPlan
+        ensures plan { result.now ≡ plan_of self.now.columns }
+        ensures sound { IsSound self.now }
+    {
+        &self.plan
     }
 
     /// Whether the row has one value a column, each NULL or of its column's kind, and none at a key column is

@@ -10,7 +10,7 @@ ghost use Rattle.ov_value.specs.Decoding.{decoded, row_of, AreRow, CanRead, stan
 use crate::column::Column;
 use crate::marked::marks_at;
 use crate::schema::Schema;
-use crate::walk::{behind, walk};
+use crate::walk::walk;
 
 /// Whether all of the bytes, which begin with marks or not, spell a row of the schema. It takes no memory, and the time
 /// of the columns and of the texts' bytes.
@@ -34,24 +34,7 @@ fn is_full(schema: &Schema, bytes: &[u8]) -> bool
     ensures { IsTrue result → IsRow schema.now (row_of schema.now.columns false bytes.now)
         × IsSpelling (row_of schema.now.columns false bytes.now) false bytes.now }
 {
-    are_full(schema.columns(), bytes)
-}
-
-fn are_full(columns: &[Column], bytes: &[u8]) -> bool
-    ensures read { IsTrue result → CanRead columns.now 0 bytes.now }
-    ensures kept { IsTrue result → length columns.now ≡ length (kept_values (decoded columns.now 0 bytes.now)) }
-{
-    let mut rest = bytes;
-    for column in columns {
-        if rest.is_empty() {
-            return false;
-        }
-        match behind(column.kind, rest) {
-            None => return false,
-            Some(after) => rest = after,
-        }
-    }
-    rest.is_empty()
+    schema.plan().fits(bytes)
 }
 
 // As `spells_row`, of a row with NULLs or without.

@@ -18,9 +18,12 @@ merge_picks-requires t c =
     let half = length picks / 2 in (
       omega (arith, c.decreases),
       (
-        subst (All (AllStand c.args.records.now)) front (all_take (AllStand c.args.records.now) picks half c.requires.stand),
-        subst (All (λ pick. InKeyOrder c.args.schema.now (rows_at c.args.records.now pick))) front
-            (all_take (λ pick. InKeyOrder c.args.schema.now (rows_at c.args.records.now pick)) picks half c.requires.ordered),
+        c.requires.fit,
+        (
+          subst (All (AllStand c.args.records.now)) front (all_take (AllStand c.args.records.now) picks half c.requires.stand),
+          subst (All (λ pick. InKeyOrder c.args.schema.now (rows_at c.args.records.now pick))) front
+              (all_take (λ pick. InKeyOrder c.args.schema.now (rows_at c.args.records.now pick)) picks half c.requires.ordered),
+        ),
       ),
     )
 
@@ -31,9 +34,12 @@ merge_picks-requires-in_default t c =
     let half = length picks / 2 in (
       omega (arith, c.decreases),
       (
-        subst (All (AllStand c.args.records.now)) back (all_drop (AllStand c.args.records.now) picks half c.requires.stand),
-        subst (All (λ pick. InKeyOrder c.args.schema.now (rows_at c.args.records.now pick))) back
-            (all_drop (λ pick. InKeyOrder c.args.schema.now (rows_at c.args.records.now pick)) picks half c.requires.ordered),
+        c.requires.fit,
+        (
+          subst (All (AllStand c.args.records.now)) back (all_drop (AllStand c.args.records.now) picks half c.requires.stand),
+          subst (All (λ pick. InKeyOrder c.args.schema.now (rows_at c.args.records.now pick))) back
+              (all_drop (λ pick. InKeyOrder c.args.schema.now (rows_at c.args.records.now pick)) picks half c.requires.ordered),
+        ),
       ),
     )
 

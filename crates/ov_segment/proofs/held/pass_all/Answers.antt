@@ -14,14 +14,14 @@ loop-rid-preserved c =
     let marked : Bool = c.in-Record.marked in
     let start : Walk = record { inside = c.args.ahead.now.inside; edges = c.args.ahead.now.edges } in
     let walk : Walk = record { inside = c.loop-rid.walk.inside; edges = c.loop-rid.walk.edges } in
-    let after : Walk = record { inside = c.at-walk-in-Record.result.inside; edges = c.at-walk-in-Record.result.edges } in
-    let inside : c.is_inside.result ≡ wants walk rid = c.is_inside.ensures ∙ c.at-walk-in-Record.ensures.inside in
+    let after : Walk = record { inside = c.go_to.new.self.inside; edges = c.go_to.new.self.edges } in
+    let inside : c.is_inside.result ≡ wants walk rid = c.is_inside.ensures ∙ c.go_to.ensures.inside in
     let columns : c.loop-rid.table.columns ≡ schema.columns = ap (λ t. t.columns) c.loop-rid.invariant.table_is ∙ c.requires.columns in
     let put_is : c.put.new.table ≡ put (wants walk rid) c.loop-rid.table (record { rid = rid; row = row_of schema.columns marked row }) =
     c.in_ok-put-in-Record.ensures.ok ∙ (λ i. put (inside i) c.loop-rid.table (record { rid = rid; row = row_of (columns i) marked row })) in
     let passed = passes_more schema c.args.before c.args.bytes.now start c.args.rids.now c.args.table.now
     c.loop-rid.last rest walk c.loop-rid.rids c.loop-rid.table rid marked row after c.put.new.table
-    c.loop-rid.invariant c.in-Record.ensures (c.at-walk-in-Record.ensures.ahead rid (omega arith)) (λ n at. c.at-walk-in-Record.ensures.ahead n at) put_is in
+    c.loop-rid.invariant c.in-Record.ensures (c.go_to.ensures.ahead rid (omega arith)) (λ n at. c.go_to.ensures.ahead n at) put_is in
     subst (λ (l : List ℕ). Passes schema c.args.before c.args.bytes.now start c.args.rids.now c.args.table.now rid l after c.push.new.self c.put.new.table) (sym (tail_slice rest (8 + length row)))
     (subst (λ (l : List ℕ). Passes schema c.args.before c.args.bytes.now start c.args.rids.now c.args.table.now rid (drop (8 + length row) rest) after l c.put.new.table) (sym c.in_ok-push-in-Record.ensures.put) passed)
 

@@ -1,7 +1,7 @@
 use Rattle.std.proofs.Common.{◌≡◌, ◌<◌, ◌++◌, length, drop}
 use Rattle.ov_merge.specs.Places.{place_cmp}
 use Rattle.ov_merge.specs.Walks.{behind, once}
-use Rattle.ov_merge.proofs.once.once.Given as goal
+use Rattle.ov_merge.proofs.once.first_of_each.Given as goal
 
 abbrev pub invariant-loop-i : goal.invariant-loop-i
 invariant-loop-i l = record {
