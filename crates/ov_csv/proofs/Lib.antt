@@ -11,3 +11,4 @@ pub mod CellFields
 pub mod NullKeys
 pub mod LineLemmas
 pub mod Digits
+pub mod PlainLemmas

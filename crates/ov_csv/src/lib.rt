@@ -15,6 +15,8 @@ mod fields;
 mod header_line;
 mod lines;
 mod names;
+mod plain;
+mod read_lines;
 mod reading;
 mod records;
 mod row_line;

@@ -1,0 +1,43 @@
+-- Texts in which no quote stands and no carriage return, and how they are cut.
+--     IsPlain bytes      so are these bytes
+--     field_end bytes      how many bytes stand before the first comma or line feed
+--     IsNext bytes fields found      the record that `csv` reads first, and the bytes behind it
+use Rattle.std.specs.Prelude.{◌≡◌, ℕ, suc, ◌==◌, ◌||◌, false, if◌then◌else◌, List, [], ◌∷◌, Option, Some, None}
+use Rattle.csv.specs.Machine.{Read, next_record}
+use Rattle.csv.specs.Reading.{default_config}
+use Rattle.csv.specs.declared.parser.State.TheVariants as st
+use Rattle.std.specs.Borrow.{Bor}
+use Rattle.ov_csv.specs.Lines.{records_after}
+
+abbrev pub IsPlain : List ℕ → Type 0
+IsPlain [] = Unit {0}
+IsPlain (b ∷ bytes) = (b == 34 ≡ false) × (b == 13 ≡ false) × IsPlain bytes
+
+abbrev pub field_end : List ℕ → ℕ
+field_end [] = 0
+field_end (b ∷ bytes) = if b == 44 || b == 10 then 0 else suc (field_end bytes)
+
+-- the record that these bytes begin with
+abbrev pub begun : List ℕ → Option Read
+begun [] = None
+begun (b ∷ bytes) = next_record default_config st.InField [] [] (b ∷ bytes)
+
+-- behind line feeds, which are no record
+abbrev pub Skips : List ℕ → List ℕ → Type 0
+Skips bytes rest = (next_record default_config st.StartRecord [] [] bytes ≡ begun rest) × IsPlain rest
+
+abbrev pub Cuts : List ℕ → List (List ℕ) → List ℕ → Type 0
+Cuts bytes fields rest = (next_record default_config st.InField [] [] bytes ≡ Some (fields, st.StartRecord, rest)) × IsPlain rest
+
+abbrev pub IsNext : List ℕ → List (List ℕ) → Option (Bor (List ℕ)) → Type 0
+IsNext bytes fields None = next_record default_config st.StartRecord [] [] bytes ≡ None
+IsNext bytes fields (Some rest) = (next_record default_config st.StartRecord [] [] bytes ≡ Some (fields, st.StartRecord, rest.now)) × IsPlain rest.now
+
+-- the records that are left of a text that is cut, or of another
+abbrev pub all_left : Option (Bor (List ℕ)) → List (List (List ℕ)) → List (List (List ℕ))
+all_left None other = other
+all_left (Some rest) other = records_after st.StartRecord (Some rest.now)
+
+abbrev pub CanCut : Option (Bor (List ℕ)) → Type 0
+CanCut None = Unit {0}
+CanCut (Some rest) = IsPlain rest.now
