@@ -1,7 +1,11 @@
 -- What the state machine of `csv` does with bytes of which none is a quote or a carriage return.
-use Rattle.std.proofs.Common.{◌≡◌, ◌≤◌, ◌==◌, ◌||◌, ◌++◌, ◌∷◌, [], ℕ, zero, suc, List, Bool, true, false, Option, Some, Result, Ok, Err, length, take, drop, get_or, refl, sym, ◌∙◌, ap, subst, arith, append_assoc}
+use Rattle.std.proofs.Common.{get_or-drop, ◌+◌, ◌≡◌, ◌≤◌, ◌==◌, ◌||◌, ◌++◌, ◌∷◌, [], ℕ, zero, suc, List, Bool, true, false, Option, Some, Result, Ok, Err, length, take, drop, get_or, refl, sym, ◌∙◌, ap, subst, arith, append_assoc}
 use Rattle.std.specs.Prelude.{not, IsTrue, OnErr, if◌then◌else◌}
-use Rattle.std.specs.List.{list_any}
+use Rattle.std.specs.List.{list_all, list_any}
+use Rattle.std.specs.Str.{is_utf8, IsAscii}
+use Rattle.std.proofs.lemmas.Str.{is_utf8-from_IsUtf8, IsUtf8-from_ascii}
+use Rattle.ov_csv.proofs.Ascii.{ascii-front}
+use Rattle.ov_csv.proofs.Spelled.{and-left, and-right, both}
 use Rattle.std.proofs.lemmas.Bool.{eqb-true, ne_eqb}
 use Rattle.std.proofs.lemmas.List.{append-nil}
 use Rattle.csv.specs.Machine.{Read, next_record}
@@ -154,3 +158,19 @@ none_left = records_after-none st.StartRecord [] (same_record [] tt refl)
 pub on_err : {X E : Type 0} (r : Result X E) (P : Type 0) → P → OnErr r P
 on_err (Ok x) P p = tt
 on_err (Err e) P p = p
+
+-- ---- ASCII
+
+pub ascii_rest : (xs : List ℕ) (b : ℕ) (more : List ℕ) → xs ≡ b ∷ more → IsAscii xs → IsAscii more
+ascii_rest xs b more is h i = (subst IsAscii is h) (suc i)
+
+all_push : (fields : List (List ℕ)) (field : List ℕ) → list_all is_utf8 fields ≡ true → is_utf8 field ≡ true → list_all is_utf8 (fields ++ field ∷ []) ≡ true
+all_push [] field all one = both _ _ one refl
+all_push (f ∷ fields) field all one = both _ _ (and-left _ _ all) (all_push fields field (and-right _ _ all) one)
+
+pub ascii_cut : (fields : List (List ℕ)) (xs front back : List ℕ) (new : List (List ℕ)) → IsCut fields xs front back new → (list_all is_utf8 fields ≡ true) × IsAscii xs
+    → (list_all is_utf8 new ≡ true) × IsAscii back
+ascii_cut fields xs front back new h told = (
+  subst (λ l. list_all is_utf8 l ≡ true) (sym h.new_is) (all_push fields front told.0 (is_utf8-from_IsUtf8 front (IsUtf8-from_ascii front (subst IsAscii (sym h.front_is) (ascii-front (field_end xs) xs told.1))))),
+  subst IsAscii (sym h.back_is) (λ i. rw (get_or-drop (field_end xs) xs i 0) (told.1 (field_end xs + i))),
+)

@@ -13,6 +13,7 @@ mod csv_text;
 mod field_line;
 mod fields;
 mod header_line;
+mod line;
 mod lines;
 mod names;
 mod plain;

@@ -2,12 +2,11 @@
 
 ghost use Rattle.std.specs.Prelude.{◌≡◌, [], OnErr, IfOk};
 ghost use Rattle.csv.specs.Reading.{default_config, strip_bom, records};
-ghost use Rattle.csv.specs.Records.{fields_of};
 ghost use Rattle.ov_csv.specs.Taking.{Takes};
 
-use crate::plain::{is_plain, next_plain};
+use crate::line::Line;
+use crate::plain::is_plain;
 use crate::read_lines::ReadLines;
-use csv::ByteRecord;
 use std::alloc::{AllocError, Global};
 use std::marker::Model;
 
@@ -19,6 +18,8 @@ use std::marker::Model;
 pub(crate) struct Lines<'a> {
     // What is left of a text that is cut.
     plain: Option<&'a [u8]>,
+    // Whether that is ASCII.
+    ascii: bool,
     read: ReadLines<'a>,
 }
 
@@ -30,32 +31,33 @@ impl<'a> Model for Lines<'a> {
 
     ghost view = { λ l. all_left l.plain l.read };
 
-    ghost invariant = { λ l. CanCut l.plain };
+    ghost invariant = { λ l. CanCut l.ascii l.plain };
 }
 
-impl Lines<'_> {
+impl<'a> Lines<'a> {
     /// All records of the text, without the mark of byte order that may stand in front.
-    pub(crate) fn new(alloc: Global, text: &[u8]) -> Lines<'_>
+    pub(crate) fn new(alloc: Global, text: &'a [u8]) -> Lines<'a>
         ensures { result ≡ records default_config (strip_bom text.now) }
     {
         let behind = without_mark(text);
         Lines {
             plain: if is_plain(behind) { Some(behind) } else { None },
+            ascii: behind.is_ascii(),
             read: ReadLines::new(alloc, text),
         }
     }
 
     /// Puts the next record into `line`, and answers whether there was one. Bytes in memory are refused for want of memory
     /// alone; no record is left then.
-    pub(crate) fn next(&mut self, line: &mut ByteRecord) -> Result<bool, AllocError>
-        ensures ok { IfOk result (λ found. Takes self.old found (fields_of line.new) self.new) }
+    pub(crate) fn next(&mut self, line: &mut Line<'a>) -> Result<bool, AllocError>
+        ensures ok { IfOk result (λ found. Takes self.old found line.new self.new) }
         ensures err { OnErr result (self.new ≡ []) }
     {
         let Some(rest) = self.plain else {
-            return self.read.next(line);
+            return line.read(&mut self.read);
         };
         self.plain = Some(&[]);
-        match next_plain(rest, line)? {
+        match line.cut(rest, self.ascii)? {
             Some(more) => {
                 self.plain = Some(more);
                 Ok(true)

@@ -1,10 +1,8 @@
 //! Records of a text in which no quote stands and no carriage return: they are cut at commas and line feeds.
 
-ghost use Rattle.std.specs.Prelude.{◌≡◌, [], IfOk, IsTrue};
-ghost use Rattle.csv.specs.Records.{fields_of, partial_of};
-ghost use Rattle.ov_csv.specs.Plain.{IsPlain, Skips, Cuts, IsNext, field_end as field_end_of};
+ghost use Rattle.std.specs.Prelude.{◌≡◌, [], IfOk, IsTrue, slice_index_or};
+ghost use Rattle.ov_csv.specs.Plain.{IsPlain, Skips, Cuts, IsNext, field_end as field_end_of, slices};
 
-use csv::ByteRecord;
 use std::alloc::AllocError;
 
 /// Whether no quote stands among these bytes and no carriage return.
@@ -14,21 +12,33 @@ pub(crate) fn is_plain(bytes: &[u8]) -> bool
     !bytes.contains(&b'"') && !bytes.contains(&b'\r')
 }
 
-/// Puts the next record into `line`, and gives the bytes behind it; `None` where no record is left.
+/// Puts the fields of the next record into `fields`, in place of those that are there, and gives the bytes behind it; `None` where
+/// no record is left.
 pub(crate) fn next_plain<'a>(
     bytes: &'a [u8],
-    line: &mut ByteRecord,
+    fields: &mut Vec<&'a [u8]>,
 ) -> Result<Option<&'a [u8]>, AllocError>
     requires { IsPlain bytes.now }
-    ensures { IfOk result (IsNext bytes.now (fields_of line.new)) }
+    ensures { IfOk result (IsNext bytes.now (slices fields.new.items)) }
 {
-    line.clear();
+    fields.clear();
     let rest = skip_ends(bytes);
     if rest.is_empty() {
         return Ok(None);
     }
-    let more = cut_record(rest, line)?;
+    let more = cut_record(rest, fields)?;
     Ok(Some(more))
+}
+
+/// The field at a place, or no bytes where there is none.
+pub(crate) fn cut_field<'a>(fields: &[&'a [u8]], place: usize) -> &'a [u8]
+    ensures { result.now ≡ slice_index_or (slices fields.now) place [] }
+{
+    if place < fields.len() {
+        fields[place]
+    } else {
+        &[]
+    }
 }
 
 // What stands behind the line feeds in front: a line without a byte is no record.
@@ -47,16 +57,15 @@ fn skip_ends(bytes: &[u8]) -> &[u8]
 }
 
 // Adds the fields up to the end of the line, and gives the bytes behind it.
-fn cut_record<'a>(bytes: &'a [u8], line: &mut ByteRecord) -> Result<&'a [u8], AllocError>
+fn cut_record<'a>(bytes: &'a [u8], fields: &mut Vec<&'a [u8]>) -> Result<&'a [u8], AllocError>
     requires plain { IsPlain bytes.now }
-    requires fields { fields_of line.old ≡ [] }
-    requires partial { partial_of line.old ≡ [] }
-    ensures { IfOk result (λ rest. Cuts bytes.now (fields_of line.new) rest.now) }
+    requires none { fields.old.items ≡ [] }
+    ensures { IfOk result (λ rest. Cuts bytes.now (slices fields.new.items) rest.now) }
 {
     let mut rest = bytes;
     loop {
         let (field, behind) = rest.split_at(field_end(rest));
-        line.push_field(field)?;
+        fields.push(field)?;
         let Some((byte, more)) = behind.split_first() else {
             return Ok(behind);
         };
