@@ -81,7 +81,8 @@ fn field_end(bytes: &[u8]) -> usize
     ensures { result ≡ field_end_of bytes.now }
 {
     for (i, byte) in bytes.iter().enumerate() {
-        if *byte == b',' || *byte == b'\n' {
+        // Most bytes are above both.
+        if *byte <= b',' && (*byte == b',' || *byte == b'\n') {
             return i;
         }
     }
