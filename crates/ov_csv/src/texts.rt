@@ -11,9 +11,6 @@ use std::marker::Model;
 use std::str;
 
 /// A record that was found to be texts. Contracts see it as the list of its fields.
-///
-/// The `StringRecord` of the `csv` crate owns its record, so that a reused record would be moved into one and back for each
-/// row.
 #[derive(Drop)]
 pub(crate) struct Texts<'a> {
     line: &'a Line<'a>,
