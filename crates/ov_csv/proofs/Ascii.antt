@@ -9,7 +9,7 @@ use Rattle.csv.specs.Records.{cut_from}
 use Rattle.ov_csv.proofs.Spelled.{and-left, and-right, both}
 
 -- the front of a text of ASCII
-ascii-front : (n : ℕ) (bytes : List ℕ) → IsAscii bytes → IsAscii (take n bytes)
+pub ascii-front : (n : ℕ) (bytes : List ℕ) → IsAscii bytes → IsAscii (take n bytes)
 ascii-front zero bytes h i = omega arith
 ascii-front (suc n) [] h i = omega arith
 ascii-front (suc n) (b ∷ bs) h zero = h 0

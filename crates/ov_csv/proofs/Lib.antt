@@ -12,3 +12,4 @@ pub mod QuoteLemmas
 pub mod Rows
 pub mod Spelled
 pub mod Steps
+pub mod PlainLemmas

@@ -1,4 +1,5 @@
 pub mod Growing
 pub mod Lines
+pub mod Plain
 pub mod Refusing
 pub mod Taking

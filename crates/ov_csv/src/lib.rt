@@ -2,7 +2,7 @@
 //!
 //! `read_csv` reads a whole file and names its first fault; `CsvText` writes a header and rows, a line at
 //! a time, `write_csv` those of a scan, and `write_answer` the rows of an answer, which have no header. The `csv`
-//! crate splits the bytes into records, and says what a record is written as; what a field spells in a column stands in the
+//! crate says what records bytes are, and what a record is written as; what a field spells in a column stands in the
 //! definitions of `ov_model`. Both sides are proved to meet them.
 #![tactic(auto)]
 
@@ -13,9 +13,12 @@ mod csv_text;
 mod field_line;
 mod fields;
 mod header_line;
+mod line;
 mod lines;
 mod names;
 mod numbers;
+mod plain;
+mod read_lines;
 mod reading;
 mod records;
 mod row_line;

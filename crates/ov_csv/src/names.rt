@@ -5,6 +5,7 @@ ghost use Rattle.std.specs.Cmp.Lexicographic.{pointwise};
 ghost use Rattle.csv.specs.Records.{fields_of};
 ghost use Rattle.ov_value.specs.Shapes.{names};
 
+use crate::line::Line;
 use csv::ByteRecord;
 use ov_value::Column;
 
@@ -19,14 +20,14 @@ pub(crate) fn field(line: &ByteRecord, place: usize) -> &[u8]
 }
 
 /// Whether the fields are the names of the columns in order.
-pub(crate) fn are_names(line: &ByteRecord, columns: &[Column]) -> bool
-    ensures { result ≡ pointwise (pointwise nat_eq) (fields_of line.now) (names columns.now) }
+pub(crate) fn are_names(line: &Line<'_>, columns: &[Column]) -> bool
+    ensures { result ≡ pointwise (pointwise nat_eq) line.now (names columns.now) }
 {
     if line.len() != columns.len() {
         return false;
     }
     for (place, column) in columns.iter().enumerate() {
-        if field(line, place) != column.name.as_bytes() {
+        if line.at(place) != column.name.as_bytes() {
             return false;
         }
     }

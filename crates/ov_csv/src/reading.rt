@@ -8,10 +8,10 @@ ghost use Rattle.ov_model.specs.Csv.{begins_with_mark as begins_with_mark_of, ro
 ghost use Rattle.ov_csv.specs.Refusing.{refusal_of};
 
 use crate::csv_err::CsvErr;
+use crate::line::Line;
 use crate::lines::Lines;
 use crate::names::are_names;
 use crate::records::keep_row;
-use csv::ByteRecord;
 use ov_segment::{RowDraft, RowTable, Table};
 use ov_value::Schema;
 use std::alloc::Global;
@@ -39,7 +39,7 @@ pub fn read_csv(alloc: Global, schema: &Schema, bytes: &[u8]) -> Result<RowTable
         return Err(CsvErr::BadHeader);
     }
     let mut lines = Lines::new(alloc, bytes);
-    let mut line = ByteRecord::new(alloc);
+    let mut line = Line::new(alloc);
     if !lines.next(&mut line)? || !are_names(&line, schema.columns()) {
         return Err(CsvErr::BadHeader);
     }
@@ -48,11 +48,11 @@ pub fn read_csv(alloc: Global, schema: &Schema, bytes: &[u8]) -> Result<RowTable
 }
 
 // The rows of the records that are left, all in the memory of one record.
-fn read_rows(
+fn read_rows<'a>(
     alloc: Global,
     schema: &Schema,
-    lines: &mut Lines<'_>,
-    line: &mut ByteRecord,
+    lines: &mut Lines<'a>,
+    line: &mut Line<'a>,
 ) -> Result<Table, CsvErr>
     ensures ok { IfOk result (λ table. rows_from schema.now 1 lines.old ≡ Ok (map (λ r. r.row) table.records)) }
     ensures err { IfErr result (λ why. IfSome (refusal_of schema.now why) (λ refusal. rows_from schema.now 1 lines.old ≡ Err refusal)) }

@@ -3,7 +3,6 @@
 ghost use Rattle.std.specs.Prelude.{◌≡◌, ◌<◌, ◌++◌, ◌∷◌, [], IfOk, OnOk, IfErr, None, Some, true, length, map, nat_eq};
 ghost use Rattle.std.specs.List.{list_all, list_any};
 ghost use Rattle.std.specs.Str.{is_utf8};
-ghost use Rattle.csv.specs.Records.{fields_of};
 ghost use Rattle.ov_model.specs.Csv.{row_refusal, row_in, bad_field, null_key};
 ghost use Rattle.ov_model.specs.declared.refusal.Refusal.TheVariants as refusal;
 ghost use Rattle.ov_value.specs.Shapes.{Shape};
@@ -14,8 +13,8 @@ ghost use Rattle.ov_csv.specs.Refusing.{StandsFor};
 
 use crate::csv_err::CsvErr;
 use crate::fields::read_field;
+use crate::line::Line;
 use crate::texts::Texts;
-use csv::ByteRecord;
 use ov_segment::{RowDraft, Table};
 use ov_value::{Column, LONGEST_ROW, Schema};
 use std::alloc::Global;
@@ -26,15 +25,15 @@ pub(crate) fn keep_row(
     alloc: Global,
     schema: &Schema,
     row: u64,
-    line: &ByteRecord,
+    line: &Line<'_>,
     draft: &mut RowDraft,
     table: &mut Table,
 ) -> Result<(), CsvErr>
     requires { table.old.columns ≡ schema.now.columns }
-    ensures none { OnOk result (row_refusal schema.now row (fields_of line.now) ≡ None) }
-    ensures ok { OnOk result (map (λ r. r.row) table.new.records ≡ map (λ r. r.row) table.old.records ++ row_in schema.now.columns (fields_of line.now) ∷ []) }
+    ensures none { OnOk result (row_refusal schema.now row line.now ≡ None) }
+    ensures ok { OnOk result (map (λ r. r.row) table.new.records ≡ map (λ r. r.row) table.old.records ++ row_in schema.now.columns line.now ∷ []) }
     ensures columns { OnOk result (table.new.columns ≡ schema.now.columns) }
-    ensures err { IfErr result (λ why. StandsFor schema.now why (row_refusal schema.now row (fields_of line.now))) }
+    ensures err { IfErr result (λ why. StandsFor schema.now why (row_refusal schema.now row line.now)) }
 {
     read_row(alloc, schema, row, line, draft)?;
     // Nothing depends on the rid that a row of a file gets here.
@@ -48,13 +47,13 @@ fn read_row(
     alloc: Global,
     schema: &Schema,
     row: u64,
-    line: &ByteRecord,
+    line: &Line<'_>,
     draft: &mut RowDraft,
 ) -> Result<(), CsvErr>
-    ensures none { OnOk result (row_refusal schema.now row (fields_of line.now) ≡ None) }
-    ensures whole { OnOk result (IsWhole draft.new (row_in schema.now.columns (fields_of line.now))) }
-    ensures row { OnOk result (IsRow schema.now (row_in schema.now.columns (fields_of line.now))) }
-    ensures err { IfErr result (λ why. StandsFor schema.now why (row_refusal schema.now row (fields_of line.now))) }
+    ensures none { OnOk result (row_refusal schema.now row line.now ≡ None) }
+    ensures whole { OnOk result (IsWhole draft.new (row_in schema.now.columns line.now)) }
+    ensures row { OnOk result (IsRow schema.now (row_in schema.now.columns line.now)) }
+    ensures err { IfErr result (λ why. StandsFor schema.now why (row_refusal schema.now row line.now)) }
 {
     if line.len() != schema.columns().len() {
         return Err(CsvErr::Width {

@@ -1,30 +1,23 @@
 -- The records of versions, taken out of a scan one after another.
-use Rattle.std.proofs.Common.{◌≡◌, ◌<◌, ◌≤◌, ◌+◌, ℕ, suc, Result, Ok, Err, List, [], ◌∷◌, ◌++◌, length, map, take, get_or, refl, sym, ◌∙◌, ap, subst, inl, inr, arith}
-use Rattle.std.specs.Prelude.{IfOk, MatchOption, MatchResult, Option, Some}
+use Rattle.std.proofs.Common.{◌≡◌, ◌<◌, ◌≤◌, ◌+◌, ℕ, suc, Result, Ok, Err, List, [], ◌∷◌, ◌++◌, length, map, take, get_or, refl, sym, ◌∙◌, ap, subst, arith}
+use Rattle.std.specs.Prelude.{IfOk, MatchResult}
 use Rattle.std.specs.List.{All, AllZip}
-use Rattle.std.proofs.lemmas.List.{length-map, take_more}
+use Rattle.std.proofs.lemmas.List.{take_more}
 use Rattle.std.proofs.lemmas.List.Elements.{All-nil, All-cons, All-head, All-tail}
+use Rattle.std.proofs.lemmas.List.Sorted.{length_permutation}
 use Rattle.ov_value.specs.Shapes.{Shape}
 use Rattle.ov_segment.specs.declared.numbered.Record.{Record}
-use Rattle.ov_member.proofs.RangeLemmas.{RiseFrom-apart}
-use Rattle.ov_member.specs.Lists.{Spells}
-use Rattle.ov_member.specs.Rids.{RiseFrom}
-use Rattle.ov_fetch.specs.declared.errors.FetchErr.{FetchErr}
-use Rattle.ov_fetch.specs.declared.errors.FetchErr.TheVariants.{Host, Memory, Damaged}
 use Rattle.ov_fetch.specs.declared.scan.Scan.{Scan}
 use Rattle.ov_fetch.specs.Scans.{AllFit, AllStand, IsSound, InKeyOrder as RowsInOrder, rows_at}
-use Rattle.ov_fetch.proofs.Gathered.{is_among}
 use Rattle.ov_catalog.proofs.Members.{all_at}
 use Rattle.ov_records.specs.Records.{InKeyOrder}
 use Rattle.law_commits.specs.Agreeing.{AreRids, EachAgrees}
 use Rattle.law_commits.specs.Differing.{rids_of}
-use Rattle.ov_read.specs.Agreement.{Agrees, Numbers, records_after}
-use Rattle.ov_read.specs.Damages.{RefusesScan}
-use Rattle.ov_read.specs.Found.{HasRows, IsScanned}
-use Rattle.ov_read.proofs.Gatherings.{zip_at}
+use Rattle.ov_read.specs.Agreement.{Numbers, records_after, rows_of}
+use Rattle.ov_read.specs.Found.{IsListed, IsScanned}
 use Rattle.ov_parents.specs.Parents.{IsCounted, IsParent}
-use Rattle.ov_parents.specs.Taking.{AreTaken, HaveRids, RefusesTaken, StandAt}
-use Rattle.ov_parents.proofs.Places.{all_fit, count_is, in_order, same_found, stand_at}
+use Rattle.ov_parents.specs.Taking.{StandAt}
+use Rattle.ov_parents.proofs.Places.{all_fit, in_order, same_found, stand_at}
 use Rattle.ov_parents.proofs.Repeats.{rids_moved, set_is}
 
 -- ---- one more
@@ -67,21 +60,24 @@ pub ok_on : {X E : Type 0} (r : Result X E) (P Q : X → Type 0) → ((x : X) �
 ok_on (Ok x) P Q f h = f x h
 ok_on (Err e) P Q f h = tt
 
--- each version has as many records as its pick has positions
-each_of : (s : Numbers) (records : List Record) (vids : List ℕ) (picks : List (List ℕ)) (parents : List (List Record)) → AllZip (HasRows s) vids picks → AllZip (StandAt records) picks parents
-    → All (HaveRids s.records) parents → EachAgrees s vids parents
-each_of s records [] [] [] rows stand rids = tt
-each_of s records [] [] (found ∷ parents) rows stand rids = absurd stand
-each_of s records [] (pick ∷ picks) parents rows stand rids = absurd rows
-each_of s records (vid ∷ vids) [] parents rows stand rids = absurd rows
-each_of s records (vid ∷ vids) (pick ∷ picks) [] rows stand rids = absurd stand
-each_of s records (vid ∷ vids) (pick ∷ picks) (found ∷ parents) rows stand rids = (
-  subst (λ (n : ℕ). AreRids n s.records (rids_of found)) (count_is records pick found stand.0 ∙ rows.0) (All-head (HaveRids s.records) found parents rids),
-  each_of s records vids picks parents rows.1 stand.1 (All-tail (HaveRids s.records) found parents rids),
-)
+-- the records at a version's pick have the rids of its list
+listed_rids : (s : Numbers) (vid : ℕ) (records : List Record) (pick : List ℕ) (found : List Record) → IsCounted s → IsListed s records vid pick → StandAt records pick found
+    → AreRids (rows_of s vid) s.records (rids_of found)
+listed_rids s vid records pick found counted h at =
+    subst (λ (l : List Record). AreRids (rows_of s vid) s.records (rids_of l)) (sym (same_found found h.found (sym at ∙ h.picked.at)))
+    (subst (λ (n : ℕ). AreRids n s.records (rids_of h.found)) (length_permutation h.rids (rids_of h.found) h.picked.same ∙ h.agrees.count_is)
+    (rids_moved s.records h.rids (rids_of h.found) h.picked.same
+    (set_is s.records h.rids h.set (λ rid is. omega (arith, all_at (λ rid. rid ≤ records_after s vid) h.rids rid h.agrees.below is, counted vid)))))
 
-pub each_agrees : (s : Numbers) (scan : Scan) (vids : List ℕ) (parents : List (List Record)) → AllZip (HasRows s) vids scan.picks → AreTaken s scan parents → EachAgrees s vids parents
-each_agrees s scan vids parents rows h = each_of s scan.records vids scan.picks parents rows h.stand h.rids
+pub each_agrees : (s : Numbers) (records : List Record) (vids : List ℕ) (picks : List (List ℕ)) (parents : List (List Record)) → IsCounted s → AllZip (IsListed s records) vids picks
+    → AllZip (StandAt records) picks parents → EachAgrees s vids parents
+each_agrees s records [] [] [] counted listed stand = tt
+each_agrees s records [] [] (found ∷ parents) counted listed stand = absurd stand
+each_agrees s records [] (pick ∷ picks) parents counted listed stand = absurd listed
+each_agrees s records (vid ∷ vids) [] parents counted listed stand = absurd listed
+each_agrees s records (vid ∷ vids) (pick ∷ picks) [] counted listed stand = absurd stand
+each_agrees s records (vid ∷ vids) (pick ∷ picks) (found ∷ parents) counted listed stand =
+    (listed_rids s vid records pick found counted listed.0 stand.0, each_agrees s records vids picks parents counted listed.1 stand.1)
 
 zip_all : {A B : Type 0} (P : A → Type 0) (Q : B → Type 0) (R : A → B → Type 0) → ((x : A) (y : B) → R x y → P x → Q y) → (xs : List A) (ys : List B) → AllZip R xs ys → All P xs → All Q ys
 zip_all P Q R f [] [] all ps = All-nil Q
@@ -89,15 +85,15 @@ zip_all P Q R f [] (y ∷ ys) all ps = absurd all
 zip_all P Q R f (x ∷ xs) [] all ps = absurd all
 zip_all P Q R f (x ∷ xs) (y ∷ ys) all ps = All-cons Q y ys (f x y all.0 (All-head P x xs ps)) (zip_all P Q R f xs ys all.1 (All-tail P x xs ps))
 
-pub all_in_order : (schema : Shape) (s : Numbers) (scan : Scan) (parents : List (List Record)) → IsSound schema scan → AreTaken s scan parents → All (InKeyOrder schema) parents
-all_in_order schema s scan parents sound h =
+pub all_in_order : (schema : Shape) (scan : Scan) (parents : List (List Record)) → IsSound schema scan → AllZip (StandAt scan.records) scan.picks parents → All (InKeyOrder schema) parents
+all_in_order schema scan parents sound stand =
     zip_all (λ pick. RowsInOrder schema (rows_at scan.records pick)) (InKeyOrder schema) (StandAt scan.records) (λ pick found at sorted. in_order schema scan.records pick found at sorted)
-    scan.picks parents h.stand sound.ordered
+    scan.picks parents stand sound.ordered
 
-pub each_fits : (schema : Shape) (s : Numbers) (scan : Scan) (parents : List (List Record)) → IsSound schema scan → AreTaken s scan parents → All (AllFit schema) parents
-each_fits schema s scan parents sound h =
+pub each_fits : (schema : Shape) (scan : Scan) (parents : List (List Record)) → IsSound schema scan → AllZip (StandAt scan.records) scan.picks parents → All (AllFit schema) parents
+each_fits schema scan parents sound stand =
     zip_all (λ pick. Unit {0}) (AllFit schema) (StandAt scan.records) (λ pick found at x. all_fit schema scan.records pick found sound.fit at)
-    scan.picks parents h.stand (λ k d low. tt)
+    scan.picks parents stand (λ k d low. tt)
 
 parents_of : (area : List ℕ) (s : Numbers) (records : List Record) (vids : List ℕ) (picks : List (List ℕ)) (parents : List (List Record)) → AllZip (IsScanned area s records) vids picks
     → AllZip (StandAt records) picks parents → AllZip (IsParent area s) vids parents
@@ -111,44 +107,6 @@ parents_of area s records (vid ∷ vids) (pick ∷ picks) (found ∷ parents) sc
   parents_of area s records vids picks parents scanned.1 stand.1,
 )
 
-pub are_parents : (area : List ℕ) (s : Numbers) (scan : Scan) (vids : List ℕ) (parents : List (List Record)) → AllZip (IsScanned area s scan.records) vids scan.picks → AreTaken s scan parents
-    → AllZip (IsParent area s) vids parents
-are_parents area s scan vids parents scanned h = parents_of area s scan.records vids scan.picks parents scanned h.stand
-
--- ---- why they aren't given
-
-risen : (bytes rids : List ℕ) → Spells bytes rids → RiseFrom 1 rids
-risen bytes rids h = subst (RiseFrom 1) (sym h.listed) (RiseFrom-apart 0 h.ranges h.apart)
-
--- where the list agrees, the records at the pick have its rids
-agreed_rids : (area : List ℕ) (s : Numbers) (vid : ℕ) (records : List Record) (pick : List ℕ) (found : List Record) → IsCounted s → (h : IsScanned area s records vid pick) → StandAt records pick found
-    → Agrees s vid h.rids → HaveRids s.records found
-agreed_rids area s vid records pick found counted h at agrees =
-    subst (λ (l : List Record). HaveRids s.records l) (sym (same_found found h.found (sym at ∙ h.picked.at)))
-    (subst (λ (n : ℕ). AreRids n s.records (rids_of h.found)) (length-map h.found (λ r. r.rid))
-    (rids_moved s.records h.rids (rids_of h.found) h.picked.same
-    (set_is s.records h.rids (risen _ h.rids h.list.spells) (λ rid is. omega (arith, all_at (λ rid. rid ≤ records_after s vid) h.rids rid agrees.below is, counted vid)))))
-
-pub refused : (area : List ℕ) (s : Numbers) (scan : Scan) (vids : List ℕ) (e : FetchErr) → IsCounted s → AllZip (IsScanned area s scan.records) vids scan.picks → RefusesTaken e s scan vids → RefusesScan e area s vids
-refused area s scan vids Host counted scanned why = tt
-refused area s scan vids Memory counted scanned why = tt
-refused area s scan vids (Damaged page) counted scanned why =
-    let h = zip_at (IsScanned area s scan.records) vids scan.picks why.place 0 [] scanned why.there in
-    inl (record {
-      vid = get_or vids why.place 0;
-      among = is_among vids why.place 0 why.there;
-      bad = inr (record {
-        rids = h.rids;
-        list = h.list;
-        off = λ agrees. why.off (agreed_rids area s (get_or vids why.place 0) scan.records (get_or scan.picks why.place []) why.found counted h why.stand agrees);
-      });
-      page_is = why.page_is;
-    })
-
--- ---- the first one whose rids are off
-
-pub off_at : (off : Option ℕ) (place most : ℕ) (parents tables : List (List Record)) → off ≡ Some place → parents ≡ tables
-    → MatchOption off (All (HaveRids most) parents) (λ p. (p < length parents) × (HaveRids most (get_or parents p []) → ⊥)) → (place < length tables) × (HaveRids most (get_or tables place []) → ⊥)
-off_at off place most parents tables is same h =
-    subst (λ (ps : List (List Record)). (place < length ps) × (HaveRids most (get_or ps place []) → ⊥)) same
-    (subst (λ (o : Option ℕ). MatchOption o (All (HaveRids most) parents) (λ p. (p < length parents) × (HaveRids most (get_or parents p []) → ⊥))) is h)
+pub are_parents : (area : List ℕ) (s : Numbers) (scan : Scan) (vids : List ℕ) (parents : List (List Record)) → AllZip (IsScanned area s scan.records) vids scan.picks
+    → AllZip (StandAt scan.records) scan.picks parents → AllZip (IsParent area s) vids parents
+are_parents area s scan vids parents scanned stand = parents_of area s scan.records vids scan.picks parents scanned stand

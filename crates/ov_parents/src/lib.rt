@@ -7,7 +7,6 @@
 mod counting;
 mod disagreeing;
 mod reading;
-mod repeating;
 mod taking;
 
 pub use counting::records_are_counted;

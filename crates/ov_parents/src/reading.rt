@@ -16,7 +16,7 @@ ghost use Rattle.ov_read.specs.Sizes.{bytes_for};
 ghost use Rattle.ov_parents.specs.Parents.{IsCounted, IsParent, RefusesParents};
 
 use crate::disagreeing::first_disagreeing;
-use crate::taking::take_parents;
+use crate::taking::tables_of;
 use ov_catalog::Cvd;
 use ov_fetch::FetchErr;
 use ov_host::Host;
@@ -74,8 +74,8 @@ pub fn parents_of<H: Host>(
     Ok(parents)
 }
 
-/// The first page of a version's list.
-pub(crate) fn list_page(d: &Cvd, vid: u32) -> u32
+// The first page of a version's list.
+fn list_page(d: &Cvd, vid: u32) -> u32
     requires { IsThere (set_in d.now) vid }
     ensures { result ≡ (list_of (set_in d.now) vid).page }
 {
@@ -106,6 +106,6 @@ fn read_parents<H: Host>(
 {
     let wanted = Vec::from_slice(alloc, vids)?;
     let VersionsRead { scan, held } = read_versions(alloc, host, d, wanted)?;
-    let records = take_parents(alloc, d, vids, scan)?;
+    let records = tables_of(alloc, scan)?;
     Ok(ParentsRead { records, held })
 }

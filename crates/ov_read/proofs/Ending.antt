@@ -18,7 +18,7 @@ use Rattle.ov_fetch.proofs.Lacking.{get_below}
 use Rattle.ov_read.specs.declared.gathering.Gathered.{Gathered}
 use Rattle.ov_read.specs.Agreement.{Agrees, Numbers, is_served, list_of, segments_of}
 use Rattle.ov_read.specs.Damages.{RefusesLists, RefusesScan}
-use Rattle.ov_read.specs.Found.{HasRows, IsPicked, IsScanned}
+use Rattle.ov_read.specs.Found.{HasRows, IsListed, IsPicked, IsScanned}
 use Rattle.ov_read.specs.Gathered.{AreGathered}
 use Rattle.ov_read.specs.Gathering.{IsRowsOf}
 use Rattle.ov_read.proofs.Gatherings.{zip_at}
@@ -106,6 +106,13 @@ are_scanned s0 s1 n vids lists found looked told h placed lists_are agree =
       picked = one.picked;
       first = one.told told;
     })
+
+pub are_listed : (s : State) (n : Numbers) (vids : List ℕ) (lists : List (List ℕ)) (found : Gathered) → AreGathered s n vids lists found → All (λ vid. is_served n vid ≡ true) vids → AllZip (Agrees n) vids lists
+    → AllZip (IsListed n found.records.records) vids found.picks.items
+are_listed s n vids lists found h placed agree =
+    zip_from (IsListed n found.records.records) vids found.picks.items 0 [] h.count (λ k low.
+    let one = h.each k low (placed k 0 low) in
+    record { rids = get_or lists k []; set = one.set; agrees = zip_at (Agrees n) vids lists k 0 [] agree low; found = one.found; picked = one.picked })
 
 pub lists_refuse : (e : FetchErr) (area : List ℕ) (n : Numbers) (vids : List ℕ) → RefusesLists e area n vids → RefusesScan e area n vids
 lists_refuse Host area n vids why = tt

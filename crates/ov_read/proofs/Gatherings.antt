@@ -55,6 +55,7 @@ picked_before schema xs ys rids pick found h = record { at = kept_at xs ys pick 
 rows_behind : (schema : Shape) (s : State) (segments : List Extent) (xs ys : List Record) (rids pick : List ℕ) → IsRowsOf schema s segments ys rids pick
     → IsRowsOf schema s segments (xs ++ ys) rids (moved (length xs) pick)
 rows_behind schema s segments xs ys rids pick h = record {
+  set = h.set;
   found = h.found;
   picked = record { at = moved_at xs ys pick ∙ h.picked.at; same = h.picked.same; ordered = h.picked.ordered };
   told = h.told;

@@ -92,6 +92,7 @@ own_segments d vid k part low is member once = own vid d.layout.parts k part low
 
 pub rows_now : (schema : Shape) (s0 s1 : State) (old new : List Extent) (records : List Record) (rids pick : List ℕ) → Looked s0 s1 → new ≡ old → IsRowsOf schema s1 old records rids pick → IsRowsOf schema s0 new records rids pick
 rows_now schema s0 s1 old new records rids pick looked same h = record {
+  set = h.set;
   found = h.found;
   picked = h.picked;
   told = λ told. subst (λ es. AreFirst schema (page_bytes s0) es h.found) (sym same)
@@ -100,7 +101,7 @@ rows_now schema s0 s1 old new records rids pick looked same h = record {
 
 rows_kept : (schema : Shape) (s : State) (segments : List Extent) (old new : List Record) (rids before now : List ℕ) → ((found : List Record) → IsPicked schema old rids before found → IsPicked schema new rids now found)
     → IsRowsOf schema s segments old rids before → IsRowsOf schema s segments new rids now
-rows_kept schema s segments old new rids before now keeps h = record { found = h.found; picked = keeps h.found h.picked; told = h.told }
+rows_kept schema s segments old new rids before now keeps h = record { set = h.set; found = h.found; picked = keeps h.found h.picked; told = h.told }
 
 serves_some : (vids versions group : List ℕ) (part : Part) → IsGroup vids part.versions group → 0 < length group → serves_one vids (part_in part) ≡ true
 serves_some vids versions group part is some =

@@ -160,6 +160,7 @@ rows_zip schema s segments all got [] (p ∷ picks) are rows within picked stand
 rows_zip schema s segments all got (m ∷ members) [] are rows within picked stand full = absurd picked
 rows_zip schema s segments all got (m ∷ members) (p ∷ picks) are rows within picked stand full = (
   record {
+    set = (full 0 (omega arith)).1;
     found = at_places got p;
     picked = is_picked schema got m p are (full 0 (omega arith)).1 picked.0 (All-head (AllStand got) p picks stand) (full 0 (omega arith)).0;
     told = λ told. first_found schema (page_bytes s) segments all got m p are (rows told) picked.0 (λ rid member. within rid (one_asked m members rid member));

@@ -2,12 +2,14 @@
 --     IsPicked schema records rids pick found      at these positions stand these records, which have the rids, each once, in
 --         key order
 --     IsScanned area s records vid pick      so they are those of the version, as they are read, and its list agrees
+--     IsListed s records vid pick      so they have the rids of a list that agrees, each once
 use Rattle.std.specs.Prelude.{◌≡◌, ℕ, List, length, map, Some, slice_get}
 use Rattle.std.specs.List.{All}
 use Rattle.std.specs.List.Sorted.{IsPermutation}
 use Rattle.ov_host.specs.declared.area.Extent.{Extent}
 use Rattle.ov_value.specs.Shapes.{Shape}
 use Rattle.ov_segment.specs.declared.numbered.Record.{Record}
+use Rattle.ov_member.specs.Rids.{AreRids}
 use Rattle.ov_fetch.specs.Extents.{IsList, rids_of}
 use Rattle.ov_fetch.specs.Rows.{AreSegments, joined, record_of}
 use Rattle.ov_fetch.specs.Scans.{InKeyOrder, rows_of as rows_in}
@@ -31,6 +33,14 @@ pub record IsScanned (area : List ℕ) (s : Numbers) (records : List Record) (vi
   pub found : List Record
   pub picked : IsPicked s.schema records rids pick found
   pub first : AreFirst s.schema area (segments_of s vid) found
+
+-- on every host: the records have the rids of a list that agrees
+pub record IsListed (s : Numbers) (records : List Record) (vid : ℕ) (pick : List ℕ) : Type 0 where
+  pub rids : List ℕ
+  pub set : AreRids rids
+  pub agrees : Agrees s vid rids
+  pub found : List Record
+  pub picked : IsPicked s.schema records rids pick found
 
 -- as many as the version has rows
 abbrev pub HasRows : Numbers → ℕ → List ℕ → Type 0

@@ -28,6 +28,7 @@ pub record IsGroup (vids versions group : List ℕ) : Type 0 where
   pub all : (place : ℕ) → place < length vids → has versions (slice_index_or vids place 0) ≡ true → has group place ≡ true
 
 pub record IsRowsOf (schema : Shape) (s : State) (segments : List Extent) (records : List Record) (rids pick : List ℕ) : Type 0 where
+  pub set : AreRids rids
   pub found : List Record
   pub picked : IsPicked schema records rids pick found
   pub told : s.tells ≡ true → AreFirst schema (page_bytes s) segments found

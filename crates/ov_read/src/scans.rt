@@ -9,7 +9,7 @@ ghost use Rattle.ov_fetch.specs.Extents.{Looked, page_bytes};
 ghost use Rattle.ov_fetch.specs.Scans.{IsSound};
 ghost use Rattle.ov_read.specs.Agreement.{IsThere, is_served};
 ghost use Rattle.ov_read.specs.Damages.{RefusesScan};
-ghost use Rattle.ov_read.specs.Found.{HasRows, IsScanned};
+ghost use Rattle.ov_read.specs.Found.{HasRows, IsListed, IsScanned};
 ghost use Rattle.ov_read.specs.Partitions.{AreHeld};
 ghost use Rattle.ov_read.specs.Sizes.{bytes_for};
 
@@ -85,6 +85,8 @@ pub fn read_versions<H: Host>(
     ensures vids { IfOk result (λ read. read.scan.vids ≡ vids.items) }
     ensures sound { IfOk result (λ read. IsSound d.now.schema read.scan) }
     ensures rows { IfOk result (λ read. AllZip (HasRows (set_in d.now)) vids.items read.scan.picks) }
+    // So no version has a rid twice, on any host, nor one that came later.
+    ensures distinct { IfOk result (λ read. AllZip (IsListed (set_in d.now) read.scan.records) vids.items read.scan.picks) }
     ensures held { IfOk result (λ read. AreHeld (H.state host.old).tells (page_bytes (H.state host.old)) (set_in d.now) vids.items read.held.items) }
     ensures answer { (H.state host.old).tells ≡ true → MatchResult result
         (λ read. AllZip (IsScanned (page_bytes (H.state host.old)) (set_in d.now) read.scan.records) vids.items read.scan.picks)

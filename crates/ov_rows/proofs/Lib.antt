@@ -1,5 +1,6 @@
 pub mod Agreeing
 pub mod Comparing
+pub mod Fronts
 pub mod Members
 pub mod Neighbours
 pub mod Numbering

@@ -6,6 +6,7 @@
 
 mod file_rows;
 mod formats;
+mod keyed;
 mod refused;
 mod repeats;
 mod rows_err;

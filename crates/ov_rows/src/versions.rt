@@ -11,7 +11,7 @@ ghost use Rattle.ov_rows.specs.Refusing.{first_repeat, rows_off, IsWhy};
 
 use crate::file_rows::sorted_positions;
 use crate::formats::format_off;
-use crate::repeats::{keys_rise, least_repeat};
+use crate::repeats::keys_rise;
 use crate::rows_err::RowsErr;
 use ov_segment::RowTable;
 use ov_value::Schema;
@@ -74,8 +74,5 @@ fn in_key_order(alloc: Global, schema: &Schema, rows: RowTable) -> Result<RowTab
         return Ok(rows);
     }
     let order = sorted_positions(alloc, schema, &rows)?;
-    if let Some(row) = least_repeat(schema, &rows, order.as_slice()) {
-        return Err(RowsErr::DuplicateKey { row });
-    }
     Ok(rows.at(order.as_slice())?)
 }

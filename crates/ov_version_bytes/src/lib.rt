@@ -10,6 +10,7 @@ mod laws;
 mod next;
 mod order;
 mod runs;
+mod slots;
 mod write_err;
 
 pub use first::first_version;

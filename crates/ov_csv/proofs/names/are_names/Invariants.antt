@@ -1,9 +1,8 @@
 use Rattle.std.proofs.Common.{◌≡◌, drop, nat_eq}
 use Rattle.std.specs.Cmp.Lexicographic.{pointwise}
-use Rattle.csv.specs.Records.{fields_of}
 use Rattle.ov_value.specs.Shapes.{names}
 use Rattle.ov_csv.proofs.names.are_names.Given as goal
 
 -- those before the place are the same, so the answer is that of the others
 abbrev pub invariant-loop-place : goal.invariant-loop-place
-invariant-loop-place l = pointwise (pointwise nat_eq) (fields_of l.line) (names l.columns) ≡ pointwise (pointwise nat_eq) (drop l.place (fields_of l.line)) (names (drop l.place l.columns))
+invariant-loop-place l = pointwise (pointwise nat_eq) l.line (names l.columns) ≡ pointwise (pointwise nat_eq) (drop l.place l.line) (names (drop l.place l.columns))

@@ -2,27 +2,25 @@ use Rattle.std.proofs.Common.{ℕ, List, subst}
 use Rattle.std.specs.List.{AllZip}
 use Rattle.ov_catalog.specs.Sets.{set_in}
 use Rattle.ov_fetch.specs.Extents.{page_bytes}
-use Rattle.ov_fetch.proofs.Gathered.{passed_on}
-use Rattle.ov_read.specs.Damages.{RefusesScan}
-use Rattle.ov_read.specs.Found.{HasRows, IsScanned}
+use Rattle.ov_read.specs.Found.{IsListed, IsScanned}
 use Rattle.ov_read.specs.Partitions.{AreHeld}
-use Rattle.ov_parents.specs.Parents.{IsParent}
-use Rattle.ov_parents.proofs.Taken.{all_in_order, are_parents, each_agrees, each_fits, refused}
+use Rattle.ov_parents.proofs.Taken.{all_in_order, are_parents, each_agrees, each_fits}
 use Rattle.ov_parents.proofs.reading.read_parents.Goals as goal
 
 pub returns-clause-each : goal.returns-clause-each
 returns-clause-each g c =
     let s = set_in c.args.d.now in
     let scan = c.in_ok-scan.field-0.scan in
-    each_agrees s scan c.args.vids.now c.in_ok-records.records.items (subst (λ (vs : List ℕ). AllZip (HasRows s) vs scan.picks) c.in_ok-wanted.ensures.items c.in_ok-scan.ensures.rows) c.in_ok-records.ensures
+    each_agrees s scan.records c.args.vids.now scan.picks c.in_ok-records.records.items c.requires.counted
+    (subst (λ (vs : List ℕ). AllZip (IsListed s scan.records) vs scan.picks) c.in_ok-wanted.ensures.items c.in_ok-scan.ensures.distinct) c.in_ok-records.ensures
 
 pub returns-clause-order : goal.returns-clause-order
 returns-clause-order g c =
-    all_in_order c.args.d.now.schema (set_in c.args.d.now) c.in_ok-scan.field-0.scan c.in_ok-records.records.items c.in_ok-scan.ensures.sound c.in_ok-records.ensures
+    all_in_order c.args.d.now.schema c.in_ok-scan.field-0.scan c.in_ok-records.records.items c.in_ok-scan.ensures.sound c.in_ok-records.ensures
 
 pub returns-clause-fit : goal.returns-clause-fit
 returns-clause-fit g c =
-    each_fits c.args.d.now.schema (set_in c.args.d.now) c.in_ok-scan.field-0.scan c.in_ok-records.records.items c.in_ok-scan.ensures.sound c.in_ok-records.ensures
+    each_fits c.args.d.now.schema c.in_ok-scan.field-0.scan c.in_ok-records.records.items c.in_ok-scan.ensures.sound c.in_ok-records.ensures
 
 pub returns-clause-held : goal.returns-clause-held
 returns-clause-held g c =
@@ -37,13 +35,3 @@ returns-clause-answer g c told =
     let vids : List ℕ = c.args.vids.now in
     let scanned = subst (λ (vs : List ℕ). AllZip (IsScanned area s scan.records) vs scan.picks) c.in_ok-wanted.ensures.items (c.in_ok-scan.ensures.answer told) in
     are_parents area s scan vids c.in_ok-records.records.items scanned c.in_ok-records.ensures
-
-pub returns-in_err-records-clause-answer : goal.returns-in_err-records-clause-answer
-returns-in_err-records-clause-answer g c told =
-    let area : List ℕ = page_bytes (g.H.Host.state c.args.host.now) in
-    let s = set_in c.args.d.now in
-    let scan = c.in_ok-scan.field-0.scan in
-    let vids : List ℕ = c.args.vids.now in
-    let scanned = subst (λ (vs : List ℕ). AllZip (IsScanned area s scan.records) vs scan.picks) c.in_ok-wanted.ensures.items (c.in_ok-scan.ensures.answer told) in
-    passed_on (λ read. AllZip (IsParent area s) vids read.records.items) (λ e. RefusesScan e area s vids) c.from_residual-in_err-records.result c.in_err-records.field-0.0 c.from_residual-in_err-records.ensures
-    (refused area s scan vids c.in_err-records.field-0.0 c.requires.counted scanned c.in_err-records.ensures)

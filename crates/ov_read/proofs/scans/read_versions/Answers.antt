@@ -8,7 +8,7 @@ use Rattle.ov_read.specs.Gathered.{AreGathered}
 use Rattle.ov_read.specs.Partitions.{AreHeld}
 use Rattle.ov_read.proofs.Keeping.{held_before}
 use Rattle.ov_read.proofs.Gatherings.{zip_length}
-use Rattle.ov_read.proofs.Ending.{have_rows, are_sound, are_scanned}
+use Rattle.ov_read.proofs.Ending.{are_listed, have_rows, are_sound, are_scanned}
 use Rattle.ov_read.proofs.scans.read_versions.Goals as goal
 
 pub gather-requires-clause-paired : goal.gather-requires-clause-paired
@@ -49,6 +49,20 @@ returns-clause-rows g c =
     let agree = subst (λ (vs : List ℕ). AllZip (Agrees n) vs lists) c.deref.ensures.value c.in_ok-lists.ensures.agree in
     let picks : c.new-3.result ≡ c.in_ok-found.field-0.found.picks.items = c.new-3.ensures ∙ search rules in
     rw picks (have_rows s1 n vids lists found h c.requires.placed agree)
+
+pub returns-clause-distinct : goal.returns-clause-distinct
+returns-clause-distinct g c =
+    let s1 = g.H.Host.state c.lists_of.new.host in
+    let n = set_in c.args.d.now in
+    let found = c.in_ok-found.field-0.found in
+    let vids : List ℕ = c.args.vids.items in
+    let lists : List (List ℕ) = c.in_ok-lists.lists.items in
+    let h0 = subst (λ (vs : List ℕ). AreGathered s1 n vs c.deref-3.result.now found) c.deref-2.ensures.value c.in_ok-found.ensures.gathered in
+    let h = subst (λ (ls : List (List ℕ)). AreGathered s1 n vids ls found) c.deref-3.ensures.value h0 in
+    let agree = subst (λ (vs : List ℕ). AllZip (Agrees n) vs lists) c.deref.ensures.value c.in_ok-lists.ensures.agree in
+    let records : c.new-2.result ≡ c.in_ok-found.field-0.found.records.records = c.new-2.ensures in
+    let picks : c.new-3.result ≡ c.in_ok-found.field-0.found.picks.items = c.new-3.ensures ∙ search rules in
+    rw (records, picks) (are_listed s1 n vids lists found h c.requires.placed agree)
 
 pub returns-clause-answer : goal.returns-clause-answer
 returns-clause-answer g c told =

@@ -1,10 +1,8 @@
-use Rattle.std.proofs.Common.{None, Some, sym, ◌∙◌, ap, subst}
-use Rattle.std.specs.Option.{option_map}
+use Rattle.std.proofs.Common.{None, sym, ◌∙◌, subst}
 use Rattle.std.specs.List.Sorted.{IsPermutation}
 use Rattle.ov_value.specs.Rows.{key_cmp}
 use Rattle.ov_model.specs.Lists.{Rises}
-use Rattle.ov_rows.specs.declared.rows_err.RowsErr.TheVariants.{DuplicateKey}
-use Rattle.ov_rows.specs.FileRows.{least_repeat, lines_at}
+use Rattle.ov_rows.specs.FileRows.{lines_at}
 use Rattle.ov_rows.proofs.Ordered.{rows_moved, sorted_rises, sorted_is_order}
 use Rattle.ov_rows.proofs.Positions.{rows_at}
 use Rattle.ov_rows.proofs.Repeating.{least_is_first}
@@ -17,39 +15,31 @@ returns-then-keys_rise-clause-answer c = none_repeated c.args.schema.now c.args.
 pub returns-then-keys_rise-clause-rows : goal.returns-then-keys_rise-clause-rows
 returns-then-keys_rise-clause-rows c = stands c.args.schema.now c.args.rows (c.keys_rise.ensures.0 c.if-keys_rise.true)
 
-pub returns-in-Some-clause-answer : goal.returns-in-Some-clause-answer
-returns-in-Some-clause-answer c =
-    let schema = c.args.schema.now in
-    let told = c.in_ok-order.ensures in
-    let lines = lines_at c.args.rows c.in_ok-order.order.items in
-    let found = ap (λ order. least_repeat schema None (lines_at c.args.rows order)) (sym c.as_slice.ensures.value) ∙ sym c.least_repeat.ensures ∙ c.in-Some.is in
-    λ _. ap (option_map DuplicateKey) (least_is_first schema c.args.rows lines (Some c.in-Some.row) told.moved told.rise found)
-
 pub returns-clause-answer : goal.returns-clause-answer
 returns-clause-answer c =
     let schema = c.args.schema.now in
     let told = c.in_ok-order.ensures in
-    let none = ap (λ order. least_repeat schema None (lines_at c.args.rows order)) (sym c.as_slice.ensures.value) ∙ sym c.least_repeat.ensures ∙ c.in_default.is in
+    let none = told.apart in
     least_is_first schema c.args.rows (lines_at c.args.rows c.in_ok-order.order.items) None told.moved told.rise none
 
 pub returns-clause-rows : goal.returns-clause-rows
 returns-clause-rows c =
     let schema = c.args.schema.now in
     let told = c.in_ok-order.ensures in
-    let none = ap (λ order. least_repeat schema None (lines_at c.args.rows order)) (sym c.as_slice.ensures.value) ∙ sym c.least_repeat.ensures ∙ c.in_default.is in
-    (rw (c.in_ok-at.ensures, c.as_slice-2.ensures.value) (sym (rows_at c.args.rows c.in_ok-order.order.items)))
+    let none = told.apart in
+    (rw (c.in_ok-at.ensures, c.as_slice.ensures.value) (sym (rows_at c.args.rows c.in_ok-order.order.items)))
     ∙ sorted_is_order schema c.args.rows (lines_at c.args.rows c.in_ok-order.order.items) told.moved told.rise none
 
 pub returns-clause-rise : goal.returns-clause-rise
 returns-clause-rise c =
     let schema = c.args.schema.now in
     let told = c.in_ok-order.ensures in
-    let none = ap (λ order. least_repeat schema None (lines_at c.args.rows order)) (sym c.as_slice.ensures.value) ∙ sym c.least_repeat.ensures ∙ c.in_default.is in
-    rw (c.in_ok-at.ensures, c.as_slice-2.ensures.value)
+    let none = told.apart in
+    rw (c.in_ok-at.ensures, c.as_slice.ensures.value)
     (subst (Rises (key_cmp schema)) (rows_at c.args.rows c.in_ok-order.order.items) (sorted_rises schema (lines_at c.args.rows c.in_ok-order.order.items) told.rise none))
 
 pub returns-clause-kept : goal.returns-clause-kept
 returns-clause-kept c =
-    rw (c.in_ok-at.ensures, c.as_slice-2.ensures.value)
+    rw (c.in_ok-at.ensures, c.as_slice.ensures.value)
     (subst (IsPermutation c.args.rows) (rows_at c.args.rows c.in_ok-order.order.items)
     (rows_moved c.args.rows (lines_at c.args.rows c.in_ok-order.order.items) c.in_ok-order.ensures.moved))

@@ -1,21 +1,19 @@
--- A read takes the first of the records that are left.
-use Rattle.ov_csv.proofs.Steps.{read-takes, read-reads}
+-- The next record is the first of those that are left.
+use Rattle.std.proofs.Common.{refl}
+use Rattle.csv.specs.declared.parser.State.TheVariants as st
+use Rattle.ov_csv.proofs.Between.{records_after-next, records_after-none}
+use Rattle.ov_csv.proofs.PlainLemmas.{none_left, on_err}
 use Rattle.ov_csv.proofs.lines.Lines.next.Goals as goal
 
-pub invariant_of-self-2 : goal.invariant_of-self-2
-invariant_of-self-2 c =
-    let before = c.self.invariant c.if-self.false in
-    let is = c.in_ok-found.ensures in
-    let read = (rw is at c.read_byte_record.ensures.reads) before.plain before.ready in
-    let goes = rw is at c.read_byte_record.ensures.goes in
-    let first = (rw is at c.read_byte_record.ensures.ready) before.plain in
-    λ e. read-reads _ c.self.inside.reader c.read_byte_record.new.self c.in_ok-found.found _ before read goes first e
+pub returns-in_err-more-clause-err : goal.returns-in_err-more-clause-err
+returns-in_err-more-clause-err c = on_err c.from_residual.result _ none_left
 
-pub returns-clause-ok : goal.returns-clause-ok
-returns-clause-ok c =
-    let before = c.self.invariant c.if-self.false in
-    let is = c.in_ok-found.ensures in
-    let read = (rw is at c.read_byte_record.ensures.reads) before.plain before.ready in
-    let goes = rw is at c.read_byte_record.ensures.goes in
-    let first = (rw is at c.read_byte_record.ensures.ready) before.plain in
-    rw (← c.self.view_is, c.if-self.false) (read-takes _ c.self.inside.reader c.read_byte_record.new.self c.in_ok-found.found _ before read goes first)
+pub returns-in-Some-2-clause-ok : goal.returns-in-Some-2-clause-ok
+returns-in-Some-2-clause-ok c =
+    let next = rw c.in-Some-2.is at c.in_ok-more.ensures in
+    rw (← c.self.view_is, c.in-Some.is) (records_after-next st.StartRecord c.in-Some.rest.now (c.cut.new.self, st.StartRecord, c.in-Some-2.more.now) refl next.0)
+
+pub returns-in-None-clause-ok : goal.returns-in-None-clause-ok
+returns-in-None-clause-ok c =
+    let next = rw c.in-None.is at c.in_ok-more.ensures in
+    (rw (← c.self.view_is, c.in-Some.is) (records_after-none st.StartRecord c.in-Some.rest.now next), none_left)
