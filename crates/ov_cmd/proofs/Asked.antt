@@ -4,7 +4,7 @@ use Rattle.std.specs.Prelude.{Option, Some, None, Result, Ok, Err, IfOk}
 use Rattle.law_forms.specs.Built.{IsBuilt, built_forms}
 use Rattle.law_forms.proofs.BuiltForms.{asked, built}
 use Rattle.ov_model.specs.Formed.{AsksSo, IsAsked}
-use Rattle.ov_model.specs.Forms.{Form, all_forms}
+use Rattle.ov_model.specs.Forms.{all_forms}
 use Rattle.ov_model.specs.Line.{line_of}
 use Rattle.ov_model.specs.declared.command.Command.{Command}
 use Rattle.ov_model.proofs.AllFormed.{line_asks}

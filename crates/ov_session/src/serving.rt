@@ -2,8 +2,9 @@
 ghost use Rattle.std.specs.Prelude.{◌≡◌, ◌≢◌, ◌≤◌, ◌+◌, ℕ, true, false, None, Ok, Err, IsErrOf, IsTrue, IfOk, IfErr, OnOk, is_ok};
 ghost use Rattle.ov_host.specs.Host.{Calls, Rose, State};
 ghost use Rattle.ov_host.specs.Tape.{Prints};
-ghost use Rattle.ov_cmd.specs.Asked.{IsAsked};
-ghost use Rattle.ov_model.specs.BuiltShapes.{if_built};
+ghost use Rattle.law_forms.specs.Built.{IsBuilt};
+ghost use Rattle.ov_model.specs.Formed.{IsAsked};
+ghost use Rattle.law_forms.specs.BuiltShapes.{if_built, served_forms};
 ghost use Rattle.ov_model.specs.Deed.{permitted};
 ghost use Rattle.ov_model.specs.Line.{Asks};
 ghost use Rattle.ov_model.specs.declared.command.Command.{Command as CommandValue};
@@ -62,6 +63,7 @@ fn answer<H: Host, T: Stage>(
 ) -> Result<Reply, EndErr>
     requires call { MayCall store.old (H.state host.old) }
     requires asked { IsAsked command }
+    requires built { IsBuilt command }
     ensures goes { Goes (H.state host.old) (H.state host.new) }
     ensures attended { Attended (T.staged stage.old) (T.staged stage.new) }
     ensures still { IsReadingCommand command → store.new.held ≡ store.old.held }
@@ -205,7 +207,7 @@ fn serve_line<H: Host, T: Stage>(
     ensures replied { IfOk result (λ served. IsSaidBy (line_asked user.now line.now) served store.old.held
         (T.staged stage.old) (T.staged stage.new) (H.state host.old) (H.state host.new)) }
     ensures serves { (w : World) → (T.staged stage.old).tells ≡ true → IsAtWorld w store.old.held (H.state host.old)
-        → Serves 0 w (session_of (T.staged stage.old).files user.now) (session_of (T.staged stage.new).files user.now) line.now
+        → Serves served_forms 0 w (session_of (T.staged stage.old).files user.now) (session_of (T.staged stage.new).files user.now) line.now
         (is_ok result) (is_refused result) store.old.held store.new.held (H.state host.old) (H.state host.new) }
 {
     match asked(alloc, line, user) {
@@ -273,7 +275,7 @@ pub fn serve<H: Host, T: Stage>(
     ensures replied { IfOk result (λ served. IsReplied steps (line_asked user.old line.now) served store.old.held
         (T.staged stage.old) (T.staged stage.new) (H.state host.old) (H.state host.new)) }
     ensures serves { (w : World) → (T.staged stage.old).tells ≡ true → IsAtWorld w store.old.held (H.state host.old)
-        → Serves steps w (session_of (T.staged stage.old).files user.old) (session_of (T.staged stage.new).files user.new) line.now
+        → Serves served_forms steps w (session_of (T.staged stage.old).files user.old) (session_of (T.staged stage.new).files user.new) line.now
         (is_ok result) (is_refused result) store.old.held store.new.held (H.state host.old) (H.state host.new) }
 {
     let served = serve_line(alloc, store, host, stage, line, user)?;

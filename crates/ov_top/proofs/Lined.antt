@@ -33,7 +33,7 @@ use Rattle.law_runs.specs.Stops.{IsDue, IsFound, printed_of}
 use Rattle.ov_model.specs.Act.{Session}
 use Rattle.ov_model.proofs.Replying.{says_some}
 use Rattle.ov_model.specs.Course.{Item, SaysSome, Space, line_served, play, served}
-use Rattle.ov_model.specs.BuiltShapes.{served_forms}
+use Rattle.law_forms.specs.BuiltShapes.{served_forms}
 use Rattle.ov_model.specs.Line.{Refused, line_of}
 use Rattle.ov_model.specs.Words.{lines_of}
 use Rattle.ov_model.specs.World.{World}
@@ -73,7 +73,7 @@ kept_line line =
     ]
 
 pub serves_kept : (steps : ℕ) (w : World) (s t : Session) (line : List ℕ) (ok refused : Bool) (before now : Held) (old new : State)
-    → Serves steps w s t (take 65537 line) ok refused before now old new → Serves steps w s t line ok refused before now old new
+    → Serves served_forms steps w s t (take 65537 line) ok refused before now old new → Serves served_forms steps w s t line ok refused before now old new
 serves_kept steps w s t line ok refused before now old new x =
     record {
       used = x.used;
@@ -181,14 +181,14 @@ pub record Gone (steps : ℕ) (w : World) (s t : Session) (all left : List ℕ) 
   pub gone : List (List ℕ)
   pub whole : lines_of all ≡ gone ++ lines_of left
   pub bytes : ended ≡ false → (front : List ℕ) × (all ≡ front ++ left) × ((text : List ℕ) → ended_lines (front ++ text) ≡ gone ++ ended_lines text)
-  pub so : SoFar steps w s t gone failed before now old new
+  pub so : SoFar served_forms steps w s t gone failed before now old new
 
 pub gone_start : (steps : ℕ) (w : World) (s : Session) (all : List ℕ) (held : Held) (st : State) → IsAtWorld w held st → Gone steps w s s all all false false held held st st
 gone_start steps w s all held st at = record {
   gone = [];
   whole = refl;
   bytes = λ open_. ([], refl, λ text. refl);
-  so = so_far_start steps w s held st at;
+  so = so_far_start served_forms steps w s held st at;
 }
 
 -- the bytes of a line more
@@ -213,51 +213,51 @@ bytes_more gone all before now line false ending stays bytes (plain, inl feed) o
 
 pub gone_more : (steps : ℕ) (w : World) (s t u : Session) (all left later line : List ℕ) (ended ending failed refused : Bool) (before now held : Held) (old mid new : State)
     → (so : Gone steps w s t all left ended failed before now old mid) → (ended ≡ true → ending ≡ true) → IsNext ending line left later
-    → Serves steps so.so.world t u line true refused now held mid new → Gone steps w s u all later ending (failed || refused) before held old new
+    → Serves served_forms steps so.so.world t u line true refused now held mid new → Gone steps w s u all later ending (failed || refused) before held old new
 gone_more steps w s t u all left later line ended ending failed refused before now held old mid new so stays next serves = record {
   gone = so.gone ++ line ∷ [];
   whole = so.whole ∙ ap (λ (ls : List (List ℕ)). so.gone ++ ls) (next_lines ending line left later next) ∙ sym (append_assoc so.gone (line ∷ []) (lines_of later));
   bytes = λ open_. bytes_more so.gone all left later line ended ending stays so.bytes next open_;
-  so = so_far_more steps w s t so.gone line failed before now old mid so.so u refused held new serves;
+  so = so_far_more served_forms steps w s t so.gone line failed before now old mid so.so u refused held new serves;
 }
 
 -- it ends in a line
 pub gone_ends : (steps : ℕ) (w : World) (s t u : Session) (all left later line : List ℕ) (ended ending failed refused : Bool) (before now held : Held) (old mid new : State)
     → (so : Gone steps w s t all left ended failed before now old mid) → IsNext ending line left later
-    → Serves steps so.so.world t u line false refused now held mid new → Runs steps w s (lines_of all) before old new
+    → Serves served_forms steps so.so.world t u line false refused now held mid new → Runs served_forms steps w s (lines_of all) before old new
 gone_ends steps w s t u all left later line ended ending failed refused before now held old mid new so next serves =
-    so_far_ends steps w s t so.gone line failed before now old mid so.so (lines_of all) (lines_of later)
+    so_far_ends served_forms steps w s t so.gone line failed before now old mid so.so (lines_of all) (lines_of later)
     (so.whole ∙ ap (λ (ls : List (List ℕ)). so.gone ++ ls) (next_lines ending line left later next)) u refused held new serves
 
 -- it ends at its last line
 pub gone_all : (steps : ℕ) (w : World) (s t : Session) (all left : List ℕ) (ended failed : Bool) (before now : Held) (old new : State)
-    → Gone steps w s t all left ended failed before now old new → lines_of left ≡ [] → course.Ends steps w s t (lines_of all) failed before now old new
+    → Gone steps w s t all left ended failed before now old new → lines_of left ≡ [] → course.Ends served_forms steps w s t (lines_of all) failed before now old new
 gone_all steps w s t all left ended failed before now old new so none =
-    so_far_all steps w s t (lines_of all) so.gone (lines_of left) failed before now old new so.whole none so.so
+    so_far_all served_forms steps w s t (lines_of all) so.gone (lines_of left) failed before now old new so.whole none so.so
 
 -- it ends in reading a line
 gone_halts : (steps : ℕ) (w : World) (s t : Session) (left : List ℕ) (ended failed : Bool) (before now : Held) (old new : State) (script later : Script)
     → Gone steps w s t script.left left ended failed before now old new → (ended ≡ false) × (part : List ℕ) × (left ≡ part ++ later.left) × (has_feed part ≡ false)
-    → Halts steps w s t (ended_lines (taken_of script later)) (lines_of script.left) failed before now old new
+    → Halts served_forms steps w s t (ended_lines (taken_of script later)) (lines_of script.left) failed before now old new
 gone_halts steps w s t left ended failed before now old new script later so read =
     let front = so.bytes read.0
     in let whole : script.left ≡ front.0 ++ (read.1 ++ later.left) = front.1 ∙ ap (λ (b : List ℕ). front.0 ++ b) read.2
     in let taken : so.gone ≡ ended_lines (taken_of script later) =
     sym (append-nil so.gone) ∙ ap (λ (ls : List (List ℕ)). so.gone ++ ls) (sym (no_ended read.1 read.3)) ∙ sym (front.2 read.1)
     ∙ ap ended_lines (sym (taken_is front.0 read.1 script later whole))
-    in subst (λ (ls : List (List ℕ)). Halts steps w s t ls (lines_of script.left) failed before now old new) taken
-    (so_far_halts steps w s t (lines_of script.left) so.gone (lines_of left) so.whole failed before now old new so.so)
+    in subst (λ (ls : List (List ℕ)). Halts served_forms steps w s t ls (lines_of script.left) failed before now old new) taken
+    (so_far_halts served_forms steps w s t (lines_of script.left) so.gone (lines_of left) so.whole failed before now old new so.so)
 
 gone_runs : (steps : ℕ) (w : World) (s t : Session) (all left : List ℕ) (ended failed : Bool) (before now : Held) (old new : State)
-    → Gone steps w s t all left ended failed before now old new → Runs steps w s (lines_of all) before old new
+    → Gone steps w s t all left ended failed before now old new → Runs served_forms steps w s (lines_of all) before old new
 gone_runs steps w s t all left ended failed before now old new so =
-    halts_run steps w s t so.gone (lines_of all) failed before now old new
-    (so_far_halts steps w s t (lines_of all) so.gone (lines_of left) so.whole failed before now old new so.so)
+    halts_run served_forms steps w s t so.gone (lines_of all) failed before now old new
+    (so_far_halts served_forms steps w s t (lines_of all) so.gone (lines_of left) so.whole failed before now old new so.so)
 
 -- ---- the lines of a run, at its ends
 
 -- it ends where it begins
-pub runs_start : (steps : ℕ) (w : World) (s : Session) (all : List ℕ) (held : Held) (st : State) → IsAtWorld w held st → Runs steps w s (lines_of all) held st st
+pub runs_start : (steps : ℕ) (w : World) (s : Session) (all : List ℕ) (held : Held) (st : State) → IsAtWorld w held st → Runs served_forms steps w s (lines_of all) held st st
 runs_start steps w s all held st at = gone_runs steps w s s all all false false held held st st (gone_start steps w s all held st at)
 
 -- it ends in reading the next line
@@ -274,7 +274,7 @@ ends_reading steps w s t reading.TooLong reader left failed before now old new s
 
 -- it ends in serving a line
 pub ends_serving : (steps : ℕ) (w : World) (s t : Session) (lines taken : List (List ℕ)) (still : Type 0) (e : EndErr) (before : Held) (old new : State) → IsNoDamage e
-    → (e ≡ ending.Stage → still → ⊥) → Runs steps w s lines before old new
+    → (e ≡ ending.Stage → still → ⊥) → Runs served_forms steps w s lines before old new
     → AllServed steps w s t lines taken still (Err (by_serving e)) before old new
 ends_serving steps w s t lines taken still ending.Host before old new fine rose runs = runs
 ends_serving steps w s t lines taken still ending.Stage before old new fine rose runs = (runs, λ same. absurd (rose refl same))
@@ -300,14 +300,14 @@ module _ (steps : ℕ) (w : World) (old mid new : Ends) (told : IsTold w old) (h
       → (c : Image) → left_since new.host.tape (clock old.host.tape) c → IsDue w (printed_of old.host) (items_of space) c
   stops_by space running = stops_due w held old.host mid.host new.host at opened.settled.printed opening (items_of space) (some space) running
 
-  pub stops_of : Runs steps w (session_at old) (lines_of old.script.left) held mid.host new.host → Stops steps w old new
+  pub stops_of : Runs served_forms steps w (session_at old) (lines_of old.script.left) held mid.host new.host → Stops steps w old new
   stops_of runs = record {
     space = runs.space;
     licensed = λ entry is. runs.licensed entry (enters w old.host.tape.disk held mid.host opened at entry is);
     stops = stops_by runs.space runs.stops;
   }
 
-  pub played_of : (failed : Bool) (now : Held) → course.Ends steps w (session_at old) (session_at new) (lines_of old.script.left) failed held now mid.host new.host
+  pub played_of : (failed : Bool) (now : Held) → course.Ends served_forms steps w (session_at old) (session_at new) (lines_of old.script.left) failed held now mid.host new.host
       → Played steps w failed old new
   played_of failed now ends = record {
     space = ends.space;
@@ -507,13 +507,13 @@ still_world w ends told =
 
 pub serves_as : (steps : ℕ) (w : World) (files files2 : Map) (u u2 user x kept line : List ℕ) (ok refused : Bool) (before now : Held) (old new : State)
     → u ≡ user → u2 ≡ u → x ≡ kept → kept ≡ take 65537 line
-    → Serves steps w (session_of files u) (session_of files2 u2) x ok refused before now old new
-    → Serves steps w (session_of files user) (session_of files2 user) line ok refused before now old new
+    → Serves served_forms steps w (session_of files u) (session_of files2 u2) x ok refused before now old new
+    → Serves served_forms steps w (session_of files user) (session_of files2 user) line ok refused before now old new
 serves_as steps w files files2 u u2 user x kept line ok refused before now old new is same value keeps serves =
     serves_kept steps w (session_of files user) (session_of files2 user) line ok refused before now old new
-    (subst (λ (l : List ℕ). Serves steps w (session_of files user) (session_of files2 user) l ok refused before now old new) (value ∙ keeps)
-    (subst (λ (v : List ℕ). Serves steps w (session_of files user) (session_of files2 v) x ok refused before now old new) (same ∙ is)
-    (subst (λ (v : List ℕ). Serves steps w (session_of files v) (session_of files2 u2) x ok refused before now old new) is serves)))
+    (subst (λ (l : List ℕ). Serves served_forms steps w (session_of files user) (session_of files2 user) l ok refused before now old new) (value ∙ keeps)
+    (subst (λ (v : List ℕ). Serves served_forms steps w (session_of files user) (session_of files2 v) x ok refused before now old new) (same ∙ is)
+    (subst (λ (v : List ℕ). Serves served_forms steps w (session_of files v) (session_of files2 u2) x ok refused before now old new) is serves)))
 
 pub not_seen : (b : Bool) → b ≡ true → b ≡ false → ⊥
 not_seen true seen open_ = cc

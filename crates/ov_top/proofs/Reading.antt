@@ -18,7 +18,7 @@ use Rattle.ov_catalog.specs.Numbers.{Numbers}
 use Rattle.ov_core.specs.Held.{Held, IsByJournal}
 use Rattle.ov_model.specs.Act.{schema_with}
 use Rattle.ov_model.specs.Book.{Row}
-use Rattle.ov_model.specs.BuiltShapes.{served_forms}
+use Rattle.law_forms.specs.BuiltShapes.{served_forms}
 use Rattle.ov_model.specs.Line.{Line, Asks, Comment, Refused, line_of}
 use Rattle.ov_model.specs.Users.{line_by}
 use Rattle.ov_model.specs.Words.{lines_of}

@@ -21,7 +21,7 @@ use Rattle.law_runs.specs.Serving.{has_error, session_of}
 use Rattle.law_runs.specs.Stops.{IsDue, printed_of}
 use Rattle.ov_model.specs.Act.{Session}
 use Rattle.ov_model.specs.Course.{Served, Space, course, play}
-use Rattle.ov_model.specs.BuiltShapes.{served_forms}
+use Rattle.law_forms.specs.BuiltShapes.{served_forms}
 use Rattle.ov_model.specs.Words.{lines_of}
 use Rattle.ov_model.specs.World.{World}
 use Rattle.ov_open.specs.declared.errors.OpenErr.{OpenErr}

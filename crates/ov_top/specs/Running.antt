@@ -6,6 +6,7 @@
 --     reads n lines      how many bytes of pages these lines may fetch
 --     status_by ran, status_by_opening off      the status
 use Rattle.std.specs.Prelude.{◌≡◌, ◌⊎◌, ◌≤◌, ◌<◌, ◌+◌, ◌^◌, ℕ, Bool, true, false, List, [], ◌∷◌, ◌++◌, length, Result, Ok, Err, codes}
+use Rattle.law_forms.specs.BuiltShapes.{served_forms}
 use Rattle.ov_host.specs.declared.area.Area.TheVariants.{Pages}
 use Rattle.ov_host.specs.declared.area.Extent.{Extent}
 use Rattle.ov_host.specs.Host.{State}
@@ -43,17 +44,17 @@ pub record IsReadWhole (old new : Script) : Type 0 where
 
 -- it ended between two lines, when these were served
 abbrev pub IsHalted : ℕ → World → Session → Session → List (List ℕ) → List (List ℕ) → Held → State → State → Type 0
-IsHalted steps w s t gone lines before old new = (now : Held) × (failed : Bool) × Halts steps w s t gone lines failed before now old new
+IsHalted steps w s t gone lines before old new = (now : Held) × (failed : Bool) × Halts served_forms steps w s t gone lines failed before now old new
 
 -- Of all the lines, those whose line feed was taken are `taken`. Where it was reading that failed, and the stage didn't fail
 -- (`still`), just these were served.
 abbrev pub AllServed : ℕ → World → Session → Session → List (List ℕ) → List (List ℕ) → Type 0 → Result Bool RunErr → Held → State → State → Type 0
-AllServed steps w s t lines taken still (Ok failed) before old new = (now : Held) × Ends steps w s t lines failed before now old new
+AllServed steps w s t lines taken still (Ok failed) before old new = (now : Held) × Ends served_forms steps w s t lines failed before now old new
 AllServed steps w s t lines taken still (Err (running.Damaged area at)) before old new = ⊥
 AllServed steps w s t lines taken still (Err running.Input) before old new =
-    Runs steps w s lines before old new × (still → IsHalted steps w s t taken lines before old new)
+    Runs served_forms steps w s lines before old new × (still → IsHalted steps w s t taken lines before old new)
 AllServed steps w s t lines taken still (Err running.TooLong) before old new = IsHalted steps w s t taken lines before old new
-AllServed steps w s t lines taken still (Err _) before old new = Runs steps w s lines before old new
+AllServed steps w s t lines taken still (Err _) before old new = Runs served_forms steps w s lines before old new
 
 -- a run begins as this user, and no command that the program has changes the user
 abbrev pub user_of_run : List ℕ
