@@ -4,7 +4,6 @@ use Rattle.ov_host.specs.Disk.{Image}
 use Rattle.ov_model.specs.Act.{Session}
 use Rattle.ov_model.specs.Course.{Space, course}
 use Rattle.ov_model.specs.Forms.{Form, all_forms}
-use Rattle.ov_model.specs.Moves.{Move, moved}
 use Rattle.ov_model.specs.World.{World, empty_world, empty_world_of}
 use Rattle.ov_model.proofs.AllFormed.{all_ask}
 use Rattle.law_partitions.specs.PlanEnds.{ArePlanned}

@@ -16,6 +16,7 @@ ghost use Rattle.ov_core.specs.AtWorld.{IsAtWorld};
 ghost use Rattle.ov_core.specs.Held.{IsByJournal};
 ghost use Rattle.law_runs.specs.Serving.{Serves, is_error as is_error_of, session_of};
 ghost use Rattle.ov_store.specs.Kept.{Kept, MayCall};
+ghost use Rattle.ov_session.specs.Acting.{IsNextUser};
 ghost use Rattle.ov_session.specs.Asking.{line_asked};
 ghost use Rattle.ov_session.specs.Bounds.{IsFetched, IsFetchedBy, IsReading, IsReadingCommand, is_command_off, is_off};
 ghost use Rattle.law_steps.specs.Turns.{running};
@@ -234,7 +235,9 @@ fn is_comment(served: Served) -> bool
 /// there is no room for the next one. A comment has no reply, and no step comes behind it; behind a refusal steps come too.
 ///
 /// A step for which there is no room says nothing. Where a step meets damage, or the host or memory fails it, the line ends so,
-/// though its reply was printed; the steps before stay. The user is the one that the line acts as, and stays.
+/// though its reply was printed; the steps before stay.
+///
+/// The user is the one that the line acts as, and then the one whom the line's answer names as the user from there on.
 ///
 /// Reads are bounded where no step comes: where none is asked for, or no plan runs and the line begins none. An optimize that isn't
 /// refused begins one, and no other line does.
@@ -269,7 +272,7 @@ pub fn serve<H: Host, T: Stage>(
     ensures usable { OnOk result (MayCall store.new (H.state host.new)) }
     ensures by_journal { IsByJournal store.old.held (H.state host.old) → (IsErrOf result EndErr.Host → ⊥) → IsByJournal store.new.held (H.state host.new) }
     ensures at { (w : World) → IsAtWorld w store.old.held (H.state host.old) → OnOk result (IsAtSome store.new.held (H.state host.new)) }
-    ensures user { user.new ≡ user.old }
+    ensures user { IsNextUser (line_asked user.old line.now) result user.old user.new }
     ensures named { IsTrue (is_name user.new) }
     ensures comment { IfOk result (λ served. is_comment_of served ≡ is_comment_in (line_asked user.old line.now)) }
     ensures replied { IfOk result (λ served. IsReplied steps (line_asked user.old line.now) served store.old.held

@@ -261,25 +261,25 @@ pub runs_start : (steps : ℕ) (w : World) (s : Session) (all : List ℕ) (held 
 runs_start steps w s all held st at = gone_runs steps w s s all all false false held held st st (gone_start steps w s all held st at)
 
 -- it ends in reading the next line
-pub ends_reading : (steps : ℕ) (w : World) (s t : Session) (e : ReadErr) (reader : Taken) (left : List ℕ) (failed : Bool) (before now : Held) (old new : State) (script later : Script) (still : Type 0)
-    → Gone steps w s t script.left left reader.ended failed before now old new → IsCutOff e reader left later
-    → AllServed steps w s t (lines_of script.left) (ended_lines (taken_of script later)) still (Err (by_reading e)) before old new
-ends_reading steps w s t reading.Input reader left failed before now old new script later still so cut =
-    let halts = gone_halts steps w s t left reader.ended failed before now old new script later so cut
-    in (gone_runs steps w s t script.left left reader.ended failed before now old new so, λ same. (now, failed, halts))
-ends_reading steps w s t reading.Memory reader left failed before now old new script later still so cut =
-    gone_runs steps w s t script.left left reader.ended failed before now old new so
-ends_reading steps w s t reading.TooLong reader left failed before now old new script later still so cut =
-    (now, failed, gone_halts steps w s t left reader.ended failed before now old new script later so cut)
+pub ends_reading : (steps : ℕ) (w : World) (s : Session) (files : Map) (user : List ℕ) (e : ReadErr) (reader : Taken) (left : List ℕ) (failed : Bool) (before now : Held) (old new : State) (script later : Script) (still : Type 0)
+    → Gone steps w s (session_of files user) script.left left reader.ended failed before now old new → IsCutOff e reader left later
+    → AllServed steps w s files (lines_of script.left) (ended_lines (taken_of script later)) still (Err (by_reading e)) before old new
+ends_reading steps w s files user reading.Input reader left failed before now old new script later still so cut =
+    let halts = gone_halts steps w s (session_of files user) left reader.ended failed before now old new script later so cut
+    in (gone_runs steps w s (session_of files user) script.left left reader.ended failed before now old new so, λ same. (now, failed, user, halts))
+ends_reading steps w s files user reading.Memory reader left failed before now old new script later still so cut =
+    gone_runs steps w s (session_of files user) script.left left reader.ended failed before now old new so
+ends_reading steps w s files user reading.TooLong reader left failed before now old new script later still so cut =
+    (now, failed, user, gone_halts steps w s (session_of files user) left reader.ended failed before now old new script later so cut)
 
 -- it ends in serving a line
-pub ends_serving : (steps : ℕ) (w : World) (s t : Session) (lines taken : List (List ℕ)) (still : Type 0) (e : EndErr) (before : Held) (old new : State) → IsNoDamage e
+pub ends_serving : (steps : ℕ) (w : World) (s : Session) (files : Map) (lines taken : List (List ℕ)) (still : Type 0) (e : EndErr) (before : Held) (old new : State) → IsNoDamage e
     → (e ≡ ending.Stage → still → ⊥) → Runs served_forms steps w s lines before old new
-    → AllServed steps w s t lines taken still (Err (by_serving e)) before old new
-ends_serving steps w s t lines taken still ending.Host before old new fine rose runs = runs
-ends_serving steps w s t lines taken still ending.Stage before old new fine rose runs = (runs, λ same. absurd (rose refl same))
-ends_serving steps w s t lines taken still ending.Memory before old new fine rose runs = runs
-ends_serving steps w s t lines taken still (ending.Damaged area at) before old new fine rose runs = absurd fine
+    → AllServed steps w s files lines taken still (Err (by_serving e)) before old new
+ends_serving steps w s files lines taken still ending.Host before old new fine rose runs = runs
+ends_serving steps w s files lines taken still ending.Stage before old new fine rose runs = (runs, λ same. absurd (rose refl same))
+ends_serving steps w s files lines taken still ending.Memory before old new fine rose runs = runs
+ends_serving steps w s files lines taken still (ending.Damaged area at) before old new fine rose runs = absurd fine
 
 -- there are no more lines
 pub no_lines : (ended b : Bool) (before now kept : List ℕ) → b ≡ false → GivesLine ended b before now kept → lines_of before ≡ []
@@ -307,35 +307,35 @@ module _ (steps : ℕ) (w : World) (old mid new : Ends) (told : IsTold w old) (h
     stops = stops_by runs.space runs.stops;
   }
 
-  pub played_of : (failed : Bool) (now : Held) → course.Ends served_forms steps w (session_at old) (session_at new) (lines_of old.script.left) failed held now mid.host new.host
+  pub played_of : (failed : Bool) (now : Held) (user : List ℕ) → course.Ends served_forms steps w (session_at old) (session_of new.stage.files user) (lines_of old.script.left) failed held now mid.host new.host
       → Played steps w failed old new
-  played_of failed now ends = record {
+  played_of failed now user ends = record {
     space = ends.space;
     licensed = λ entry is. ends.licensed entry (enters w old.host.tape.disk held mid.host opened at entry is);
     stops = stops_by ends.space ends.stops;
     printed = ends.printed ∙ ap (λ (text : List ℕ). text ++ play (items_of ends.space)) opened.settled.printed;
     settled = record { pages = ends.at.rest.rest; journal = ends.at.at.rest };
     stands = inr (record { kept = kept_by now.journal ends.at.payloads; events = ends.at.events; by = ends.at.stands });
-    files = sym ends.session_is;
+    files = sym (ap (λ (s : Session). s.files) ends.session_is);
     failed_is = ends.failed_is;
   }
 
-  taken_of_halts : IsHalted steps w (session_at old) (session_at new) (lines_taken old new) (lines_of old.script.left) held mid.host new.host → PlayedTaken steps w old new
-  taken_of_halts (now, failed, halts) = record {
+  taken_of_halts : IsHalted steps w (session_at old) new.stage.files (lines_taken old new) (lines_of old.script.left) held mid.host new.host → PlayedTaken steps w old new
+  taken_of_halts (now, failed, user, halts) = record {
     space = halts.space;
     licensed = λ entry is. halts.licensed entry (enters w old.host.tape.disk held mid.host opened at entry is);
     stops = stops_by halts.space halts.stops;
     printed = halts.printed ∙ ap (λ (text : List ℕ). text ++ play (course_taken steps w old new halts.space).items) opened.settled.printed;
     settled = record { pages = halts.at.rest.rest; journal = halts.at.at.rest };
     stands = inr (record { kept = kept_by now.journal halts.at.payloads; events = halts.at.events; by = halts.at.stands });
-    files = sym halts.session_is;
+    files = sym (ap (λ (s : Session). s.files) halts.session_is);
   }
 
-  plays_by : (result : Result Bool RunErr) → AllServed steps w (session_at old) (session_at new) (lines_of old.script.left) (lines_taken old new)
+  plays_by : (result : Result Bool RunErr) → AllServed steps w (session_at old) new.stage.files (lines_of old.script.left) (lines_taken old new)
       (Rose old.stage.faults new.stage.faults → ⊥) result held mid.host new.host
       → Plays (status_by result) steps w old new
-  plays_by (Ok false) all = played_of false all.0 all.1
-  plays_by (Ok true) all = played_of true all.0 all.1
+  plays_by (Ok false) all = played_of false all.0 all.1 all.2
+  plays_by (Ok true) all = played_of true all.0 all.1 all.2
   plays_by (Err running.Host) all = stops_of all
   plays_by (Err running.Input) (runs, halts) = (stops_of runs, λ still. taken_of_halts (halts still))
   plays_by (Err running.Memory) all = stops_of all
@@ -343,7 +343,7 @@ module _ (steps : ℕ) (w : World) (old mid new : Ends) (told : IsTold w old) (h
   plays_by (Err (running.Damaged area at_)) all = absurd all
 
   pub plays_status : (status : Status) (result : Result Bool RunErr) → status ≡ status_by result
-      → AllServed steps w (session_at old) (session_at new) (lines_of old.script.left) (lines_taken old new) (Rose old.stage.faults new.stage.faults → ⊥) result held mid.host new.host
+      → AllServed steps w (session_at old) new.stage.files (lines_of old.script.left) (lines_taken old new) (Rose old.stage.faults new.stage.faults → ⊥) result held mid.host new.host
       → Plays status steps w old new
   plays_status status result is all = subst (λ (x : Status). Plays x steps w old new) (sym is) (plays_by result all)
 
@@ -505,15 +505,11 @@ still_world w ends told =
 
 -- ---- a line, as it was kept
 
-pub serves_as : (steps : ℕ) (w : World) (files files2 : Map) (u u2 user x kept line : List ℕ) (ok refused : Bool) (before now : Held) (old new : State)
-    → u ≡ user → u2 ≡ u → x ≡ kept → kept ≡ take 65537 line
-    → Serves served_forms steps w (session_of files u) (session_of files2 u2) x ok refused before now old new
-    → Serves served_forms steps w (session_of files user) (session_of files2 user) line ok refused before now old new
-serves_as steps w files files2 u u2 user x kept line ok refused before now old new is same value keeps serves =
-    serves_kept steps w (session_of files user) (session_of files2 user) line ok refused before now old new
-    (subst (λ (l : List ℕ). Serves served_forms steps w (session_of files user) (session_of files2 user) l ok refused before now old new) (value ∙ keeps)
-    (subst (λ (v : List ℕ). Serves served_forms steps w (session_of files user) (session_of files2 v) x ok refused before now old new) (same ∙ is)
-    (subst (λ (v : List ℕ). Serves served_forms steps w (session_of files v) (session_of files2 u2) x ok refused before now old new) is serves)))
+pub serves_as : (steps : ℕ) (w : World) (s t : Session) (x kept line : List ℕ) (ok refused : Bool) (before now : Held) (old new : State) → x ≡ kept → kept ≡ take 65537 line
+    → Serves served_forms steps w s t x ok refused before now old new → Serves served_forms steps w s t line ok refused before now old new
+serves_as steps w s t x kept line ok refused before now old new value keeps serves =
+    serves_kept steps w s t line ok refused before now old new
+    (subst (λ (l : List ℕ). Serves served_forms steps w s t l ok refused before now old new) (value ∙ keeps) serves)
 
 pub not_seen : (b : Bool) → b ≡ true → b ≡ false → ⊥
 not_seen true seen open_ = cc

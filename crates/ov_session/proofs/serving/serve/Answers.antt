@@ -1,5 +1,5 @@
 use Rattle.std.proofs.Common.{◌≡◌, ◌∙◌, true, false, refl, sym, ap, subst, arith}
-use Rattle.std.specs.Prelude.{Err, IfErr, Result, is_ok}
+use Rattle.std.specs.Prelude.{Err, IfErr, Ok, Result, is_ok}
 use Rattle.law_forms.specs.BuiltShapes.{served_forms}
 use Rattle.ov_host.specs.Host.{State}
 use Rattle.law_runs.specs.Serving.{Serves, session_of}
@@ -14,7 +14,20 @@ use Rattle.ov_session.specs.declared.serving.Served.{Served}
 use Rattle.ov_session.proofs.Bounds.{printed_line}
 use Rattle.ov_session.proofs.Taking.{end_is, err_is}
 use Rattle.ov_session.proofs.Following.{behind_damaged, behind_done, ends_same, fetched_then, line_met, no_end, no_line, no_step, replied_none, replied_then, rose_behind, serves_halted, serves_none, serves_off, serves_steps, some_line, step_met}
+use Rattle.ov_session.proofs.Acting.{next_stays}
 use Rattle.ov_session.proofs.serving.serve.Goals as goal
+
+pub returns-in_err-served-clause-user : goal.returns-in_err-served-clause-user
+returns-in_err-served-clause-user g c = next_stays c.args.user.now c.args.line.now c.args.user.now c.from_residual.result refl
+
+pub returns-then-is_comment-clause-user : goal.returns-then-is_comment-clause-user
+returns-then-is_comment-clause-user g c = next_stays c.args.user.now c.args.line.now c.args.user.now (Ok c.in_ok-served.served) refl
+
+pub returns-in_err-take_steps-clause-user : goal.returns-in_err-take_steps-clause-user
+returns-in_err-take_steps-clause-user g c = next_stays c.args.user.now c.args.line.now c.args.user.now c.from_residual-in_err-take_steps.result refl
+
+pub returns-clause-user : goal.returns-clause-user
+returns-clause-user g c = next_stays c.args.user.now c.args.line.now c.args.user.now (Ok c.in_ok-served.served) refl
 
 pub returns-in_err-served-clause-damaged : goal.returns-in_err-served-clause-damaged
 returns-in_err-served-clause-damaged g c =
