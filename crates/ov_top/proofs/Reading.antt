@@ -51,7 +51,7 @@ use Rattle.ov_script.specs.declared.reader.ReadErr.TheVariants as reading
 use Rattle.ov_script.proofs.Readers.{next_lines}
 use Rattle.ov_top.specs.Errors.{by_reading, by_serving}
 use Rattle.ov_top.specs.Running.{ActsAfter, AreReading, HasReply, IsRunDamage, IsUnharmed, MeetsDamage, ReadsDamage, StepsOnDamage, reads, user_of_run}
-use Rattle.ov_top.proofs.Lined.{kept_line, long_line}
+use Rattle.ov_top.proofs.Lined.{acts_more, kept_line, long_line}
 
 -- ---- lines, as they were kept
 
@@ -79,11 +79,6 @@ pub record Acting (tells : Bool) (all left user : List ℕ) : Type 0 where
   pub gone : List (List ℕ)
   pub acts : ActsAfter gone user_of_run user
   pub whole : tells ≡ true → lines_of all ≡ gone ++ lines_of left
-
-acts_more : (gone : List (List ℕ)) (line first user next : List ℕ) (what : Served) → ActsAfter gone first user → next ≡ user_after (line_asked user line) what user
-    → ActsAfter (gone ++ line ∷ []) first next
-acts_more [] line first user next what same is = (what, is ∙ ap (λ (u : List ℕ). user_after (line_asked u line) what u) same)
-acts_more (g ∷ gone) line first user next what acts is = (acts.0, acts_more gone line (user_after (line_asked first g) acts.0 first) user next what acts.1 is)
 
 whole_more : (ended : Bool) (all line left later : List ℕ) (gone : List (List ℕ)) → lines_of all ≡ gone ++ lines_of left → IsNext ended line left later → lines_of all ≡ gone ++ line ∷ lines_of later
 whole_more ended all line left later gone whole next = whole ∙ ap (λ (ls : List (List ℕ)). gone ++ ls) (next_lines ended line left later next)
@@ -173,7 +168,7 @@ module _ (before now : Held) (all left later : List (List ℕ)) (user x line : L
       → new.fetched + r ≤ old.fetched + reads before.numbers user_of_run all
   still_bound r below =
       let split : reads before.numbers user (line ∷ later) ≡ may_fetch before.numbers user (line_asked user line)
-          + max (reads before.numbers user later) (reads before.numbers (user_after (line_asked user line) served.Done user) later) = refl
+      + max (reads before.numbers user later) (reads before.numbers (user_after (line_asked user line) served.Done user) later) = refl
       in omega (arith, fetched, same_bound, split, there.bound, below)
 
   pub fetches_more : (what : Served) (then : List ℕ) → then ≡ user_after (line_asked user x) what user → (IsReading (line_asked user x) → later_held ≡ now)

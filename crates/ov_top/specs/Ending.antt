@@ -17,7 +17,7 @@ use Rattle.ov_catalog.specs.Extents.{covers, live}
 use Rattle.ov_catalog.specs.Raw.{numbers_in}
 use Rattle.law_image.specs.Images.{StandsAs, StandsBy}
 use Rattle.law_runs.specs.Licence.{Licensed}
-use Rattle.law_runs.specs.Serving.{files_of, has_error, session_of}
+use Rattle.law_runs.specs.Serving.{has_error, session_of}
 use Rattle.law_runs.specs.Stops.{IsDue, printed_of}
 use Rattle.ov_model.specs.Act.{Session}
 use Rattle.ov_model.specs.Course.{Served, Space, course, play}
@@ -32,7 +32,7 @@ use Rattle.ov_session.specs.Commands.{Attended, Goes}
 use Rattle.ov_args.specs.Words.{options_of}
 use Rattle.ov_script.specs.Reader.{ended_lines, taken_of}
 use Rattle.ov_top.specs.Bytes.{Opens}
-use Rattle.ov_top.specs.Running.{IsReadWhole, ReadsDamage, Spent, StepsOnDamage, user_of_run}
+use Rattle.ov_top.specs.Running.{ActsAfter, IsReadWhole, ReadsDamage, Spent, StepsOnDamage, user_of_run}
 use Rattle.ov_top.specs.declared.status.Status.{Status}
 use Rattle.ov_top.specs.declared.status.Status.TheVariants.{Done, Refused, Usage, HostFault, InputFault, Memory, NotAStore, Damaged, Format, ScriptTooLong}
 
@@ -135,7 +135,8 @@ abbrev pub course_taken : ℕ → World → Ends → Ends → Space → Served
 course_taken steps w old new space = course served_forms steps w (session_at old) (lines_taken old new) space
 
 -- And where only the reading of the script ended, just the lines whose line feed was taken were served: their replies are printed
--- whole, nothing is pending, the bytes stand for the World after them and their steps, and the stage has the files that they leave.
+-- whole, nothing is pending, the bytes stand for the World after them and their steps, and the
+-- stage's files and the user, who may act behind these lines, are as they leave them.
 pub record PlayedTaken (steps : ℕ) (w : World) (old new : Ends) : Type 0 where
   pub space : Space
   pub licensed : (entry : Entry) → IsEntry entry (as_read old.host.tape.disk)
@@ -144,7 +145,9 @@ pub record PlayedTaken (steps : ℕ) (w : World) (old new : Ends) : Type 0 where
   pub printed : printed_of new.host ≡ printed_of old.host ++ play (course_taken steps w old new space).items
   pub settled : AllSettled new.host.tape.disk
   pub stands : StandsAs (course_taken steps w old new space).world (as_read new.host.tape.disk)
-  pub files : files_of new.stage.files ≡ (course_taken steps w old new space).session.files
+  pub user : List ℕ
+  pub acts : ActsAfter (lines_taken old new) user_of_run user
+  pub files : session_of new.stage.files user ≡ (course_taken steps w old new space).session
 
 -- and where the script was read to its end, the replies of the course are printed, nothing is pending, and the bytes stand for
 -- its last World; the flag says whether a reply is an error
@@ -156,7 +159,9 @@ pub record Played (steps : ℕ) (w : World) (failed : Bool) (old new : Ends) : T
   pub printed : printed_of new.host ≡ printed_of old.host ++ play (course_of steps w old space).items
   pub settled : AllSettled new.host.tape.disk
   pub stands : StandsAs (course_of steps w old space).world (as_read new.host.tape.disk)
-  pub files : files_of new.stage.files ≡ (course_of steps w old space).session.files
+  pub user : List ℕ
+  pub acts : ActsAfter (lines_of old.script.left) user_of_run user
+  pub files : session_of new.stage.files user ≡ (course_of steps w old space).session
   pub failed_is : failed ≡ has_error (course_of steps w old space).items
 
 abbrev pub Plays : Status → ℕ → World → Ends → Ends → Type 0

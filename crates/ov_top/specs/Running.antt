@@ -46,22 +46,6 @@ pub record IsReadWhole (old new : Script) : Type 0 where
   pub left : new.left ≡ []
   pub fewer : length old.left < 2 ^ 32
 
--- it ended between two lines, when these were served; the stage then has these files, whoever the user is
-abbrev pub IsHalted : ℕ → World → Session → Map → List (List ℕ) → List (List ℕ) → Held → State → State → Type 0
-IsHalted steps w s files gone lines before old new =
-    (now : Held) × (failed : Bool) × (user : List ℕ) × Halts served_forms steps w s (session_of files user) gone lines failed before now old new
-
--- Of all the lines, those whose line feed was taken are `taken`. Where it was reading that failed, and the stage didn't fail
--- (`still`), just these were served.
-abbrev pub AllServed : ℕ → World → Session → Map → List (List ℕ) → List (List ℕ) → Type 0 → Result Bool RunErr → Held → State → State → Type 0
-AllServed steps w s files lines taken still (Ok failed) before old new =
-    (now : Held) × (user : List ℕ) × Ends served_forms steps w s (session_of files user) lines failed before now old new
-AllServed steps w s files lines taken still (Err (running.Damaged area at)) before old new = ⊥
-AllServed steps w s files lines taken still (Err running.Input) before old new =
-    Runs served_forms steps w s lines before old new × (still → IsHalted steps w s files taken lines before old new)
-AllServed steps w s files lines taken still (Err running.TooLong) before old new = IsHalted steps w s files taken lines before old new
-AllServed steps w s files lines taken still (Err _) before old new = Runs served_forms steps w s lines before old new
-
 -- ---- who acts
 
 -- a run begins as this user
@@ -72,6 +56,25 @@ user_of_run = codes "admin"
 abbrev pub ActsAfter : List (List ℕ) → List ℕ → List ℕ → Type 0
 ActsAfter [] user next = next ≡ user
 ActsAfter (line ∷ lines) user next = (what : Served) × ActsAfter lines (user_after (line_asked user line) what user) next
+
+-- ---- the lines
+
+-- it ended between two lines, when these were served; the stage then has these files, and someone acts who may behind these lines
+abbrev pub IsHalted : ℕ → World → Session → Map → List (List ℕ) → List (List ℕ) → Held → State → State → Type 0
+IsHalted steps w s files gone lines before old new =
+    (now : Held) × (failed : Bool) × (user : List ℕ) × ActsAfter gone s.user user
+    × Halts served_forms steps w s (session_of files user) gone lines failed before now old new
+
+-- Of all the lines, those whose line feed was taken are `taken`. Where it was reading that failed, and the stage didn't fail
+-- (`still`), just these were served.
+abbrev pub AllServed : ℕ → World → Session → Map → List (List ℕ) → List (List ℕ) → Type 0 → Result Bool RunErr → Held → State → State → Type 0
+AllServed steps w s files lines taken still (Ok failed) before old new =
+    (now : Held) × (user : List ℕ) × ActsAfter lines s.user user × Ends served_forms steps w s (session_of files user) lines failed before now old new
+AllServed steps w s files lines taken still (Err (running.Damaged area at)) before old new = ⊥
+AllServed steps w s files lines taken still (Err running.Input) before old new =
+    Runs served_forms steps w s lines before old new × (still → IsHalted steps w s files taken lines before old new)
+AllServed steps w s files lines taken still (Err running.TooLong) before old new = IsHalted steps w s files taken lines before old new
+AllServed steps w s files lines taken still (Err _) before old new = Runs served_forms steps w s lines before old new
 
 -- ---- damage
 

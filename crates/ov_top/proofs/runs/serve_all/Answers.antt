@@ -3,7 +3,9 @@ use Rattle.std.specs.Prelude.{Err, IfErr, IsTrue, Ok, Result}
 use Rattle.law_forms.specs.BuiltShapes.{served_forms}
 use Rattle.ov_host.specs.Host.{Rose}
 use Rattle.law_runs.specs.Serving.{Serves, session_of}
+use Rattle.ov_model.specs.Line.{Line}
 use Rattle.ov_model.specs.Words.{lines_of}
+use Rattle.ov_session.specs.Acting.{user_after}
 use Rattle.ov_session.specs.Commands.{is_refusal_of}
 use Rattle.ov_value.specs.Naming.{is_name}
 use Rattle.ov_script.specs.Reader.{Taken, ended_lines, left_of, taken_of}
@@ -11,7 +13,7 @@ use Rattle.ov_top.specs.Errors.{by_reading, by_serving}
 use Rattle.ov_top.specs.Running.{AllServed, IsRunDamage, IsUnharmed, user_of_run}
 use Rattle.ov_top.specs.declared.errors.RunErr.{RunErr}
 use Rattle.ov_top.specs.declared.errors.RunErr.TheVariants as running
-use Rattle.ov_top.proofs.Lined.{Gone, admin_is_name, ends_reading, ends_serving, err_is, given_true, gone_all, gone_ends, gone_more, gone_start, no_lines, nothing_left, read_whole, runs_start, not_seen, rose_in_all, serves_as, spent_by}
+use Rattle.ov_top.proofs.Lined.{Gone, admin_is_name, ends_reading, ends_serving, err_is, given_true, gone_acts, gone_all, gone_ends, gone_more, gone_start, no_lines, nothing_left, read_whole, runs_start, not_seen, rose_in_all, serves_as, spent_by}
 use Rattle.ov_script.proofs.Readers.{next_lines}
 use Rattle.ov_session.specs.declared.errors.EndErr.TheVariants as ending
 use Rattle.ov_top.proofs.Reading.{Fetches, asked_among, err_end, fetches_all, fetches_ends, fetches_more, fetches_start, line_kept, acting_more, none_then, reading_harmless, reply_among, run_damage, unharmed, unharmed_reading}
@@ -160,14 +162,15 @@ lines-preserved g c =
           in let given = given_true _ _ _ _ _ c.if-branch.true (c.in_ok-next_line.ensures.given (inv.told ∙ script) (inv.at_end script))
           in let serves : Serves served_forms c.args.steps gone.so.world t u given.0 true (is_refusal_of c.in_ok-served.served) c.lines.store.held c.serve.new.store.held (g.H.Host.state c.lines.host) (g.H.Host.state c.serve.new.host)
           = serves_as c.args.steps gone.so.world t u
-    c.as_slice.result.now c.next_line.new.line.items given.0 true (is_refusal_of c.in_ok-served.served) c.lines.store.held c.serve.new.store.held
+          c.as_slice.result.now c.next_line.new.line.items given.0 true (is_refusal_of c.in_ok-served.served) c.lines.store.held c.serve.new.store.held
           (g.H.Host.state c.lines.host) (g.H.Host.state c.serve.new.host) c.as_slice.ensures.value given.2
           (c.in_ok-served.ensures.serves gone.so.world (inv.attended.told ∙ stage) gone.so.at)
           in subst (λ (f : Bool). Gone c.args.steps w s u all later c.next_line.new.self.ended f c.args.store.held c.serve.new.store.held
           (g.H.Host.state c.args.host.now) (g.H.Host.state c.serve.new.host)) (sym c.or_refused-failed.ensures)
           (gone_more c.args.steps w s t u all left later given.0 c.lines.reader.ended c.next_line.new.self.ended c.lines.failed (is_refusal_of c.in_ok-served.served)
           c.args.store.held c.lines.store.held c.serve.new.store.held (g.H.Host.state c.args.host.now) (g.H.Host.state c.lines.host) (g.H.Host.state c.serve.new.host)
-          gone (c.in_ok-next_line.ensures.stays) given.1 serves);
+          c.in_ok-served.served gone (c.in_ok-next_line.ensures.stays) given.1
+          (c.in_ok-served.ensures.user ∙ ap (λ (l : Line). user_after l c.in_ok-served.served c.lines.user) (line_kept c.lines.user c.as_slice.result.now c.next_line.new.line.items given.0 c.as_slice.ensures.value given.2)) serves);
       acting = acting_more (g.S.Source.script c.args.source.now).tells c.next_line.new.self.ended (g.S.Source.script c.args.source.now).left
           (left_of c.lines.reader (g.S.Source.script c.lines.source)) (left_of c.next_line.new.self (g.S.Source.script c.next_line.new.source))
           c.as_slice.result.now c.next_line.new.line.items c.lines.user c.serve.new.user c.in_ok-served.served inv.acting c.as_slice.ensures.value
@@ -232,6 +235,8 @@ returns-clause-served g c = λ w script stage at.
     in (
       c.lines.store.held,
       c.lines.user,
+      gone_acts c.args.steps w s t (g.S.Source.script c.args.source.now).left (left_of c.lines.reader (g.S.Source.script c.lines.source)) c.lines.reader.ended c.lines.failed
+          c.args.store.held c.lines.store.held (g.H.Host.state c.args.host.now) (g.H.Host.state c.lines.host) (c.lines.invariant.so_far w script stage at) none,
       gone_all c.args.steps w s t (g.S.Source.script c.args.source.now).left (left_of c.lines.reader (g.S.Source.script c.lines.source)) c.lines.reader.ended c.lines.failed
           c.args.store.held c.lines.store.held (g.H.Host.state c.args.host.now) (g.H.Host.state c.lines.host) (c.lines.invariant.so_far w script stage at) none,
     )
