@@ -55,7 +55,7 @@ use Rattle.law_partitions.specs.Courses.{AllDue, AllIdle, HasPartitions, IsBegun
 use Rattle.law_partitions.proofs.CourseRows.{Up, file_rises, up_child, up_fresh, up_more, up_rises}
 use Rattle.law_partitions.proofs.CountRuns.{moved_numbered}
 use Rattle.law_partitions.proofs.CourseNumbers.{named_in, one_dataset, some_number, committed_number}
-use Rattle.law_partitions.proofs.SoundLines.{vids_some}
+use Rattle.ov_model.proofs.FormValues.{vids_some}
 use Rattle.law_partitions.specs.Countdown.{AreNumbered, number_times}
 use Rattle.law_partitions.specs.Pieces.{AllLackSome, AllRiseWith, LacksSome}
 use Rattle.law_partitions.specs.Sound.{AllNameVersions, LineNames, NamesVersions}

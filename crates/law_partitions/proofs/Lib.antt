@@ -24,7 +24,6 @@ pub mod PlanFlips
 pub mod PlanMoves
 pub mod PlanNodes
 pub mod PlanParts
-pub mod SoundForms
 pub mod SoundLines
 pub mod SoundMoves
 pub mod SourceMoves

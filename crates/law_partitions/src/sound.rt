@@ -3,7 +3,7 @@ ghost use Rattle.std.specs.Prelude.{◌≡◌, ◌-◌, ℕ, List, length, min, 
 ghost use Rattle.ov_model.specs.Act.{Session};
 ghost use Rattle.ov_model.specs.Deed.{deed};
 ghost use Rattle.ov_model.specs.Course.{Space, course, world_at};
-ghost use Rattle.ov_model.specs.BuiltShapes.{served_forms};
+ghost use Rattle.ov_model.specs.Formed.{AllAsk, IsAsked};
 ghost use Rattle.ov_model.specs.Forms.{Form, all_forms};
 ghost use Rattle.ov_model.specs.Moves.{Move, moved};
 ghost use Rattle.ov_model.specs.Steps.{all_moved, next_step, next_steps, steps_left};
@@ -33,13 +33,15 @@ pub fn commands_do_what_may_be_done()
 {}
 
 /// Each World of a run from an empty store is sound: after each of its moves all of these laws hold. So is each World of a run
-/// from a sound one, by any forms of commands, where the lines that ask for a commit list a version, as by these forms they do.
+/// from a sound one, by any forms of commands, where the lines that ask for a commit list a version. So they do where each line's
+/// command has what its form reads.
 pub fn each_world_of_a_run_is_sound()
     ensures all { (steps : ℕ) (s : Session) (lines : List (List ℕ)) (space : Space) (k : ℕ)
         → IsSound (world_at empty_world (course all_forms steps empty_world s lines space).items k) }
-    ensures served { (steps : ℕ) (s : Session) (lines : List (List ℕ)) (space : Space) (k : ℕ)
-        → IsSound (world_at empty_world (course served_forms steps empty_world s lines space).items k) }
+    ensures asked { (forms : List Form) (steps : ℕ) (s : Session) (lines : List (List ℕ)) (space : Space) (k : ℕ) → AllAsk IsAsked forms lines
+        → IsSound (world_at empty_world (course forms steps empty_world s lines space).items k) }
     ensures kept { (forms : List Form) (steps : ℕ) (w : World) (s : Session) (lines : List (List ℕ)) (space : Space) (k : ℕ)
         → AllNameVersions forms lines → IsSound w → IsSound (world_at w (course forms steps w s lines space).items k) }
     ensures names { (lines : List (List ℕ)) → AllNameVersions all_forms lines }
+    ensures listed { (forms : List Form) (lines : List (List ℕ)) → AllAsk IsAsked forms lines → AllNameVersions forms lines }
 {}

@@ -2,15 +2,14 @@
 use Rattle.std.proofs.Common.{ℕ, List, [], ◌∷◌, refl, sym, subst, inl, inr}
 use Rattle.ov_host.specs.Disk.{Image}
 use Rattle.ov_model.specs.Act.{Session}
-use Rattle.ov_model.specs.BuiltShapes.{served_forms}
 use Rattle.ov_model.specs.Course.{Space, course}
 use Rattle.ov_model.specs.Forms.{Form, all_forms}
-use Rattle.ov_model.specs.Moves.{Move, moved}
 use Rattle.ov_model.specs.World.{World, empty_world, empty_world_of}
+use Rattle.ov_model.proofs.AllFormed.{all_ask}
 use Rattle.law_partitions.specs.PlanEnds.{ArePlanned}
 use Rattle.law_partitions.specs.Sound.{AllNameVersions}
 use Rattle.law_partitions.proofs.PlanMoves.{moved_planned}
-use Rattle.law_partitions.proofs.SoundForms.{all_name, served_name}
+use Rattle.law_partitions.proofs.SoundLines.{lines_name}
 use Rattle.law_partitions.proofs.SoundMoves.{empty_sound}
 use Rattle.ov_catalog.specs.Reached.{ByMove, Leads, MayPass, OldCheckpoint, Past, Reached, passed}
 use Rattle.ov_catalog.proofs.Good.{IsGood, fits_due, good, good_passed, partitions}
@@ -39,7 +38,7 @@ pub image_plans : (c : Image) (w : World) → StandsAs w c → HasPlans w
 image_plans c w (inl new) = subst HasPlans (sym new.world) empty_plans
 image_plans c w (inr made) = reached_plans w made.by.stands.reached
 
-run_by : (forms : List Form) (c : Image) (w : World) (steps : ℕ) (s : Session) (lines : List (List ℕ)) (space : Space) → AllNameVersions forms lines → StandsAs w c
+pub run_by : (forms : List Form) (c : Image) (w : World) (steps : ℕ) (s : Session) (lines : List (List ℕ)) (space : Space) → AllNameVersions forms lines → StandsAs w c
     → IsRun w (course forms steps w s lines space).items
 run_by forms c w steps s lines space names stands = record {
   forms = forms;
@@ -52,8 +51,5 @@ run_by forms c w steps s lines space names stands = record {
   are = refl;
 }
 
-pub served_run : (c : Image) (w : World) (steps : ℕ) (s : Session) (lines : List (List ℕ)) (space : Space) → StandsAs w c → IsRun w (course served_forms steps w s lines space).items
-served_run c w steps s lines space stands = run_by served_forms c w steps s lines space (served_name lines) stands
-
 pub any_run : (c : Image) (w : World) (steps : ℕ) (s : Session) (lines : List (List ℕ)) (space : Space) → StandsAs w c → IsRun w (course all_forms steps w s lines space).items
-any_run c w steps s lines space stands = run_by all_forms c w steps s lines space (all_name lines) stands
+any_run c w steps s lines space stands = run_by all_forms c w steps s lines space (lines_name all_forms lines (all_ask lines)) stands

@@ -2,9 +2,8 @@
 ghost use Rattle.std.specs.Prelude.{◌≡◌, ◌≢◌, ◌≤◌, ◌<◌, ◌+◌, ℕ, List, slice_get, Some};
 ghost use Rattle.ov_host.specs.Disk.{Image};
 ghost use Rattle.ov_model.specs.Act.{Session};
-ghost use Rattle.ov_model.specs.BuiltShapes.{served_forms};
 ghost use Rattle.ov_model.specs.Course.{Item, Space, course, moves_of, world_at};
-ghost use Rattle.ov_model.specs.Forms.{all_forms};
+ghost use Rattle.ov_model.specs.Forms.{Form, all_forms};
 ghost use Rattle.ov_model.specs.Lists.{IsIn};
 ghost use Rattle.ov_model.specs.Moves.{BeginPlan, Move, moved};
 ghost use Rattle.ov_model.specs.Plans.{flipped};
@@ -12,6 +11,7 @@ ghost use Rattle.ov_model.specs.World.{Dataset, Part, Plan, World, empty_world};
 ghost use Rattle.law_partitions.specs.Courses.{IsDue};
 ghost use Rattle.law_partitions.specs.OldOrNew.{AllTight};
 ghost use Rattle.law_partitions.specs.PlanEnds.{HasAllVersions};
+ghost use Rattle.law_partitions.specs.Sound.{AllNameVersions};
 ghost use Rattle.law_image.specs.Images.{StandsAs};
 ghost use Rattle.law_image.specs.Worked.{the_image, the_world};
 ghost use Rattle.law_plans.specs.Ends.{BeganAt, BeginsNoPlan, BringsNoVersion, EndsPlan, LeavesParts, Waits};
@@ -21,15 +21,15 @@ ghost use Rattle.law_plans.specs.Told.{IsAnswered, IsAsTold};
 ghost use Rattle.law_plans.specs.Worked.{the_items, the_plan, the_set};
 
 /// What the laws below ask of the World in which a run begins holds where an image stands for it, and in the empty World; and
-/// it holds in each World of a run. So they are laws of the course of every script on such an image: of the commands that are
-/// served, as their clauses `image` say once more, and of all that are defined.
+/// it holds in each World of a run. So they are laws of the course of every script on such an image, by any forms by which a commit
+/// lists a version, as their clauses `image` say once more: those that are served are such, and all that are defined.
 pub fn worlds_of_images_have_plans()
     ensures start { HasPlans empty_world }
     ensures image { (c : Image) (w : World) → StandsAs w c → HasPlans w }
     ensures moved { (m : Move) (w : World) → IsDue m w → HasPlans w → HasPlans (moved m w) }
     ensures each { (w : World) (items : List Item) (k : ℕ) → IsRun w items → HasPlans (world_at w items k) }
-    ensures served { (c : Image) (w : World) (steps : ℕ) (s : Session) (lines : List (List ℕ)) (space : Space) → StandsAs w c
-        → IsRun w (course served_forms steps w s lines space).items }
+    ensures forms { (forms : List Form) (c : Image) (w : World) (steps : ℕ) (s : Session) (lines : List (List ℕ)) (space : Space) → AllNameVersions forms lines → StandsAs w c
+        → IsRun w (course forms steps w s lines space).items }
     ensures all { (c : Image) (w : World) (steps : ℕ) (s : Session) (lines : List (List ℕ)) (space : Space) → StandsAs w c
         → IsRun w (course all_forms steps w s lines space).items }
 {}
@@ -39,9 +39,9 @@ pub fn worlds_of_images_have_plans()
 pub fn the_last_flip_leaves_the_split()
     ensures run { (w : World) (items : List Item) (k : ℕ) (d : Dataset) (plan : Plan) → IsRun w items → EndsPlan w items k d plan → HasAllVersions d plan
         → IsFinished (world_at w items (k + 1)) (flipped d) plan.p plan.q }
-    ensures image { (c : Image) (w : World) (steps : ℕ) (s : Session) (lines : List (List ℕ)) (space : Space) (k : ℕ) (d : Dataset) (plan : Plan) → StandsAs w c
-        → EndsPlan w (course served_forms steps w s lines space).items k d plan → HasAllVersions d plan
-        → IsFinished (world_at w (course served_forms steps w s lines space).items (k + 1)) (flipped d) plan.p plan.q }
+    ensures image { (forms : List Form) (c : Image) (w : World) (steps : ℕ) (s : Session) (lines : List (List ℕ)) (space : Space) (k : ℕ) (d : Dataset) (plan : Plan) → AllNameVersions forms lines → StandsAs w c
+        → EndsPlan w (course forms steps w s lines space).items k d plan → HasAllVersions d plan
+        → IsFinished (world_at w (course forms steps w s lines space).items (k + 1)) (flipped d) plan.p plan.q }
 {}
 
 /// The partitions that a finished plan left are the parts of its split in each later World until a commit to that dataset, a
@@ -49,10 +49,10 @@ pub fn the_last_flip_leaves_the_split()
 pub fn the_split_stays()
     ensures run { (w : World) (items : List Item) (k j : ℕ) (d : Dataset) (plan : Plan) → IsRun w items → EndsPlan w items k d plan → HasAllVersions d plan
         → k < j → Between items (k + 1) j (LeavesParts d.cvd.number) → StaysSplit (world_at w items j) (flipped d) plan.p plan.q }
-    ensures image { (c : Image) (w : World) (steps : ℕ) (s : Session) (lines : List (List ℕ)) (space : Space) (k j : ℕ) (d : Dataset) (plan : Plan) → StandsAs w c
-        → EndsPlan w (course served_forms steps w s lines space).items k d plan → HasAllVersions d plan
-        → k < j → Between (course served_forms steps w s lines space).items (k + 1) j (LeavesParts d.cvd.number)
-        → StaysSplit (world_at w (course served_forms steps w s lines space).items j) (flipped d) plan.p plan.q }
+    ensures image { (forms : List Form) (c : Image) (w : World) (steps : ℕ) (s : Session) (lines : List (List ℕ)) (space : Space) (k j : ℕ) (d : Dataset) (plan : Plan) → AllNameVersions forms lines → StandsAs w c
+        → EndsPlan w (course forms steps w s lines space).items k d plan → HasAllVersions d plan
+        → k < j → Between (course forms steps w s lines space).items (k + 1) j (LeavesParts d.cvd.number)
+        → StaysSplit (world_at w (course forms steps w s lines space).items j) (flipped d) plan.p plan.q }
 {}
 
 /// A plan that began in a run has all versions of its dataset where it ends, exactly if no commit to that dataset came since.
@@ -72,10 +72,10 @@ pub fn a_finished_plan_is_as_told()
         → BeganAt items b k d.cvd.number p q → (plan.p ≡ p) × (plan.q ≡ q) }
     ensures run { (w : World) (items : List Item) (b k p q : ℕ) (d : Dataset) (plan : Plan) → IsRun w items → EndsPlan w items k d plan
         → BeganAt items b k d.cvd.number p q → HasAllVersions d plan → IsAsTold items b (flipped d) p q }
-    ensures image { (c : Image) (w : World) (steps : ℕ) (s : Session) (lines : List (List ℕ)) (space : Space) (b k p q : ℕ) (d : Dataset) (plan : Plan) → StandsAs w c
-        → EndsPlan w (course served_forms steps w s lines space).items k d plan
-        → BeganAt (course served_forms steps w s lines space).items b k d.cvd.number p q → HasAllVersions d plan
-        → IsAsTold (course served_forms steps w s lines space).items b (flipped d) p q }
+    ensures image { (forms : List Form) (c : Image) (w : World) (steps : ℕ) (s : Session) (lines : List (List ℕ)) (space : Space) (b k p q : ℕ) (d : Dataset) (plan : Plan) → AllNameVersions forms lines → StandsAs w c
+        → EndsPlan w (course forms steps w s lines space).items k d plan
+        → BeganAt (course forms steps w s lines space).items b k d.cvd.number p q → HasAllVersions d plan
+        → IsAsTold (course forms steps w s lines space).items b (flipped d) p q }
 {}
 
 /// Directly behind any flip that ends a plan, commits since it began or not, each partition of the dataset keeps the records of
@@ -88,12 +88,12 @@ pub fn the_last_flip_leaves_all_tight()
     ensures gone { (w : World) (items : List Item) (j k : ℕ) (d e : Dataset) (plan : Plan) (part : Part) → IsRun w items → EndsPlan w items k d plan
         → j ≤ k → Between items j k (BeginsNoPlan d.cvd.number) → IsIn (world_at w items j).sets e → e.cvd.number ≡ d.cvd.number
         → IsIn e.parts part → Waits e part → (after : Part) → IsIn (flipped d).parts after → after.id ≢ part.id }
-    ensures image { (c : Image) (w : World) (steps : ℕ) (s : Session) (lines : List (List ℕ)) (space : Space) (k : ℕ) (d : Dataset) (plan : Plan) → StandsAs w c
-        → EndsPlan w (course served_forms steps w s lines space).items k d plan → AllTight (flipped d).parts }
-    ensures image_gone { (c : Image) (w : World) (steps : ℕ) (s : Session) (lines : List (List ℕ)) (space : Space) (j k : ℕ) (d e : Dataset) (plan : Plan) (part : Part)
-        → StandsAs w c → EndsPlan w (course served_forms steps w s lines space).items k d plan
-        → j ≤ k → Between (course served_forms steps w s lines space).items j k (BeginsNoPlan d.cvd.number)
-        → IsIn (world_at w (course served_forms steps w s lines space).items j).sets e → e.cvd.number ≡ d.cvd.number
+    ensures image { (forms : List Form) (c : Image) (w : World) (steps : ℕ) (s : Session) (lines : List (List ℕ)) (space : Space) (k : ℕ) (d : Dataset) (plan : Plan) → AllNameVersions forms lines → StandsAs w c
+        → EndsPlan w (course forms steps w s lines space).items k d plan → AllTight (flipped d).parts }
+    ensures image_gone { (forms : List Form) (c : Image) (w : World) (steps : ℕ) (s : Session) (lines : List (List ℕ)) (space : Space) (j k : ℕ) (d e : Dataset) (plan : Plan) (part : Part)
+        → AllNameVersions forms lines → StandsAs w c → EndsPlan w (course forms steps w s lines space).items k d plan
+        → j ≤ k → Between (course forms steps w s lines space).items j k (BeginsNoPlan d.cvd.number)
+        → IsIn (world_at w (course forms steps w s lines space).items j).sets e → e.cvd.number ≡ d.cvd.number
         → IsIn e.parts part → Waits e part → (after : Part) → IsIn (flipped d).parts after → after.id ≢ part.id }
 {}
 

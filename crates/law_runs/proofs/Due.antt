@@ -9,7 +9,7 @@ use Rattle.ov_host.specs.Tape.{Tape, clock, left_since}
 use Rattle.ov_host.proofs.Stops.{only_left}
 use Rattle.ov_model.specs.Act.{Session}
 use Rattle.ov_model.specs.Course.{Item, Makes, Says, SaysSome, Space, begins, course, due, moves_of, play, whole, world_after, world_at}
-use Rattle.ov_model.specs.BuiltShapes.{served_forms}
+use Rattle.ov_model.specs.Forms.{Form}
 use Rattle.ov_model.specs.Moves.{Move, moved}
 use Rattle.ov_model.specs.Replies.{reply_text}
 use Rattle.ov_model.specs.World.{AllBegun, World, empty_world_of}
@@ -182,15 +182,16 @@ pub begun_where : (w : World) (c : Image) → StandsAs w c → AllBegun w.sets
 begun_where w c (inl new) = subst (λ (u : World). AllBegun u.sets) (sym new.world) tt
 begun_where w c (inr made) = begun w made.by.stands.reached
 
--- what a stop at some moment may have left is due
-pub stops_are_due : (n : ℕ) (w : World) (s : Session) (lines : List (List ℕ)) (space : Space) (printed : List ℕ) (old new : Tape) → AllBegun w.sets
-    → Only old new (IsFound w printed (course served_forms n w s lines space).items)
-    → (c : Image) → left_since new (clock old) c → IsDue w printed (course served_forms n w s lines space).items c
-stops_are_due n w s lines space printed old new has stops c left =
-    is_due w printed (course served_forms n w s lines space).items c (says_some served_forms n w s lines space has)
-    (only_left old new (IsFound w printed (course served_forms n w s lines space).items) stops c left)
+module _ (forms : List Form) where
+  -- what a stop at some moment may have left is due
+  pub stops_are_due : (n : ℕ) (w : World) (s : Session) (lines : List (List ℕ)) (space : Space) (printed : List ℕ) (old new : Tape) → AllBegun w.sets
+      → Only old new (IsFound w printed (course forms n w s lines space).items)
+      → (c : Image) → left_since new (clock old) c → IsDue w printed (course forms n w s lines space).items c
+  stops_are_due n w s lines space printed old new has stops c left =
+      is_due w printed (course forms n w s lines space).items c (says_some forms n w s lines space has)
+      (only_left old new (IsFound w printed (course forms n w s lines space).items) stops c left)
 
-pub run_is_due : (n : ℕ) (w : World) (s : Session) (lines : List (List ℕ)) (before : Held) (old new : State) → IsAtWorld w before old → (runs : Runs n w s lines before old new)
-    → (c : Image) → left_since new.tape (clock old.tape) c → IsDue w (printed_of old) (course served_forms n w s lines runs.space).items c
-run_is_due n w s lines before old new at runs c left =
-    stops_are_due n w s lines runs.space (printed_of old) old.tape new.tape (begun w at.stands.stands.reached) runs.stops c left
+  pub run_is_due : (n : ℕ) (w : World) (s : Session) (lines : List (List ℕ)) (before : Held) (old new : State) → IsAtWorld w before old → (runs : Runs forms n w s lines before old new)
+      → (c : Image) → left_since new.tape (clock old.tape) c → IsDue w (printed_of old) (course forms n w s lines runs.space).items c
+  run_is_due n w s lines before old new at runs c left =
+      stops_are_due n w s lines runs.space (printed_of old) old.tape new.tape (begun w at.stands.stands.reached) runs.stops c left

@@ -2,8 +2,8 @@
 -- files.
 --     Does d s t w reply ..      a command did what it means
 --     Breaks d s w ..      or it was stopped in it
---     Serves steps w s t line ok ..      a line was served
---     SoFar steps w s t gone ..      these lines were served
+--     Serves forms steps w s t line ok ..      a line was served, of commands of these forms
+--     SoFar forms steps w s t gone ..      these lines were served
 --     Runs, Halts, Ends      a run ended somewhere; it ended between two lines; it ended at its last line
 use Rattle.std.specs.Prelude.{◌≡◌, ◌||◌, ℕ, Bool, true, false, List, [], ◌∷◌, ◌++◌, map}
 use Rattle.std.specs.FinMap.{get}
@@ -14,7 +14,7 @@ use Rattle.ov_core.specs.AtWorld.{IsAtWorld}
 use Rattle.ov_core.specs.Held.{Held}
 use Rattle.ov_model.specs.Act.{Deed, Files, Session}
 use Rattle.ov_model.specs.Course.{Item, Makes, Says, Served, Space, after, attempts, course, play, served, world_after}
-use Rattle.ov_model.specs.BuiltShapes.{served_forms}
+use Rattle.ov_model.specs.Forms.{Form}
 use Rattle.ov_model.specs.Line.{line_of}
 use Rattle.ov_model.specs.Moves.{Move}
 use Rattle.ov_model.specs.World.{World}
@@ -66,12 +66,12 @@ Breaks d s w old new = Only old.tape new.tape (IsFound w (printed_of old) (attem
 
 -- Where an end failed, or there was no memory, the run ends here: all that was still to come counts as met by no refusal.
 -- `refused` says whether the reply is an error.
-pub record Serves (steps : ℕ) (w : World) (s t : Session) (line : List ℕ) (ok refused : Bool) (before now : Held) (old new : State) : Type 0 where
+pub record Serves (forms : List Form) (steps : ℕ) (w : World) (s t : Session) (line : List ℕ) (ok refused : Bool) (before now : Held) (old new : State) : Type 0 where
   pub used : Space
   pub did : Served
-  pub acts : (future : Space) → (ok ≡ false → future ≡ []) → served served_forms steps w s line (used ++ future) ≡ record did { left = future }
+  pub acts : (future : Space) → (ok ≡ false → future ≡ []) → served forms steps w s line (used ++ future) ≡ record did { left = future }
   pub licensed : (entry : Entry) (past : List Made) → IsWithin entry past before → (future : Space) → (ok ≡ false → future ≡ [])
-      → LicensedLine steps entry past w s (used ++ future) (line_of served_forms line)
+      → LicensedLine steps entry past w s (used ++ future) (line_of forms line)
   pub within : ok ≡ true → (entry : Entry) (past : List Made) → IsWithin entry past before → IsWithin entry (past ++ made_by w did.items) now
   pub stops : Only old.tape new.tape (IsFound w (printed_of old) did.items)
   pub at : ok ≡ true → IsAtWorld did.world now new
@@ -82,15 +82,15 @@ pub record Serves (steps : ℕ) (w : World) (s t : Session) (line : List ℕ) (o
 -- ---- lines
 
 -- These lines were served, whatever lines come after them. `before` was kept at the entry, and `now` is.
-pub record SoFar (steps : ℕ) (w : World) (s t : Session) (gone : List (List ℕ)) (failed : Bool) (before now : Held) (old new : State) : Type 0 where
+pub record SoFar (forms : List Form) (steps : ℕ) (w : World) (s t : Session) (gone : List (List ℕ)) (failed : Bool) (before now : Held) (old new : State) : Type 0 where
   pub past : Space
   pub items : List Item
   pub world : World
-  pub split : (later : List (List ℕ)) (future : Space) → course served_forms steps w s (gone ++ later) (past ++ future)
-      ≡ after items (course served_forms steps world t later future)
+  pub split : (later : List (List ℕ)) (future : Space) → course forms steps w s (gone ++ later) (past ++ future)
+      ≡ after items (course forms steps world t later future)
   pub licensed : (entry : Entry) → IsWithin entry [] before → (later : List (List ℕ)) (future : Space)
-      → Licensed entry (made_by w items) served_forms steps world t later future
-      → Licensed entry [] served_forms steps w s (gone ++ later) (past ++ future)
+      → Licensed entry (made_by w items) forms steps world t later future
+      → Licensed entry [] forms steps w s (gone ++ later) (past ++ future)
   pub within : (entry : Entry) → IsWithin entry [] before → IsWithin entry (made_by w items) now
   pub stops : Only old.tape new.tape (IsFound w (printed_of old) items)
   pub at : IsAtWorld world now new
@@ -100,22 +100,22 @@ pub record SoFar (steps : ℕ) (w : World) (s t : Session) (gone : List (List �
 
 -- The run ended, in a line or between two: what a stop at any moment of it leaves is found in the course under some answers for
 -- room, each refusal among them licensed.
-pub record Runs (steps : ℕ) (w : World) (s : Session) (lines : List (List ℕ)) (before : Held) (old new : State) : Type 0 where
+pub record Runs (forms : List Form) (steps : ℕ) (w : World) (s : Session) (lines : List (List ℕ)) (before : Held) (old new : State) : Type 0 where
   pub space : Space
-  pub licensed : (entry : Entry) → IsWithin entry [] before → Licensed entry [] served_forms steps w s lines space
-  pub stops : Only old.tape new.tape (IsFound w (printed_of old) (course served_forms steps w s lines space).items)
+  pub licensed : (entry : Entry) → IsWithin entry [] before → Licensed entry [] forms steps w s lines space
+  pub stops : Only old.tape new.tape (IsFound w (printed_of old) (course forms steps w s lines space).items)
 
 -- It ended between two lines: the replies to the lines before are printed, and the store and the files are as those lines leave
 -- them. What a stop at any moment of it leaves is found in the course of all its lines.
-pub record Halts (steps : ℕ) (w : World) (s t : Session) (gone lines : List (List ℕ)) (failed : Bool) (before now : Held) (old new : State) : Type 0 where
+pub record Halts (forms : List Form) (steps : ℕ) (w : World) (s t : Session) (gone lines : List (List ℕ)) (failed : Bool) (before now : Held) (old new : State) : Type 0 where
   pub space : Space
-  pub licensed : (entry : Entry) → IsWithin entry [] before → Licensed entry [] served_forms steps w s lines space
-  pub stops : Only old.tape new.tape (IsFound w (printed_of old) (course served_forms steps w s lines space).items)
-  pub printed : printed_of new ≡ printed_of old ++ play (course served_forms steps w s gone space).items
-  pub at : IsAtWorld (course served_forms steps w s gone space).world now new
-  pub session_is : (course served_forms steps w s gone space).session ≡ t
-  pub failed_is : failed ≡ has_error (course served_forms steps w s gone space).items
+  pub licensed : (entry : Entry) → IsWithin entry [] before → Licensed entry [] forms steps w s lines space
+  pub stops : Only old.tape new.tape (IsFound w (printed_of old) (course forms steps w s lines space).items)
+  pub printed : printed_of new ≡ printed_of old ++ play (course forms steps w s gone space).items
+  pub at : IsAtWorld (course forms steps w s gone space).world now new
+  pub session_is : (course forms steps w s gone space).session ≡ t
+  pub failed_is : failed ≡ has_error (course forms steps w s gone space).items
 
 -- it ended at its last line
-abbrev pub Ends : ℕ → World → Session → Session → List (List ℕ) → Bool → Held → Held → State → State → Type 0
-Ends steps w s t lines failed before now old new = Halts steps w s t lines lines failed before now old new
+abbrev pub Ends : List Form → ℕ → World → Session → Session → List (List ℕ) → Bool → Held → Held → State → State → Type 0
+Ends forms steps w s t lines failed before now old new = Halts forms steps w s t lines lines failed before now old new

@@ -5,7 +5,7 @@ ghost use Rattle.ov_host.specs.Stops.{Only};
 ghost use Rattle.ov_core.specs.AtWorld.{IsAtWorld, IsEither};
 ghost use Rattle.ov_core.specs.Held.{Held};
 ghost use Rattle.ov_model.specs.Act.{Session};
-ghost use Rattle.ov_model.specs.BuiltShapes.{served_forms};
+ghost use Rattle.ov_model.specs.Forms.{Form};
 ghost use Rattle.ov_model.specs.Line.{Comment, line_of};
 ghost use Rattle.ov_model.specs.Moves.{Move, moved};
 ghost use Rattle.ov_model.specs.Steps.{next_step};
@@ -48,12 +48,12 @@ pub fn steps_may_be_broken_off()
         → new.tape ≡ mid.tape → IsStepped n w false before later old new }
 {}
 
-/// A line that isn't a comment is served as if no step were asked for, and then come its steps; none where the run ends in it.
+/// A line that isn't a comment, of commands of any forms, is served as if no step were asked for, and then come its steps; none where the run ends in it.
 pub fn steps_follow_a_line()
-    ensures line { (n : ℕ) (w : World) (s t : Session) (line : List ℕ) (ok refused : Bool) (before at_reply now : Held) (old mid new : State)
-        → line_of served_forms line ≢ Comment → (a : Serves 0 w s t line true refused before at_reply old mid)
-        → IsStepped n a.did.world ok at_reply now mid new → Serves n w s t line ok refused before now old new }
-    ensures unserved { (n : ℕ) (w : World) (s t : Session) (line : List ℕ) (refused : Bool) (before now : Held) (old new : State)
-        → line_of served_forms line ≢ Comment → Serves 0 w s t line false refused before now old new
-        → Serves n w s t line false refused before now old new }
+    ensures line { (forms : List Form) (n : ℕ) (w : World) (s t : Session) (line : List ℕ) (ok refused : Bool) (before at_reply now : Held) (old mid new : State)
+        → line_of forms line ≢ Comment → (a : Serves forms 0 w s t line true refused before at_reply old mid)
+        → IsStepped n a.did.world ok at_reply now mid new → Serves forms n w s t line ok refused before now old new }
+    ensures unserved { (forms : List Form) (n : ℕ) (w : World) (s t : Session) (line : List ℕ) (refused : Bool) (before now : Held) (old new : State)
+        → line_of forms line ≢ Comment → Serves forms 0 w s t line false refused before now old new
+        → Serves forms n w s t line false refused before now old new }
 {}

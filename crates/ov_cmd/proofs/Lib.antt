@@ -5,5 +5,4 @@ pub mod Boundaries
 pub mod Splitting
 pub mod Reading
 pub mod Lines
-pub mod FormValues
-pub mod Asking
+pub mod Asked

@@ -2,10 +2,11 @@
 
 ghost use Rattle.std.specs.Prelude.{◌≡◌, ◌≢◌, IfOk, IfErr, Ok, [], ◌∷◌, map};
 ghost use Rattle.std.specs.Option.{option_map};
-ghost use Rattle.ov_model.specs.Forms.{all_forms, built_forms};
+ghost use Rattle.law_forms.specs.Built.{built_forms};
+ghost use Rattle.ov_model.specs.Forms.{all_forms};
 ghost use Rattle.ov_model.specs.Line.{line_of, by_form, by_name, form_of as form_of_name, first_of, has_second as has_second_of, made_by, read_words as read_words_of, Asks};
 ghost use Rattle.ov_model.specs.Words.{words_of as words_in_text, is_note as is_note_of, next_word as next_word_of, without_blanks as without_blanks_of};
-ghost use Rattle.ov_cmd.specs.Asked.{AsksBuilt};
+ghost use Rattle.ov_cmd.specs.Asked.{AsksAny, AsksBuilt};
 ghost use Rattle.ov_cmd.specs.Errors.{Refuses};
 ghost use Rattle.ov_cmd.specs.Following.{next_of};
 ghost use Rattle.ov_cmd.specs.Said.{said, RefusesLine};
@@ -176,16 +177,18 @@ fn read_line_of(alloc: Global, forms: &[Form], line: &[u8]) -> Result<Option<Com
 
 /// What a line asks for, of all commands of the product: None exactly for a comment. Each error but want of memory is the
 /// first refusal of the line. The time is linear in the line, which has over 65,536 bytes only where it is refused so.
+///
+/// A command has what its form reads: a name to begin under, at least one version, a message of up to 1,024 bytes, a query's text of
+/// up to 65,536, a column where any are added, and of a `generate` numbers within their bounds.
 pub fn read_line(alloc: Global, line: &[u8]) -> Result<Option<Command>, LineErr>
     ensures ok { IfOk result (λ c. line_of all_forms line.now ≡ said c) }
+    ensures asked { IfOk result AsksAny }
     ensures err { IfErr result (RefusesLine (line_of all_forms line.now)) }
 {
     read_line_of(alloc, all(), line)
 }
 
-/// The same, of the commands that the program has so far. A command has what its form reads: a name to begin under, at least
-/// one version, a message of up to 1,024 bytes, a query's text of up to 65,536, no staged table and no added column, and of a
-/// `generate` numbers within their bounds.
+/// The same, of the commands that the program has so far: it is one of these, with no staged table and no added column.
 pub fn read_built_line(alloc: Global, line: &[u8]) -> Result<Option<Command>, LineErr>
     ensures ok { IfOk result (λ c. line_of built_forms line.now ≡ said c) }
     ensures asked { IfOk result AsksBuilt }

@@ -1,7 +1,8 @@
 //! The table of forms: a row for each command. A command is added by adding its row.
 
 ghost use Rattle.std.specs.Prelude.{◌≡◌, map};
-ghost use Rattle.ov_model.specs.Forms.{all_forms, built_forms};
+ghost use Rattle.law_forms.specs.Built.{built_forms};
+ghost use Rattle.ov_model.specs.Forms.{all_forms};
 ghost use Rattle.ov_cmd.specs.Table.{form_of};
 
 use crate::form::{Choice, Form, Maker, Param};

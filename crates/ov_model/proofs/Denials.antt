@@ -14,7 +14,7 @@ use Rattle.ov_value.specs.declared.schema_err.SchemaErr.TheVariants as bad
 use Rattle.ov_value.specs.declared.value.Value.{Value}
 use Rattle.ov_value.specs.Shapes.{Shape, names}
 use Rattle.ov_value.specs.Spelling.{row_spelling}
-use Rattle.ov_model.specs.Act.{Session, Deed, does, unless, if_so, with_rows, with_file, rows_refusal, repeated_key, null_row, format_refusal, init_refusal, gives, merge_of, vids_refusal, checkout_deed, records_refusal, fresh_of, commit_rows, schema_with, commit_under, commit_refusal, commit_deed, columns_of, log_deed, drop_deed, optimize_refusal, optimize_deed, layout_deed, generated_reply, generate_by, is_threshold, more_refusal}
+use Rattle.ov_model.specs.Act.{format_one, Session, Deed, does, unless, if_so, with_rows, with_file, rows_refusal, repeated_key, null_row, format_refusal, init_refusal, gives, merge_of, vids_refusal, checkout_deed, records_refusal, fresh_of, commit_rows, schema_with, commit_under, commit_refusal, commit_deed, columns_of, log_deed, drop_deed, optimize_refusal, optimize_deed, layout_deed, generated_reply, generate_by, is_threshold, more_refusal}
 use Rattle.ov_model.specs.Book.{Row}
 use Rattle.ov_model.specs.Budget.{advise_by, advise_deed, choice, table, within_by, within_deed, within_refusal}
 use Rattle.ov_model.specs.declared.reply.BudgetLine.{BudgetLine}
@@ -254,8 +254,9 @@ change-records-silent rows (Some d) = records-silent d (fresh_of d (last_alone d
 change-silent : (w : World) (name : List ℕ) (rows : List Row) (d : Option Dataset) → Silent (change_refusal w name rows d)
 change-silent w name rows d =
     or-silent (number_refusal w name d) _ (number-silent w name d)
-    (or-silent (if_so (nat_lt 1000000 (length rows)) no.TooManyRows) (change_records rows d)
-    (if-silent (nat_lt 1000000 (length rows)) no.TooManyRows refl) (change-records-silent rows d))
+    (or-silent (if_so (nat_lt 1000000 (length rows)) no.TooManyRows) _ (if-silent (nat_lt 1000000 (length rows)) no.TooManyRows refl)
+    (or-silent (format_one w.format false rows) (change_records rows d)
+    (choice-silent (w.format == 1) _ _ (format-silent (null_row 1 rows) false) refl) (change-records-silent rows d)))
 
 changes-undenied : (w : World) (s t : Session) (name : List ℕ) (schema : Shape) (rows : List Row) (reply : Reply) (d : Option Dataset) → reply_denies reply ≡ false → Undenied (changes w s t name schema rows reply d)
 changes-undenied w s t name schema rows reply d is =

@@ -55,4 +55,6 @@ pub mod Widening
 pub mod UserWorked
 pub mod RegistryWorked
 pub mod Worked
-pub mod Shaped
+pub mod FormValues
+pub mod Forming
+pub mod AllFormed

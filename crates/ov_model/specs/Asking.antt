@@ -1,6 +1,6 @@
 -- What comes of what the text of a `run` asks.
 --     run_deed w s asked      the first refusal in its order, or else the answer; rule 71 comes behind what the text is refused for
-use Rattle.std.specs.Prelude.{ℕ, ◌||◌, ◌==◌, nat_lt, List, [], ◌∷◌, ◌++◌, length, Option, Some, None, Result, Ok, Err}
+use Rattle.std.specs.Prelude.{ℕ, Bool, true, false, ◌||◌, ◌==◌, nat_lt, List, [], ◌∷◌, ◌++◌, length, Option, Some, None, Result, Ok, Err}
 use Rattle.std.specs.Option.{option_or}
 use Rattle.ov_value.specs.declared.column.Kind.{Kind}
 use Rattle.ov_model.specs.Act.{Session, Deed, tells, refuses, unless, if_so, vids_refusal}
@@ -53,6 +53,11 @@ guard_lineages (Some c) = cond_lineages c
 
 abbrev pub lineages_of : Query → List ℕ
 lineages_of query = source_lineages query.source ++ (guard_lineages query.filter ++ guard_lineages query.having)
+
+-- no version is named
+abbrev pub is_none_named : List ℕ → Bool
+is_none_named [] = true
+is_none_named (vid ∷ vids) = false
 
 -- the first of these versions that isn't there
 abbrev pub missing_version : ℕ → List ℕ → Option Refusal

@@ -1,7 +1,6 @@
 -- The forms of the commands: one row for each.
 --     Form      a command's name, its words in order, its options, and the command that their values make
 --     all_forms      of every command of the product
---     built_forms      those that the program has so far
 -- A command is added by adding its row.
 use Rattle.std.specs.Prelude.{ℕ, Bool, true, false, ◌==◌, if◌then◌else◌, List, [], ◌∷◌, ◌^◌, length, Option, Some, None, Result, Ok, Err, slice_get, codes}
 use Rattle.std.specs.Option.{option_map}
@@ -266,10 +265,3 @@ all_forms =
     ∷ of_cvd (codes "drop") asks.DropCvd ∷ alone (codes "ls") asks.Ls ∷ alone (codes "checkpoint") asks.Checkpoint
     ∷ alone (codes "whoami") asks.Whoami ∷ alone (codes "tables") asks.Tables ∷ generate_form
     ∷ of_name (codes "create_user") asks.CreateUser ∷ of_name (codes "config") asks.Config ∷ unstage_form ∷ []
-
-abbrev pub built_forms : List Form
-built_forms =
-    init_form ∷ checkout_form (may_have (codes "-f") FileName ∷ []) ∷ commit_form [] ∷ run_form
-    ∷ optimize_form (needs (codes "-d") TwoNumbers ∷ []) ∷ migrate_form ∷ of_cvd (codes "layout") asks.Layout
-    ∷ of_cvd (codes "log") asks.Log ∷ of_cvd (codes "drop") asks.DropCvd ∷ alone (codes "ls") asks.Ls
-    ∷ alone (codes "checkpoint") asks.Checkpoint ∷ generate_form ∷ []

@@ -13,6 +13,7 @@ pub mod Csv
 pub mod Deed
 pub mod Descent
 pub mod Examples
+pub mod Formed
 pub mod Forms
 pub mod Generator
 pub mod Grammar
@@ -45,4 +46,3 @@ pub mod Users
 pub mod Values
 pub mod Words
 pub mod World
-pub mod BuiltShapes

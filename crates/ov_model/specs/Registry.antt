@@ -18,7 +18,7 @@ use Rattle.ov_value.specs.declared.value.Value.{Value}
 use Rattle.ov_value.specs.declared.value.Value.TheVariants.{Int, Text}
 use Rattle.ov_value.specs.Rows.{key_cmp, value_at}
 use Rattle.ov_value.specs.Shapes.{Shape}
-use Rattle.ov_model.specs.Act.{if_so, fresh_of, more_refusal, records_refusal}
+use Rattle.ov_model.specs.Act.{if_so, format_one, fresh_of, more_refusal, records_refusal}
 use Rattle.ov_model.specs.Book.{Row}
 use Rattle.ov_model.specs.Kinds.{is_same_kind}
 use Rattle.ov_model.specs.Merge.{has_key, merged}
@@ -134,8 +134,8 @@ staged_of w row = both (set_staged w row) (vids_staged row)
 
 -- ---- a change
 
--- a new dataset has room among the others, and a number; a further version has a number; there are not too many rows; and a
--- further version's records have rids
+-- a new dataset has room among the others, and a number; a further version has a number; there are not too many rows; in a store of
+-- format 1 none has NULL, as none has where the store stands for a World; and a further version's records have rids
 abbrev pub number_refusal : World → List ℕ → Option Dataset → Option Refusal
 number_refusal w name None = more_refusal w name
 number_refusal w name (Some d) = if_so (nat_le 65535 (length d.cvd.versions)) (no.TooManyVersions name)
@@ -151,7 +151,8 @@ change_records rows (Some d) = records_refusal d (fresh_of d (last_alone d) (cod
 abbrev pub change_refusal : World → List ℕ → List Row → Option Dataset → Option Refusal
 change_refusal w name rows d =
     option_or (number_refusal w name d)
-    (option_or (if_so (nat_lt 1000000 (length rows)) no.TooManyRows) (change_records rows d))
+    (option_or (if_so (nat_lt 1000000 (length rows)) no.TooManyRows)
+    (option_or (format_one w.format false rows) (change_records rows d)))
 
 abbrev pub change_of : List ℕ → Shape → List Row → Option Dataset → Move
 change_of name schema rows None = Init name schema rows

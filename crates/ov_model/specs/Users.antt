@@ -1,8 +1,9 @@
 -- Who may do what: four rules, by the user and the command alone.
+--     names command      what a command names, by which the rules know it
 --     permit user command      the refusal by the least rule that denies; a `run` is denied by its datasets' names alone
 --     permit_names user names      the same of a query or join that names these datasets
 --     line_by user line      what a line says of this user: a command that a rule denies is refused
-use Rattle.std.specs.Prelude.{◌≡◌, ℕ, zero, suc, ◌+◌, Bool, true, false, not, ◌&&◌, ◌||◌, nat_eq, if◌then◌else◌, List, [], ◌∷◌, Option, Some, None, codes}
+use Rattle.std.specs.Prelude.{◌≡◌, ℕ, zero, suc, ◌+◌, Bool, true, false, not, ◌&&◌, ◌||◌, nat_eq, if◌then◌else◌, List, [], ◌∷◌, Option, Some, None, is_some, codes}
 use Rattle.std.specs.List.{list_any, starts_with, ends_with}
 use Rattle.std.specs.Str.{bytes_eq}
 use Rattle.ov_model.specs.Line.{Line, Comment, Asks, Refused}
@@ -29,47 +30,47 @@ passes test (Some text) = test text
 
 -- ---- what a command names
 
--- the file of its option `-f`
-abbrev pub file_named : Command → Option (List ℕ)
-file_named (asks.Init cvd schema file) = Some file
-file_named (asks.Checkout cvd vids file table) = file
-file_named (asks.Commit cvd vids file message added) = Some file
-file_named _ = None
+-- By this alone the rules know a command: its dataset, the user with whose name its staged table begins, the file of its option
+-- `-f`, whether it makes a user, and whether not even `admin` does it to a dataset of the store's own, since it makes or changes the
+-- dataset or stages a table of it.
+pub record Names : Type 0 where
+  pub cvd : Option (List ℕ)
+  pub owner : Option (List ℕ)
+  pub file : Option (List ℕ)
+  pub makes_user : Bool
+  pub for_nobody : Bool
 
--- the user with whose name its staged table begins
-abbrev pub owner_named : Command → Option (List ℕ)
-owner_named (asks.CommitStaged user table message) = Some user
-owner_named (asks.Unstage user table) = Some user
-owner_named _ = None
+abbrev pub nothing_named : Names
+nothing_named = record { cvd = None; owner = None; file = None; makes_user = false; for_nobody = false }
 
--- its dataset
-abbrev pub cvd_named : Command → Option (List ℕ)
-cvd_named (asks.Init cvd schema file) = Some cvd
-cvd_named (asks.Checkout cvd vids file table) = Some cvd
-cvd_named (asks.Commit cvd vids file message added) = Some cvd
-cvd_named (asks.Optimize cvd p q) = Some cvd
-cvd_named (asks.OptimizeWithin cvd budget) = Some cvd
-cvd_named (asks.Advise cvd budget a b) = Some cvd
-cvd_named (asks.Layout cvd) = Some cvd
-cvd_named (asks.Log cvd) = Some cvd
-cvd_named (asks.DropCvd cvd) = Some cvd
-cvd_named (asks.Generate cvd seed rows versions) = Some cvd
-cvd_named _ = None
+-- of the dataset alone
+abbrev pub naming : List ℕ → Names
+naming cvd = record nothing_named { cvd = Some cvd }
+
+-- one row for each command, whether it is built or not; a `run` is denied by its datasets' names alone, and no sooner
+abbrev pub names : Command → Names
+names (asks.Init cvd schema file) = record (naming cvd) { file = Some file; for_nobody = true }
+names (asks.Checkout cvd vids file table) = record (naming cvd) { file = file; for_nobody = is_some table }
+names (asks.Commit cvd vids file message added) = record (naming cvd) { file = Some file; for_nobody = true }
+names (asks.CommitStaged user table message) = record nothing_named { owner = Some user }
+names (asks.Run text) = nothing_named
+names (asks.Optimize cvd p q) = naming cvd
+names (asks.OptimizeWithin cvd budget) = naming cvd
+names (asks.Advise cvd budget a b) = naming cvd
+names (asks.Migrate count) = nothing_named
+names (asks.Layout cvd) = naming cvd
+names (asks.Log cvd) = naming cvd
+names asks.Ls = nothing_named
+names (asks.DropCvd cvd) = record (naming cvd) { for_nobody = true }
+names asks.Checkpoint = nothing_named
+names (asks.Generate cvd seed rows versions) = record (naming cvd) { for_nobody = true }
+names (asks.CreateUser name) = record nothing_named { makes_user = true }
+names (asks.Config name) = nothing_named
+names asks.Whoami = nothing_named
+names (asks.Unstage user table) = record nothing_named { owner = Some user }
+names asks.Tables = nothing_named
 
 -- ---- the rules
-
-abbrev pub makes_user : Command → Bool
-makes_user (asks.CreateUser name) = true
-makes_user _ = false
-
--- what not even `admin` does to a dataset of the store's own: it makes or changes it, or stages a table of it
-abbrev pub is_for_nobody : Command → Bool
-is_for_nobody (asks.Init cvd schema file) = true
-is_for_nobody (asks.Checkout cvd vids file (Some table)) = true
-is_for_nobody (asks.Commit cvd vids file message added) = true
-is_for_nobody (asks.DropCvd cvd) = true
-is_for_nobody (asks.Generate cvd seed rows versions) = true
-is_for_nobody _ = false
 
 abbrev pub Rule : Type 0
 Rule = List ℕ → Command → Bool
@@ -77,16 +78,16 @@ Rule = List ℕ → Command → Bool
 -- whether each rule denies: users are made by `admin` alone; a staged table is its user's; no `-f` names a staged table's file;
 -- a dataset of the store's own is for `admin` alone, and some commands on it are for nobody
 abbrev pub admin_makes_users : Rule
-admin_makes_users user command = makes_user command && not (is_admin user)
+admin_makes_users user command = (names command).makes_user && not (is_admin user)
 
 abbrev pub tables_are_their_users : Rule
-tables_are_their_users user command = passes (λ owner. not (bytes_eq owner user)) (owner_named command)
+tables_are_their_users user command = passes (λ owner. not (bytes_eq owner user)) (names command).owner
 
 abbrev pub staged_files_are_kept : Rule
-staged_files_are_kept user command = passes is_staged_file (file_named command)
+staged_files_are_kept user command = passes is_staged_file (names command).file
 
 abbrev pub reserved_are_kept : Rule
-reserved_are_kept user command = passes is_reserved (cvd_named command) && (not (is_admin user) || is_for_nobody command)
+reserved_are_kept user command = passes is_reserved (names command).cvd && (not (is_admin user) || (names command).for_nobody)
 
 abbrev pub rules : List Rule
 rules = admin_makes_users ∷ tables_are_their_users ∷ staged_files_are_kept ∷ reserved_are_kept ∷ []

@@ -12,6 +12,7 @@ mod command;
 mod conditions;
 mod course;
 mod examples;
+mod formed;
 mod given;
 mod join_laws;
 mod limits;
@@ -26,7 +27,6 @@ mod refusal;
 mod replies;
 mod reply;
 mod round_trip;
-mod shapes;
 mod sizes;
 mod users;
 
@@ -45,6 +45,7 @@ pub use examples::{
     worked_budgets, worked_columns, worked_examples, worked_joins, worked_queries,
     worked_registries, worked_texts, worked_users,
 };
+pub use formed::lines_ask_what_forms_read;
 pub use given::{Given, Reading};
 pub use join_laws::{a_join_is_of_the_book, join_conditions_by_cases};
 pub use limits::{
@@ -76,7 +77,6 @@ pub use refusal::Refusal;
 pub use replies::a_reply_is_not_empty;
 pub use reply::{BudgetLine, CvdLine, LogLine, PartLine, PlanLine, Reply, TableLine};
 pub use round_trip::what_is_written_reads_back;
-pub use shapes::other_shapes_are_no_queries;
 pub use sizes::{
     a_commit_keeps_to_the_limits, a_join_matches_a_million_pairs_at_most,
     a_registry_keeps_to_the_limits,

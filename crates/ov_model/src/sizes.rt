@@ -1,5 +1,5 @@
 // Laws of the limits that are too great for a worked example.
-ghost use Rattle.std.specs.Prelude.{◌≡◌, ◌≤◌, ◌<◌, ◌+◌, ◌^◌, ℕ, Bool, List, [], ◌∷◌, length, Some, None, Result, Ok, Err};
+ghost use Rattle.std.specs.Prelude.{◌≡◌, ◌≤◌, ◌<◌, ◌+◌, ◌^◌, ℕ, Bool, false, List, [], ◌∷◌, length, Some, None, Result, Ok, Err};
 ghost use Rattle.ov_value.specs.declared.column.Column.{Column};
 ghost use Rattle.ov_value.specs.declared.column.Kind.{Kind};
 ghost use Rattle.ov_value.specs.declared.schema_err.SchemaErr.{SchemaErr};
@@ -48,18 +48,20 @@ pub fn a_commit_keeps_to_the_limits()
         (says.Commit d.cvd.name (length d.cvd.versions + 1) (length rows) (fresh_of (wide added d) parents message rows)) }
 {}
 
-/// A change of a dataset of the registry that is there is refused for 65,535 versions, then for over 1,000,000 rows, and then for
-/// records past 2^31; the change is made exactly where none of these holds.
+/// A change of a dataset of the registry that is there is refused for 65,535 versions, then for over 1,000,000 rows, then for a NULL
+/// in a store of format 1, and then for records past 2^31; the change is made exactly where none of these holds.
 pub fn a_registry_keeps_to_the_limits()
     ensures versions { (w : World) (name : List ℕ) (rows : List Row) (d : Dataset) → 65535 ≤ length d.cvd.versions
         → change_refusal w name rows (Some d) ≡ Some (no.TooManyVersions name) }
     ensures rows { (w : World) (name : List ℕ) (rows : List Row) (d : Dataset) → length d.cvd.versions < 65535 → 1000000 < length rows
         → change_refusal w name rows (Some d) ≡ Some no.TooManyRows }
+    ensures null { (w : World) (name : List ℕ) (rows : List Row) (d : Dataset) (refusal : Refusal) → length d.cvd.versions < 65535
+        → length rows ≤ 1000000 → format_one w.format false rows ≡ Some refusal → change_refusal w name rows (Some d) ≡ Some refusal }
     ensures records { (w : World) (name : List ℕ) (rows : List Row) (d : Dataset) → length d.cvd.versions < 65535 → length rows ≤ 1000000
-        → 2 ^ 31 < length (order_of d.cvd.versions) + fresh_of d (last_alone d) (codes "stage") rows
+        → format_one w.format false rows ≡ None → 2 ^ 31 < length (order_of d.cvd.versions) + fresh_of d (last_alone d) (codes "stage") rows
         → change_refusal w name rows (Some d) ≡ Some (no.TooManyRecords d.cvd.name) }
     ensures none { (w : World) (name : List ℕ) (rows : List Row) (d : Dataset) → length d.cvd.versions < 65535 → length rows ≤ 1000000
-        → length (order_of d.cvd.versions) + fresh_of d (last_alone d) (codes "stage") rows ≤ 2 ^ 31
+        → format_one w.format false rows ≡ None → length (order_of d.cvd.versions) + fresh_of d (last_alone d) (codes "stage") rows ≤ 2 ^ 31
         → change_refusal w name rows (Some d) ≡ None }
     ensures refused { (w : World) (s t : Session) (name : List ℕ) (schema : Shape) (rows : List Row) (reply : Reply) (d : Dataset) (refusal : Refusal)
         → change_refusal w name (version_rows schema rows) (Some d) ≡ Some refusal → changes w s t name schema rows reply (Some d) ≡ refuses s refusal }

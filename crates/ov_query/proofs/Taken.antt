@@ -4,8 +4,7 @@ use Rattle.std.specs.Prelude.{Option, ◌&&◌, not, if◌then◌else◌}
 use Rattle.std.specs.List.{list_any}
 use Rattle.std.proofs.lemmas.Option.{same_Some}
 use Rattle.ov_model.specs.Act.{Session, refuses, unless}
-use Rattle.ov_model.specs.Asking.{lineages_of, name_read, query_by, run_deed}
-use Rattle.ov_model.specs.BuiltShapes.{is_none_named}
+use Rattle.ov_model.specs.Asking.{is_none_named, lineages_of, name_read, query_by, run_deed}
 use Rattle.ov_model.specs.QueryTexts.{Asked, BadByte, NoQuery, AsksQuery, AsksJoin}
 use Rattle.ov_model.specs.Users.{is_admin, is_reserved, permit_names}
 use Rattle.ov_model.specs.World.{World, cvd_in, set_named}

@@ -6,12 +6,12 @@
 --     IsQueryDamaged n user text s page      what it reads is damaged, and nothing refuses it
 use Rattle.std.specs.Prelude.{◌≡◌, ℕ, if◌then◌else◌, List, [], ◌∷◌, length, Option, Some, None, Result, Ok, Err}
 use Rattle.std.specs.Option.{option_or}
+use Rattle.law_forms.specs.BuiltShapes.{is_built_shape}
 use Rattle.ov_host.specs.declared.area.Area.TheVariants.{Pages}
 use Rattle.ov_host.specs.declared.area.Extent.{Extent}
 use Rattle.ov_host.specs.Host.{Rose, State}
 use Rattle.ov_catalog.specs.Numbers.{Numbers, SetNumbers}
 use Rattle.ov_model.specs.Asking.{name_read, query_refusal}
-use Rattle.ov_model.specs.BuiltShapes.{is_built_shape}
 use Rattle.ov_model.specs.Kinds.{kinds}
 use Rattle.ov_model.specs.QueryTexts.{Asked, BadByte, NoQuery, AsksQuery, AsksJoin, asked_of}
 use Rattle.ov_model.specs.Users.{permit_names}

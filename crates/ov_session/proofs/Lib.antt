@@ -20,3 +20,4 @@ pub mod Following
 pub mod Plans
 pub mod Migrating
 pub mod Checkpointing
+pub mod Acting

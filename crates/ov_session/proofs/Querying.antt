@@ -11,7 +11,7 @@ use Rattle.law_runs.proofs.Doing.{breaks_looked, does_told}
 use Rattle.ov_fetch.specs.Extents.{Looked}
 use Rattle.ov_model.specs.Act.{Session, tells}
 use Rattle.ov_model.specs.Asking.{run_deed}
-use Rattle.ov_model.specs.BuiltShapes.{if_built}
+use Rattle.law_forms.specs.BuiltShapes.{if_built}
 use Rattle.ov_model.specs.Deed.{permitted}
 use Rattle.ov_model.specs.QueryTexts.{asked_of}
 use Rattle.ov_model.specs.World.{World}

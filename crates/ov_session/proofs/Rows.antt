@@ -8,9 +8,9 @@ use Rattle.ov_host.specs.Stage.{Staged}
 use Rattle.ov_catalog.specs.Numbers.{Numbers}
 use Rattle.ov_core.specs.Held.{Held}
 use Rattle.ov_model.specs.Act.{is_threshold}
-use Rattle.ov_model.specs.Asking.{lineages_of, name_read, source_lineages}
+use Rattle.ov_model.specs.Asking.{is_none_named, lineages_of, name_read, source_lineages}
 use Rattle.ov_model.specs.Book.{Row}
-use Rattle.ov_model.specs.BuiltShapes.{if_built, is_built_shape, is_none_named}
+use Rattle.law_forms.specs.BuiltShapes.{if_built, is_built_shape}
 use Rattle.ov_model.specs.QueryTexts.{Asked, BadByte, NoQuery, AsksQuery, AsksJoin, asked_of}
 use Rattle.ov_model.specs.World.{is_one}
 use Rattle.ov_model.specs.declared.command.Command.{Command}

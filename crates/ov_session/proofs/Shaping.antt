@@ -8,11 +8,11 @@ use Rattle.ov_catalog.specs.Numbers.{Numbers}
 use Rattle.ov_core.specs.AtWorld.{IsAtWorld}
 use Rattle.law_runs.specs.Serving.{Breaks, Does, Serves, session_of}
 use Rattle.law_steps.specs.Turns.{running}
-use Rattle.ov_model.proofs.Shaped.{line_shaped}
+use Rattle.law_forms.proofs.Shaped.{line_shaped}
 use Rattle.ov_model.specs.Act.{Session}
-use Rattle.ov_model.specs.BuiltShapes.{if_built, is_built_shape, served_line}
+use Rattle.law_forms.specs.BuiltShapes.{served_forms, if_built, is_built_shape, served_line}
 use Rattle.ov_model.specs.Deed.{permitted}
-use Rattle.ov_model.specs.Forms.{built_forms}
+use Rattle.law_forms.specs.Built.{built_forms}
 use Rattle.ov_model.specs.Line.{Line, Asks, Refused, answer, line_of}
 use Rattle.ov_model.specs.QueryTexts.{Asked, NoQuery, asked_of}
 use Rattle.ov_model.specs.Users.{line_by, permit, unless_denied}
@@ -193,18 +193,18 @@ module _ (user : List ℕ) (command : Command) (l : Line) (is : l ≡ served_lin
       s = session_of stage.files user
 
       pub served_shaped : (if_built command ≡ done command → Does (permitted w s command) s (session_of staged.files user) w reply before.held now.held old mid)
-          → Serves 0 w s (session_of staged.files user) line (is_ok result) (is_refused result) before.held now.held old new
+          → Serves served_forms 0 w s (session_of staged.files user) line (is_ok result) (is_refused result) before.held now.held old new
       served_shaped does = by (line_shape l command is)
         where
-          by : Shape l command → Serves 0 w s (session_of staged.files user) line (is_ok result) (is_refused result) before.held now.held old new
+          by : Shape l command → Serves served_forms 0 w s (session_of staged.files user) line (is_ok result) (is_refused result) before.held now.held old new
           by (inl asks_) =
               says_reply w s (session_of staged.files user) line command reply before.held now.held old mid new (asked ∙ asks_.0) (does asks_.1) result says_
           by (inr other) =
               let is_ = others other.0 other.2
               in let told : Says (says.Refused other.0) result old new =
               subst (λ (r : Reply). Says r result old new) is_.reply (subst (λ (x : State). Says reply result x new) is_.host says_)
-              in subst (λ (k : Kept). Serves 0 w s (session_of staged.files user) line (is_ok result) (is_refused result) before.held k.held old new) (sym is_.store)
-              (subst (λ (u : Staged). Serves 0 w s (session_of u.files user) line (is_ok result) (is_refused result) before.held before.held old new) (sym is_.stage_same)
+              in subst (λ (k : Kept). Serves served_forms 0 w s (session_of staged.files user) line (is_ok result) (is_refused result) before.held k.held old new) (sym is_.store)
+              (subst (λ (u : Staged). Serves served_forms 0 w s (session_of u.files user) line (is_ok result) (is_refused result) before.held before.held old new) (sym is_.stage_same)
               (says_refusal w s line other.0 before.held old new (asked ∙ other.1) at result told))
 
   -- the run ends in it
@@ -231,14 +231,14 @@ module _ (user : List ℕ) (command : Command) (l : Line) (is : l ≡ served_lin
 
     module _ (w : World) (line : List ℕ) (asked : line_asked user line ≡ l) (at : IsAtWorld w before.held old) where
       pub broken_shaped : (if_built command ≡ done command → Breaks (permitted w (session_of stage.files user) command) (session_of stage.files user) w old new)
-          → Serves 0 w (session_of stage.files user) (session_of staged.files user) line false false before.held now.held old new
+          → Serves served_forms 0 w (session_of stage.files user) (session_of staged.files user) line false false before.held now.held old new
       broken_shaped breaks = by (line_shape l command is)
         where
-          by : Shape l command → Serves 0 w (session_of stage.files user) (session_of staged.files user) line false false before.held now.held old new
+          by : Shape l command → Serves served_forms 0 w (session_of stage.files user) (session_of staged.files user) line false false before.held now.held old new
           by (inl asks_) = says_broken w (session_of stage.files user) (session_of staged.files user) line command before.held now.held old new (asked ∙ asks_.0) (breaks asks_.1)
           by (inr other) =
               let is_ = others other.0 other.2
-              in subst (λ (x : State). Serves 0 w (session_of stage.files user) (session_of staged.files user) line false false before.held now.held old x) (sym is_.host)
-              (subst (λ (k : Kept). Serves 0 w (session_of stage.files user) (session_of staged.files user) line false false before.held k.held old old) (sym is_.store)
-              (subst (λ (u : Staged). Serves 0 w (session_of stage.files user) (session_of u.files user) line false false before.held before.held old old) (sym is_.stage_same)
+              in subst (λ (x : State). Serves served_forms 0 w (session_of stage.files user) (session_of staged.files user) line false false before.held now.held old x) (sym is_.host)
+              (subst (λ (k : Kept). Serves served_forms 0 w (session_of stage.files user) (session_of staged.files user) line false false before.held k.held old old) (sym is_.store)
+              (subst (λ (u : Staged). Serves served_forms 0 w (session_of stage.files user) (session_of u.files user) line false false before.held before.held old old) (sym is_.stage_same)
               (line_unserved w (session_of stage.files user) line before.held old at)))

@@ -4,7 +4,7 @@
 use Rattle.std.specs.Prelude.{◌≡◌, ◌≢◌, ℕ, List}
 use Rattle.ov_cmd.specs.Errors.{refusal_of}
 use Rattle.ov_cmd.specs.declared.line_err.LineErr.TheVariants as why
-use Rattle.ov_model.specs.BuiltShapes.{served_forms}
+use Rattle.law_forms.specs.BuiltShapes.{served_forms}
 use Rattle.ov_model.specs.Line.{Line, Refused, line_of}
 use Rattle.ov_model.specs.Users.{line_by}
 use Rattle.ov_model.specs.declared.refusal.Refusal.{Refusal}

@@ -7,3 +7,4 @@ pub mod Reads
 pub mod Replying
 pub mod Stepping
 pub mod Damages
+pub mod Acting

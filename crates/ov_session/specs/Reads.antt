@@ -1,6 +1,7 @@
 -- What a command reads, as one row for each that there is, whether it is built or not: by the numbers of the store and the user alone.
 --     Source      versions of a dataset and what is read of them
---     Reads      a row: what the numbers refuse, what is read, what is changed, and what is done with the stage's files
+--     Reads      a row: what the numbers refuse, what is read, what is changed, what is done with the stage's files, and who the
+--                user is then
 --     reads_of n user command      the row of a command; who may ask it is decided before, but for a `run`
 --     fetch row      how many bytes of pages it may fetch; nothing where the numbers refuse it
 use Rattle.std.specs.Prelude.{ℕ, ◌+◌, Bool, false, not, nat_lt, if◌then◌else◌, List, [], ◌∷◌, ◌++◌, length, map, Option, Some, None, Result, Ok, Err, is_some}
@@ -101,6 +102,8 @@ pub record Reads : Type 0 where
   pub file : File
   -- a plan begins by it, as far as the numbers say
   pub begins : Bool
+  -- the user from here on, where it isn't refused; none where the user stays
+  pub becomes : Option (List ℕ)
 
 -- ---- how many bytes that is
 
@@ -194,7 +197,7 @@ stage_off n cvd vids table =
 
 -- nothing is read, and nothing is changed
 abbrev pub none : Reads
-none = record { off = None; always = []; if_done = []; later = None; own = Nought; changes = Nothing; file = Unused; begins = false }
+none = record { off = None; always = []; if_done = []; later = None; own = Nought; changes = Nothing; file = Unused; begins = false; becomes = None }
 
 abbrev pub refusing : Option Refusal → Reads
 refusing off = record none { off = off }
@@ -314,6 +317,7 @@ reads_of n user (asks.CreateUser name) =
 reads_of n user (asks.Config name) =
     record (refusing (option_or (registry_off users_schema (set_in n users_name)) (if_so (not (is_name name)) (no.NoUser name)))) {
       always = LastOf (set_in n users_name) ∷ [];
+      becomes = Some name;
     }
 reads_of n user asks.Whoami = none
 reads_of n user (asks.Unstage owner table) =
@@ -330,3 +334,7 @@ file_of command = (reads_of nothing_yet [] command).file
 -- a plan begins by it, as far as the numbers say, whoever asks
 abbrev pub begins_plan : Numbers Extent Extent → Command → Bool
 begins_plan n command = (reads_of n [] command).begins
+
+-- whom it makes the user, whoever asks and whatever the store has
+abbrev pub becomes_of : Command → Option (List ℕ)
+becomes_of command = (reads_of nothing_yet [] command).becomes

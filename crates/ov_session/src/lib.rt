@@ -13,6 +13,8 @@ mod planning;
 mod reading;
 mod serving;
 mod stepping;
+mod users;
 
 pub use errors::EndErr;
 pub use serving::{Served, serve};
+pub use users::the_user_stays;

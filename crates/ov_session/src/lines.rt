@@ -4,7 +4,7 @@ ghost use Rattle.ov_cmd.specs.Asked.{AsksBuilt};
 ghost use Rattle.ov_cmd.specs.Errors.{refusal_of};
 ghost use Rattle.ov_cmd.specs.Said.{said};
 ghost use Rattle.ov_cmd.specs.declared.line_err.LineErr.TheVariants as why;
-ghost use Rattle.ov_model.specs.BuiltShapes.{served_line};
+ghost use Rattle.law_forms.specs.BuiltShapes.{served_line};
 ghost use Rattle.ov_session.specs.Asking.{IsUnasked, line_asked, refusal_to};
 ghost use Rattle.ov_session.specs.declared.errors.EndErr.TheVariants as ending;
 ghost use Rattle.ov_session.specs.declared.lines.Unasked.TheVariants as unasked;

@@ -2,8 +2,9 @@
 ghost use Rattle.std.specs.Prelude.{◌≡◌, ◌≢◌, ◌≤◌, ◌+◌, ℕ, true, false, None, Ok, Err, IsErrOf, IsTrue, IfOk, IfErr, OnOk, is_ok};
 ghost use Rattle.ov_host.specs.Host.{Calls, Rose, State};
 ghost use Rattle.ov_host.specs.Tape.{Prints};
-ghost use Rattle.ov_cmd.specs.Asked.{IsAsked};
-ghost use Rattle.ov_model.specs.BuiltShapes.{if_built};
+ghost use Rattle.law_forms.specs.Built.{IsBuilt};
+ghost use Rattle.ov_model.specs.Formed.{IsAsked};
+ghost use Rattle.law_forms.specs.BuiltShapes.{if_built, served_forms};
 ghost use Rattle.ov_model.specs.Deed.{permitted};
 ghost use Rattle.ov_model.specs.Line.{Asks};
 ghost use Rattle.ov_model.specs.declared.command.Command.{Command as CommandValue};
@@ -15,6 +16,7 @@ ghost use Rattle.ov_core.specs.AtWorld.{IsAtWorld};
 ghost use Rattle.ov_core.specs.Held.{IsByJournal};
 ghost use Rattle.law_runs.specs.Serving.{Serves, is_error as is_error_of, session_of};
 ghost use Rattle.ov_store.specs.Kept.{Kept, MayCall};
+ghost use Rattle.ov_session.specs.Acting.{IsNextUser};
 ghost use Rattle.ov_session.specs.Asking.{line_asked};
 ghost use Rattle.ov_session.specs.Bounds.{IsFetched, IsFetchedBy, IsReading, IsReadingCommand, is_command_off, is_off};
 ghost use Rattle.law_steps.specs.Turns.{running};
@@ -62,6 +64,7 @@ fn answer<H: Host, T: Stage>(
 ) -> Result<Reply, EndErr>
     requires call { MayCall store.old (H.state host.old) }
     requires asked { IsAsked command }
+    requires built { IsBuilt command }
     ensures goes { Goes (H.state host.old) (H.state host.new) }
     ensures attended { Attended (T.staged stage.old) (T.staged stage.new) }
     ensures still { IsReadingCommand command → store.new.held ≡ store.old.held }
@@ -205,7 +208,7 @@ fn serve_line<H: Host, T: Stage>(
     ensures replied { IfOk result (λ served. IsSaidBy (line_asked user.now line.now) served store.old.held
         (T.staged stage.old) (T.staged stage.new) (H.state host.old) (H.state host.new)) }
     ensures serves { (w : World) → (T.staged stage.old).tells ≡ true → IsAtWorld w store.old.held (H.state host.old)
-        → Serves 0 w (session_of (T.staged stage.old).files user.now) (session_of (T.staged stage.new).files user.now) line.now
+        → Serves served_forms 0 w (session_of (T.staged stage.old).files user.now) (session_of (T.staged stage.new).files user.now) line.now
         (is_ok result) (is_refused result) store.old.held store.new.held (H.state host.old) (H.state host.new) }
 {
     match asked(alloc, line, user) {
@@ -232,7 +235,9 @@ fn is_comment(served: Served) -> bool
 /// there is no room for the next one. A comment has no reply, and no step comes behind it; behind a refusal steps come too.
 ///
 /// A step for which there is no room says nothing. Where a step meets damage, or the host or memory fails it, the line ends so,
-/// though its reply was printed; the steps before stay. The user is the one that the line acts as, and stays.
+/// though its reply was printed; the steps before stay.
+///
+/// The user is the one that the line acts as, and then the one whom the line's answer names as the user from there on.
 ///
 /// Reads are bounded where no step comes: where none is asked for, or no plan runs and the line begins none. An optimize that isn't
 /// refused begins one, and no other line does.
@@ -267,13 +272,13 @@ pub fn serve<H: Host, T: Stage>(
     ensures usable { OnOk result (MayCall store.new (H.state host.new)) }
     ensures by_journal { IsByJournal store.old.held (H.state host.old) → (IsErrOf result EndErr.Host → ⊥) → IsByJournal store.new.held (H.state host.new) }
     ensures at { (w : World) → IsAtWorld w store.old.held (H.state host.old) → OnOk result (IsAtSome store.new.held (H.state host.new)) }
-    ensures user { user.new ≡ user.old }
+    ensures user { IsNextUser (line_asked user.old line.now) result user.old user.new }
     ensures named { IsTrue (is_name user.new) }
     ensures comment { IfOk result (λ served. is_comment_of served ≡ is_comment_in (line_asked user.old line.now)) }
     ensures replied { IfOk result (λ served. IsReplied steps (line_asked user.old line.now) served store.old.held
         (T.staged stage.old) (T.staged stage.new) (H.state host.old) (H.state host.new)) }
     ensures serves { (w : World) → (T.staged stage.old).tells ≡ true → IsAtWorld w store.old.held (H.state host.old)
-        → Serves steps w (session_of (T.staged stage.old).files user.old) (session_of (T.staged stage.new).files user.new) line.now
+        → Serves served_forms steps w (session_of (T.staged stage.old).files user.old) (session_of (T.staged stage.new).files user.new) line.now
         (is_ok result) (is_refused result) store.old.held store.new.held (H.state host.old) (H.state host.new) }
 {
     let served = serve_line(alloc, store, host, stage, line, user)?;

@@ -33,7 +33,7 @@ use Rattle.law_runs.specs.Stops.{IsDue, IsFound, printed_of}
 use Rattle.ov_model.specs.Act.{Session}
 use Rattle.ov_model.proofs.Replying.{says_some}
 use Rattle.ov_model.specs.Course.{Item, SaysSome, Space, line_served, play, served}
-use Rattle.ov_model.specs.BuiltShapes.{served_forms}
+use Rattle.law_forms.specs.BuiltShapes.{served_forms}
 use Rattle.ov_model.specs.Line.{Refused, line_of}
 use Rattle.ov_model.specs.Words.{lines_of}
 use Rattle.ov_model.specs.World.{World}
@@ -43,9 +43,12 @@ use Rattle.ov_open.specs.Refusing.{Refuses}
 use Rattle.ov_open.specs.declared.errors.OpenErr.{OpenErr}
 use Rattle.ov_open.specs.declared.errors.OpenErr.TheVariants as opened
 use Rattle.law_room.specs.Room.{Entry, IsWithin, Made}
+use Rattle.ov_session.specs.Acting.{user_after}
+use Rattle.ov_session.specs.Asking.{line_asked}
 use Rattle.ov_session.specs.Commands.{Attended, IsNoDamage}
 use Rattle.ov_session.specs.declared.errors.EndErr.{EndErr}
 use Rattle.ov_session.specs.declared.errors.EndErr.TheVariants as ending
+use Rattle.ov_session.specs.declared.serving.Served.{Served}
 use Rattle.ov_script.specs.declared.reader.ReadErr.{ReadErr}
 use Rattle.ov_script.specs.declared.reader.ReadErr.TheVariants as reading
 use Rattle.ov_top.specs.declared.errors.RunErr.{RunErr}
@@ -55,7 +58,7 @@ use Rattle.ov_top.specs.declared.status.Status.TheVariants.{Memory}
 use Rattle.ov_top.specs.Ending.{AreWords, Cause, Ends, HasOpened, IsEntry, IsTold, IsUndamaged, Keeps, Played, PlayedTaken, Plays, Stops, StepsBy, course_of, course_taken, lines_taken, session_at}
 use Rattle.ov_top.specs.Errors.{by_reading, by_serving}
 use Rattle.ov_args.specs.Words.{options_of}
-use Rattle.ov_top.specs.Running.{AllServed, IsHalted, IsReadWhole, IsRunDamage, IsUnharmed, MeetsDamage, ReadsDamage, Spent, status_by, status_by_opening}
+use Rattle.ov_top.specs.Running.{ActsAfter, AllServed, IsHalted, IsReadWhole, IsRunDamage, IsUnharmed, MeetsDamage, ReadsDamage, Spent, status_by, status_by_opening, user_of_run}
 use Rattle.ov_script.specs.Reader.{GivesLine, IsCutOff, IsNext, Taken, Took, ended_lines, has_feed, taken_of}
 use Rattle.ov_script.proofs.Readers.{ended_at, next_lines, no_ended, taken_is}
 use Rattle.ov_host.specs.Source.{Script}
@@ -73,7 +76,7 @@ kept_line line =
     ]
 
 pub serves_kept : (steps : ℕ) (w : World) (s t : Session) (line : List ℕ) (ok refused : Bool) (before now : Held) (old new : State)
-    → Serves steps w s t (take 65537 line) ok refused before now old new → Serves steps w s t line ok refused before now old new
+    → Serves served_forms steps w s t (take 65537 line) ok refused before now old new → Serves served_forms steps w s t line ok refused before now old new
 serves_kept steps w s t line ok refused before now old new x =
     record {
       used = x.used;
@@ -181,15 +184,23 @@ pub record Gone (steps : ℕ) (w : World) (s t : Session) (all left : List ℕ) 
   pub gone : List (List ℕ)
   pub whole : lines_of all ≡ gone ++ lines_of left
   pub bytes : ended ≡ false → (front : List ℕ) × (all ≡ front ++ left) × ((text : List ℕ) → ended_lines (front ++ text) ≡ gone ++ ended_lines text)
-  pub so : SoFar steps w s t gone failed before now old new
+  pub acts : ActsAfter gone s.user t.user
+  pub so : SoFar served_forms steps w s t gone failed before now old new
 
 pub gone_start : (steps : ℕ) (w : World) (s : Session) (all : List ℕ) (held : Held) (st : State) → IsAtWorld w held st → Gone steps w s s all all false false held held st st
 gone_start steps w s all held st at = record {
   gone = [];
   whole = refl;
   bytes = λ open_. ([], refl, λ text. refl);
-  so = so_far_start steps w s held st at;
+  acts = refl;
+  so = so_far_start served_forms steps w s held st at;
 }
+
+-- who acts behind a line more
+pub acts_more : (gone : List (List ℕ)) (line first user next : List ℕ) (what : Served) → ActsAfter gone first user → next ≡ user_after (line_asked user line) what user
+    → ActsAfter (gone ++ line ∷ []) first next
+acts_more [] line first user next what same is = (what, is ∙ ap (λ (u : List ℕ). user_after (line_asked u line) what u) same)
+acts_more (g ∷ gone) line first user next what acts is = (acts.0, acts_more gone line (user_after (line_asked first g) acts.0 first) user next what acts.1 is)
 
 -- the bytes of a line more
 fed_more : (front line text : List ℕ) → (front ++ (line ++ 10 ∷ [])) ++ text ≡ front ++ (line ++ 10 ∷ text)
@@ -211,75 +222,85 @@ bytes_more gone all before now line false ending stays bytes (plain, inl feed) o
           ∙ ap (λ (ls : List (List ℕ)). gone ++ ls) (ended_at line text plain) ∙ sym (append_assoc gone (line ∷ []) (ended_lines text)),
     )
 
-pub gone_more : (steps : ℕ) (w : World) (s t u : Session) (all left later line : List ℕ) (ended ending failed refused : Bool) (before now held : Held) (old mid new : State)
+pub gone_more : (steps : ℕ) (w : World) (s t u : Session) (all left later line : List ℕ) (ended ending failed refused : Bool) (before now held : Held) (old mid new : State) (what : Served)
     → (so : Gone steps w s t all left ended failed before now old mid) → (ended ≡ true → ending ≡ true) → IsNext ending line left later
-    → Serves steps so.so.world t u line true refused now held mid new → Gone steps w s u all later ending (failed || refused) before held old new
-gone_more steps w s t u all left later line ended ending failed refused before now held old mid new so stays next serves = record {
+    → u.user ≡ user_after (line_asked t.user line) what t.user → Serves served_forms steps so.so.world t u line true refused now held mid new → Gone steps w s u all later ending (failed || refused) before held old new
+gone_more steps w s t u all left later line ended ending failed refused before now held old mid new what so stays next acts serves = record {
   gone = so.gone ++ line ∷ [];
   whole = so.whole ∙ ap (λ (ls : List (List ℕ)). so.gone ++ ls) (next_lines ending line left later next) ∙ sym (append_assoc so.gone (line ∷ []) (lines_of later));
   bytes = λ open_. bytes_more so.gone all left later line ended ending stays so.bytes next open_;
-  so = so_far_more steps w s t so.gone line failed before now old mid so.so u refused held new serves;
+  acts = acts_more so.gone line s.user t.user u.user what so.acts acts;
+  so = so_far_more served_forms steps w s t so.gone line failed before now old mid so.so u refused held new serves;
 }
 
 -- it ends in a line
 pub gone_ends : (steps : ℕ) (w : World) (s t u : Session) (all left later line : List ℕ) (ended ending failed refused : Bool) (before now held : Held) (old mid new : State)
     → (so : Gone steps w s t all left ended failed before now old mid) → IsNext ending line left later
-    → Serves steps so.so.world t u line false refused now held mid new → Runs steps w s (lines_of all) before old new
+    → Serves served_forms steps so.so.world t u line false refused now held mid new → Runs served_forms steps w s (lines_of all) before old new
 gone_ends steps w s t u all left later line ended ending failed refused before now held old mid new so next serves =
-    so_far_ends steps w s t so.gone line failed before now old mid so.so (lines_of all) (lines_of later)
+    so_far_ends served_forms steps w s t so.gone line failed before now old mid so.so (lines_of all) (lines_of later)
     (so.whole ∙ ap (λ (ls : List (List ℕ)). so.gone ++ ls) (next_lines ending line left later next)) u refused held new serves
 
 -- it ends at its last line
 pub gone_all : (steps : ℕ) (w : World) (s t : Session) (all left : List ℕ) (ended failed : Bool) (before now : Held) (old new : State)
-    → Gone steps w s t all left ended failed before now old new → lines_of left ≡ [] → course.Ends steps w s t (lines_of all) failed before now old new
+    → Gone steps w s t all left ended failed before now old new → lines_of left ≡ [] → course.Ends served_forms steps w s t (lines_of all) failed before now old new
 gone_all steps w s t all left ended failed before now old new so none =
-    so_far_all steps w s t (lines_of all) so.gone (lines_of left) failed before now old new so.whole none so.so
+    so_far_all served_forms steps w s t (lines_of all) so.gone (lines_of left) failed before now old new so.whole none so.so
+
+-- and someone acts who may behind all lines
+pub gone_acts : (steps : ℕ) (w : World) (s t : Session) (all left : List ℕ) (ended failed : Bool) (before now : Held) (old new : State)
+    → Gone steps w s t all left ended failed before now old new → lines_of left ≡ [] → ActsAfter (lines_of all) s.user t.user
+gone_acts steps w s t all left ended failed before now old new so none =
+    let same : so.gone ≡ lines_of all = sym (append-nil so.gone) ∙ ap (λ (ls : List (List ℕ)). so.gone ++ ls) (sym none) ∙ sym so.whole
+    in subst (λ (ls : List (List ℕ)). ActsAfter ls s.user t.user) same so.acts
 
 -- it ends in reading a line
 gone_halts : (steps : ℕ) (w : World) (s t : Session) (left : List ℕ) (ended failed : Bool) (before now : Held) (old new : State) (script later : Script)
     → Gone steps w s t script.left left ended failed before now old new → (ended ≡ false) × (part : List ℕ) × (left ≡ part ++ later.left) × (has_feed part ≡ false)
-    → Halts steps w s t (ended_lines (taken_of script later)) (lines_of script.left) failed before now old new
+    → ActsAfter (ended_lines (taken_of script later)) s.user t.user
+    × Halts served_forms steps w s t (ended_lines (taken_of script later)) (lines_of script.left) failed before now old new
 gone_halts steps w s t left ended failed before now old new script later so read =
     let front = so.bytes read.0
     in let whole : script.left ≡ front.0 ++ (read.1 ++ later.left) = front.1 ∙ ap (λ (b : List ℕ). front.0 ++ b) read.2
     in let taken : so.gone ≡ ended_lines (taken_of script later) =
     sym (append-nil so.gone) ∙ ap (λ (ls : List (List ℕ)). so.gone ++ ls) (sym (no_ended read.1 read.3)) ∙ sym (front.2 read.1)
     ∙ ap ended_lines (sym (taken_is front.0 read.1 script later whole))
-    in subst (λ (ls : List (List ℕ)). Halts steps w s t ls (lines_of script.left) failed before now old new) taken
-    (so_far_halts steps w s t (lines_of script.left) so.gone (lines_of left) so.whole failed before now old new so.so)
+    in subst (λ (ls : List (List ℕ)). ActsAfter ls s.user t.user × Halts served_forms steps w s t ls (lines_of script.left) failed before now old new) taken
+    (so.acts, so_far_halts served_forms steps w s t (lines_of script.left) so.gone (lines_of left) so.whole failed before now old new so.so)
 
 gone_runs : (steps : ℕ) (w : World) (s t : Session) (all left : List ℕ) (ended failed : Bool) (before now : Held) (old new : State)
-    → Gone steps w s t all left ended failed before now old new → Runs steps w s (lines_of all) before old new
+    → Gone steps w s t all left ended failed before now old new → Runs served_forms steps w s (lines_of all) before old new
 gone_runs steps w s t all left ended failed before now old new so =
-    halts_run steps w s t so.gone (lines_of all) failed before now old new
-    (so_far_halts steps w s t (lines_of all) so.gone (lines_of left) so.whole failed before now old new so.so)
+    halts_run served_forms steps w s t so.gone (lines_of all) failed before now old new
+    (so_far_halts served_forms steps w s t (lines_of all) so.gone (lines_of left) so.whole failed before now old new so.so)
 
 -- ---- the lines of a run, at its ends
 
 -- it ends where it begins
-pub runs_start : (steps : ℕ) (w : World) (s : Session) (all : List ℕ) (held : Held) (st : State) → IsAtWorld w held st → Runs steps w s (lines_of all) held st st
+pub runs_start : (steps : ℕ) (w : World) (s : Session) (all : List ℕ) (held : Held) (st : State) → IsAtWorld w held st → Runs served_forms steps w s (lines_of all) held st st
 runs_start steps w s all held st at = gone_runs steps w s s all all false false held held st st (gone_start steps w s all held st at)
 
 -- it ends in reading the next line
-pub ends_reading : (steps : ℕ) (w : World) (s t : Session) (e : ReadErr) (reader : Taken) (left : List ℕ) (failed : Bool) (before now : Held) (old new : State) (script later : Script) (still : Type 0)
-    → Gone steps w s t script.left left reader.ended failed before now old new → IsCutOff e reader left later
-    → AllServed steps w s t (lines_of script.left) (ended_lines (taken_of script later)) still (Err (by_reading e)) before old new
-ends_reading steps w s t reading.Input reader left failed before now old new script later still so cut =
-    let halts = gone_halts steps w s t left reader.ended failed before now old new script later so cut
-    in (gone_runs steps w s t script.left left reader.ended failed before now old new so, λ same. (now, failed, halts))
-ends_reading steps w s t reading.Memory reader left failed before now old new script later still so cut =
-    gone_runs steps w s t script.left left reader.ended failed before now old new so
-ends_reading steps w s t reading.TooLong reader left failed before now old new script later still so cut =
-    (now, failed, gone_halts steps w s t left reader.ended failed before now old new script later so cut)
+pub ends_reading : (steps : ℕ) (w : World) (s : Session) (files : Map) (user : List ℕ) (e : ReadErr) (reader : Taken) (left : List ℕ) (failed : Bool) (before now : Held) (old new : State) (script later : Script) (still : Type 0)
+    → Gone steps w s (session_of files user) script.left left reader.ended failed before now old new → IsCutOff e reader left later
+    → AllServed steps w s files (lines_of script.left) (ended_lines (taken_of script later)) still (Err (by_reading e)) before old new
+ends_reading steps w s files user reading.Input reader left failed before now old new script later still so cut =
+    let halts = gone_halts steps w s (session_of files user) left reader.ended failed before now old new script later so cut
+    in (gone_runs steps w s (session_of files user) script.left left reader.ended failed before now old new so, λ same. (now, failed, user, halts.0, halts.1))
+ends_reading steps w s files user reading.Memory reader left failed before now old new script later still so cut =
+    gone_runs steps w s (session_of files user) script.left left reader.ended failed before now old new so
+ends_reading steps w s files user reading.TooLong reader left failed before now old new script later still so cut =
+    let halts = gone_halts steps w s (session_of files user) left reader.ended failed before now old new script later so cut
+    in (now, failed, user, halts.0, halts.1)
 
 -- it ends in serving a line
-pub ends_serving : (steps : ℕ) (w : World) (s t : Session) (lines taken : List (List ℕ)) (still : Type 0) (e : EndErr) (before : Held) (old new : State) → IsNoDamage e
-    → (e ≡ ending.Stage → still → ⊥) → Runs steps w s lines before old new
-    → AllServed steps w s t lines taken still (Err (by_serving e)) before old new
-ends_serving steps w s t lines taken still ending.Host before old new fine rose runs = runs
-ends_serving steps w s t lines taken still ending.Stage before old new fine rose runs = (runs, λ same. absurd (rose refl same))
-ends_serving steps w s t lines taken still ending.Memory before old new fine rose runs = runs
-ends_serving steps w s t lines taken still (ending.Damaged area at) before old new fine rose runs = absurd fine
+pub ends_serving : (steps : ℕ) (w : World) (s : Session) (files : Map) (lines taken : List (List ℕ)) (still : Type 0) (e : EndErr) (before : Held) (old new : State) → IsNoDamage e
+    → (e ≡ ending.Stage → still → ⊥) → Runs served_forms steps w s lines before old new
+    → AllServed steps w s files lines taken still (Err (by_serving e)) before old new
+ends_serving steps w s files lines taken still ending.Host before old new fine rose runs = runs
+ends_serving steps w s files lines taken still ending.Stage before old new fine rose runs = (runs, λ same. absurd (rose refl same))
+ends_serving steps w s files lines taken still ending.Memory before old new fine rose runs = runs
+ends_serving steps w s files lines taken still (ending.Damaged area at) before old new fine rose runs = absurd fine
 
 -- there are no more lines
 pub no_lines : (ended b : Bool) (before now kept : List ℕ) → b ≡ false → GivesLine ended b before now kept → lines_of before ≡ []
@@ -300,42 +321,46 @@ module _ (steps : ℕ) (w : World) (old mid new : Ends) (told : IsTold w old) (h
       → (c : Image) → left_since new.host.tape (clock old.host.tape) c → IsDue w (printed_of old.host) (items_of space) c
   stops_by space running = stops_due w held old.host mid.host new.host at opened.settled.printed opening (items_of space) (some space) running
 
-  pub stops_of : Runs steps w (session_at old) (lines_of old.script.left) held mid.host new.host → Stops steps w old new
+  pub stops_of : Runs served_forms steps w (session_at old) (lines_of old.script.left) held mid.host new.host → Stops steps w old new
   stops_of runs = record {
     space = runs.space;
     licensed = λ entry is. runs.licensed entry (enters w old.host.tape.disk held mid.host opened at entry is);
     stops = stops_by runs.space runs.stops;
   }
 
-  pub played_of : (failed : Bool) (now : Held) → course.Ends steps w (session_at old) (session_at new) (lines_of old.script.left) failed held now mid.host new.host
+  pub played_of : (failed : Bool) (now : Held) (user : List ℕ) → ActsAfter (lines_of old.script.left) user_of_run user → course.Ends served_forms steps w (session_at old) (session_of new.stage.files user) (lines_of old.script.left) failed held now mid.host new.host
       → Played steps w failed old new
-  played_of failed now ends = record {
+  played_of failed now user acts ends = record {
     space = ends.space;
     licensed = λ entry is. ends.licensed entry (enters w old.host.tape.disk held mid.host opened at entry is);
     stops = stops_by ends.space ends.stops;
     printed = ends.printed ∙ ap (λ (text : List ℕ). text ++ play (items_of ends.space)) opened.settled.printed;
     settled = record { pages = ends.at.rest.rest; journal = ends.at.at.rest };
     stands = inr (record { kept = kept_by now.journal ends.at.payloads; events = ends.at.events; by = ends.at.stands });
+    user = user;
+    acts = acts;
     files = sym ends.session_is;
     failed_is = ends.failed_is;
   }
 
-  taken_of_halts : IsHalted steps w (session_at old) (session_at new) (lines_taken old new) (lines_of old.script.left) held mid.host new.host → PlayedTaken steps w old new
-  taken_of_halts (now, failed, halts) = record {
+  taken_of_halts : IsHalted steps w (session_at old) new.stage.files (lines_taken old new) (lines_of old.script.left) held mid.host new.host → PlayedTaken steps w old new
+  taken_of_halts (now, failed, user, acts, halts) = record {
     space = halts.space;
     licensed = λ entry is. halts.licensed entry (enters w old.host.tape.disk held mid.host opened at entry is);
     stops = stops_by halts.space halts.stops;
     printed = halts.printed ∙ ap (λ (text : List ℕ). text ++ play (course_taken steps w old new halts.space).items) opened.settled.printed;
     settled = record { pages = halts.at.rest.rest; journal = halts.at.at.rest };
     stands = inr (record { kept = kept_by now.journal halts.at.payloads; events = halts.at.events; by = halts.at.stands });
+    user = user;
+    acts = acts;
     files = sym halts.session_is;
   }
 
-  plays_by : (result : Result Bool RunErr) → AllServed steps w (session_at old) (session_at new) (lines_of old.script.left) (lines_taken old new)
+  plays_by : (result : Result Bool RunErr) → AllServed steps w (session_at old) new.stage.files (lines_of old.script.left) (lines_taken old new)
       (Rose old.stage.faults new.stage.faults → ⊥) result held mid.host new.host
       → Plays (status_by result) steps w old new
-  plays_by (Ok false) all = played_of false all.0 all.1
-  plays_by (Ok true) all = played_of true all.0 all.1
+  plays_by (Ok false) all = played_of false all.0 all.1 all.2 all.3
+  plays_by (Ok true) all = played_of true all.0 all.1 all.2 all.3
   plays_by (Err running.Host) all = stops_of all
   plays_by (Err running.Input) (runs, halts) = (stops_of runs, λ still. taken_of_halts (halts still))
   plays_by (Err running.Memory) all = stops_of all
@@ -343,7 +368,7 @@ module _ (steps : ℕ) (w : World) (old mid new : Ends) (told : IsTold w old) (h
   plays_by (Err (running.Damaged area at_)) all = absurd all
 
   pub plays_status : (status : Status) (result : Result Bool RunErr) → status ≡ status_by result
-      → AllServed steps w (session_at old) (session_at new) (lines_of old.script.left) (lines_taken old new) (Rose old.stage.faults new.stage.faults → ⊥) result held mid.host new.host
+      → AllServed steps w (session_at old) new.stage.files (lines_of old.script.left) (lines_taken old new) (Rose old.stage.faults new.stage.faults → ⊥) result held mid.host new.host
       → Plays status steps w old new
   plays_status status result is all = subst (λ (x : Status). Plays x steps w old new) (sym is) (plays_by result all)
 
@@ -505,15 +530,11 @@ still_world w ends told =
 
 -- ---- a line, as it was kept
 
-pub serves_as : (steps : ℕ) (w : World) (files files2 : Map) (u u2 user x kept line : List ℕ) (ok refused : Bool) (before now : Held) (old new : State)
-    → u ≡ user → u2 ≡ u → x ≡ kept → kept ≡ take 65537 line
-    → Serves steps w (session_of files u) (session_of files2 u2) x ok refused before now old new
-    → Serves steps w (session_of files user) (session_of files2 user) line ok refused before now old new
-serves_as steps w files files2 u u2 user x kept line ok refused before now old new is same value keeps serves =
-    serves_kept steps w (session_of files user) (session_of files2 user) line ok refused before now old new
-    (subst (λ (l : List ℕ). Serves steps w (session_of files user) (session_of files2 user) l ok refused before now old new) (value ∙ keeps)
-    (subst (λ (v : List ℕ). Serves steps w (session_of files user) (session_of files2 v) x ok refused before now old new) (same ∙ is)
-    (subst (λ (v : List ℕ). Serves steps w (session_of files v) (session_of files2 u2) x ok refused before now old new) is serves)))
+pub serves_as : (steps : ℕ) (w : World) (s t : Session) (x kept line : List ℕ) (ok refused : Bool) (before now : Held) (old new : State) → x ≡ kept → kept ≡ take 65537 line
+    → Serves served_forms steps w s t x ok refused before now old new → Serves served_forms steps w s t line ok refused before now old new
+serves_as steps w s t x kept line ok refused before now old new value keeps serves =
+    serves_kept steps w s t line ok refused before now old new
+    (subst (λ (l : List ℕ). Serves served_forms steps w s t l ok refused before now old new) (value ∙ keeps) serves)
 
 pub not_seen : (b : Bool) → b ≡ true → b ≡ false → ⊥
 not_seen true seen open_ = cc

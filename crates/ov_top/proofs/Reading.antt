@@ -1,6 +1,6 @@
 -- What a run reads of the pages, and the damage that it meets.
 use Rattle.std.proofs.Common.{◌≡◌, ◌≤◌, ◌+◌, inl, inr, ℕ, Bool, true, false, List, [], ◌∷◌, ◌++◌, length, take, refl, sym, ◌∙◌, ap, subst, append_assoc, arith}
-use Rattle.std.specs.Prelude.{Err, None, Ok, Option, Result, Some, codes}
+use Rattle.std.specs.Prelude.{◌⊎◌, Err, None, Ok, Option, Result, Some, max}
 use Rattle.std.specs.FinMap.{get}
 use Rattle.std.proofs.lemmas.List.{length-take, take_all}
 use Rattle.std.proofs.lemmas.Bool.{cases_lt}
@@ -18,19 +18,22 @@ use Rattle.ov_catalog.specs.Numbers.{Numbers}
 use Rattle.ov_core.specs.Held.{Held, IsByJournal}
 use Rattle.ov_model.specs.Act.{schema_with}
 use Rattle.ov_model.specs.Book.{Row}
-use Rattle.ov_model.specs.BuiltShapes.{served_forms}
+use Rattle.law_forms.specs.BuiltShapes.{served_forms}
 use Rattle.ov_model.specs.Line.{Line, Asks, Comment, Refused, line_of}
-use Rattle.ov_model.specs.Users.{line_by}
+use Rattle.ov_model.specs.Users.{line_by, permit, unless_denied}
 use Rattle.ov_model.specs.Words.{lines_of}
 use Rattle.ov_model.specs.declared.command.Command.{Command}
 use Rattle.ov_model.specs.declared.command.Command.TheVariants as asks
+use Rattle.ov_model.specs.declared.refusal.Refusal.{Refusal}
 use Rattle.ov_model.specs.declared.refusal.Refusal.TheVariants.{LongLine}
 use Rattle.ov_model.specs.declared.reply.Reply.{Reply}
 use Rattle.ov_store.specs.Committing.{IfSet, Set}
 use Rattle.ov_store.specs.Kept.{Kept}
 use Rattle.ov_store.specs.Scanning.{set_in}
+use Rattle.ov_session.specs.Acting.{user_after}
 use Rattle.ov_session.specs.Asking.{line_asked}
 use Rattle.ov_session.specs.Bounds.{IsFetchedBy, IsReading, IsReadingCommand, may_fetch}
+use Rattle.ov_session.proofs.Acting.{user_either, user_stays}
 use Rattle.ov_session.proofs.Bounds.{reading_fetched}
 use Rattle.ov_session.specs.Commands.{AreAnyBad, AreBad, AreRowsOf, DamagedBy, IsBad, IsDamageOf, IsDamaged, IsNoDamage, IsParentsDamaged, IsWideDamagedIn, is_comment_in, is_comment_of}
 use Rattle.ov_session.specs.Reads.{Own, Nought, Versions, Steps, File, Unused, Taken, Given, GivenBehind, Later, Reads, Source, RowsOf, ParentsOf, PlanOf, ListsOf, SegmentsOf, LastOf, Wanted, file_of, reads_of}
@@ -47,49 +50,68 @@ use Rattle.ov_script.specs.declared.reader.ReadErr.{ReadErr}
 use Rattle.ov_script.specs.declared.reader.ReadErr.TheVariants as reading
 use Rattle.ov_script.proofs.Readers.{next_lines}
 use Rattle.ov_top.specs.Errors.{by_reading, by_serving}
-use Rattle.ov_top.specs.Running.{AreReading, HasReply, IsLineOf, IsRunDamage, IsUnharmed, MeetsDamage, ReadsDamage, StepsOnDamage, line_of_run, reads, user_of_run}
-use Rattle.ov_top.proofs.Lined.{kept_line, long_line}
+use Rattle.ov_top.specs.Running.{ActsAfter, AreReading, HasReply, IsRunDamage, IsUnharmed, MeetsDamage, ReadsDamage, StepsOnDamage, reads, user_of_run}
+use Rattle.ov_top.proofs.Lined.{acts_more, kept_line, long_line}
 
 -- ---- lines, as they were kept
 
-pub line_kept : (user x kept line : List ℕ) → user ≡ codes "admin" → x ≡ kept → kept ≡ take 65537 line → line_asked user x ≡ line_of_run line
-line_kept user x kept line first value keeps =
-    ap (λ (u : List ℕ). line_asked u x) first
-    ∙ ap (line_by (codes "admin")) (ap (line_of served_forms) (value ∙ keeps) ∙ kept_line line)
+same_line : (x kept line : List ℕ) → x ≡ kept → kept ≡ take 65537 line → line_of served_forms x ≡ line_of served_forms line
+same_line x kept line value keeps = ap (line_of served_forms) (value ∙ keeps) ∙ kept_line line
+
+pub line_kept : (user x kept line : List ℕ) → x ≡ kept → kept ≡ take 65537 line → line_asked user x ≡ line_asked user line
+line_kept user x kept line value keeps = ap (line_by user) (same_line x kept line value keeps)
 
 -- a line that asks for something was kept whole
-asked_whole : (x line : List ℕ) (command : Command) → x ≡ take 65537 line → line_of_run x ≡ Asks command → x ≡ line
-asked_whole x line command keeps asks_ =
+asked_whole : (user x line : List ℕ) (command : Command) → x ≡ take 65537 line → line_asked user x ≡ Asks command → x ≡ line
+asked_whole user x line command keeps asks_ =
     elim (cases_lt 65536 (length line)) [
       | inl long ↦
           let size : length x ≡ length (take 65537 line) = ap length keeps
-          in let too_long : line_of_run x ≡ Refused LongLine = ap (line_by (codes "admin")) (long_line x (omega (arith, long, size, length-take 65537 line)))
+          in let too_long : line_asked user x ≡ Refused LongLine = ap (line_by user) (long_line x (omega (arith, long, size, length-take 65537 line)))
           in let same : Refused LongLine ≡ Asks command = sym too_long ∙ asks_ in absurd cc
       | inr short ↦ keeps ∙ take_all 65537 line (omega (arith, short))
     ]
 
-pub lined_more : (ended : Bool) (all line left later : List ℕ) → (gone : List (List ℕ)) × (lines_of all ≡ gone ++ lines_of left) → IsNext ended line left later
-    → (gone : List (List ℕ)) × (lines_of all ≡ gone ++ lines_of later)
-lined_more ended all line left later (gone, whole) next = (
-  gone ++ line ∷ [],
-  whole ∙ ap (λ (ls : List (List ℕ)). gone ++ ls) (next_lines ended line left later next) ∙ sym (append_assoc gone (line ∷ []) (lines_of later)),
-)
+-- ---- who acts
 
-line_among : (ended : Bool) (all line left later : List ℕ) → (gone : List (List ℕ)) × (lines_of all ≡ gone ++ lines_of left) → IsNext ended line left later
-    → IsLineOf all line
-line_among ended all line left later (gone, whole) next =
-    (gone, lines_of later, whole ∙ ap (λ (ls : List (List ℕ)). gone ++ ls) (next_lines ended line left later next))
+-- who acts behind the lines that are gone; where the script tells its bytes, they are those in front of what is left
+pub record Acting (tells : Bool) (all left user : List ℕ) : Type 0 where
+  pub gone : List (List ℕ)
+  pub acts : ActsAfter gone user_of_run user
+  pub whole : tells ≡ true → lines_of all ≡ gone ++ lines_of left
+
+whole_more : (ended : Bool) (all line left later : List ℕ) (gone : List (List ℕ)) → lines_of all ≡ gone ++ lines_of left → IsNext ended line left later → lines_of all ≡ gone ++ line ∷ lines_of later
+whole_more ended all line left later gone whole next = whole ∙ ap (λ (ls : List (List ℕ)). gone ++ ls) (next_lines ended line left later next)
+
+-- a line more
+pub acting_more : (tells ended : Bool) (all left later x kept user next : List ℕ) (what : Served) → Acting tells all left user → x ≡ kept
+    → (tells ≡ true → (line : List ℕ) × IsNext ended line left later × (kept ≡ take 65537 line)) → next ≡ user_after (line_asked user x) what user → Acting tells all later next
+acting_more true ended all left later x kept user next what acting value given is =
+    let line = given refl
+    in record {
+      gone = acting.gone ++ line.0 ∷ [];
+      acts = acts_more acting.gone line.0 user_of_run user next what acting.acts (is ∙ ap (λ (l : Line). user_after l what user) (line_kept user x kept line.0 value line.2));
+      whole = λ told.
+          whole_more ended all line.0 left later acting.gone (acting.whole refl) line.1 ∙ sym (append_assoc acting.gone (line.0 ∷ []) (lines_of later));
+    }
+acting_more false ended all left later x kept user next what acting value given is = record {
+  gone = acting.gone ++ x ∷ [];
+  acts = acts_more acting.gone x user_of_run user next what acting.acts is;
+  whole = λ told. absurd cc;
+}
 
 -- ---- what is fetched
 
--- after lines that change no store, and before those that are left
-pub record Fetches (before now : Held) (all left : List (List ℕ)) (old new : State) : Type 0 where
+-- after lines that change no store, and before those that are left, of which this user asks the next one
+pub record Fetches (before now : Held) (all left : List (List ℕ)) (user : List ℕ) (old new : State) : Type 0 where
   pub same : now ≡ before
-  pub reading : AreReading left
-  pub bound : new.fetched + reads before.numbers left ≤ old.fetched + reads before.numbers all
+  pub reading : AreReading user left
+  pub bound : new.fetched + reads before.numbers user left ≤ old.fetched + reads before.numbers user_of_run all
 
-pub fetches_start : (held : Held) (lines : List (List ℕ)) (s : State) → AreReading lines → Fetches held held lines lines s s
-fetches_start held lines s are = record { same = refl; reading = are; bound = omega arith }
+pub fetches_start : (held : Held) (lines : List (List ℕ)) (user : List ℕ) (s : State) → user ≡ user_of_run → AreReading user_of_run lines → Fetches held held lines lines user s s
+fetches_start held lines user s first are =
+    let start : Fetches held held lines lines user_of_run s s = record { same = refl; reading = are; bound = omega arith }
+    in subst (λ (u : List ℕ). Fetches held held lines lines u s s) (sym first) start
 
 -- a line that changes no store begins no plan
 quiet_command : (n : Numbers Extent Extent) (command : Command) → IsReadingCommand command → begins_plan n command ≡ false
@@ -109,44 +131,59 @@ none_behind steps n l reads (inl zero_is) = inl zero_is
 none_behind steps n l reads (inr none) = inr (none, quiet_line n l reads)
 
 -- so no step comes behind the next one
-pub none_then : (steps : ℕ) (before now : Held) (all left later : List (List ℕ)) (user x line : List ℕ) (old mid : State) → Fetches before now all left old mid → left ≡ line ∷ later
-    → line_asked user x ≡ line_of_run line → TakesNoStep steps before.numbers → NoneBehind steps now.numbers (line_asked user x)
+pub none_then : (steps : ℕ) (before now : Held) (all left later : List (List ℕ)) (user x line : List ℕ) (old mid : State) → Fetches before now all left user old mid → left ≡ line ∷ later
+    → line_asked user x ≡ line_asked user line → TakesNoStep steps before.numbers → NoneBehind steps now.numbers (line_asked user x)
 none_then steps before now all left later user x line old mid so next kept none =
-    let reads : AreReading (line ∷ later) = subst AreReading next so.reading
+    let reads : AreReading user (line ∷ later) = subst (AreReading user) next so.reading
     in none_behind steps now.numbers (line_asked user x) (subst IsReading (sym kept) reads.0) (subst (λ (h : Held). TakesNoStep steps h.numbers) (sym so.same) none)
 
-pub fetches_all : (before now : Held) (all left : List (List ℕ)) (old new : State) → Fetches before now all left old new
-    → new.fetched ≤ old.fetched + reads before.numbers all
-fetches_all before now all left old new is = omega (arith, is.bound)
+pub fetches_all : (before now : Held) (all left : List (List ℕ)) (user : List ℕ) (old new : State) → Fetches before now all left user old new
+    → new.fetched ≤ old.fetched + reads before.numbers user_of_run all
+fetches_all before now all left user old new is = omega (arith, is.bound)
 
-module _ (before now : Held) (all left later : List (List ℕ)) (user x line : List ℕ) (old mid new : State) (so : Fetches before now all left old mid)
-    (first : user ≡ user_of_run) (next : left ≡ line ∷ later) (kept : line_asked user x ≡ line_of_run line)
+-- what is left to be read is no more than what was counted for either user
+most_read : (n : Numbers Extent Extent) (l : Line) (what : Served) (user : List ℕ) (later : List (List ℕ))
+    → reads n (user_after l what user) later ≤ max (reads n user later) (reads n (user_after l served.Done user) later)
+most_read n l what user later = by (user_either l what user)
+  where
+    by : (user_after l what user ≡ user) ⊎ (user_after l what user ≡ user_after l served.Done user)
+        → reads n (user_after l what user) later ≤ max (reads n user later) (reads n (user_after l served.Done user) later)
+    by (inl stays) = let same : reads n (user_after l what user) later ≡ reads n user later = ap (λ (u : List ℕ). reads n u later) stays in omega (arith, same)
+    by (inr done) =
+        let same : reads n (user_after l what user) later ≡ reads n (user_after l served.Done user) later = ap (λ (u : List ℕ). reads n u later) done in omega (arith, same)
+
+module _ (before now : Held) (all left later : List (List ℕ)) (user x line : List ℕ) (old mid new : State) (so : Fetches before now all left user old mid)
+    (next : left ≡ line ∷ later) (kept : line_asked user x ≡ line_asked user line)
     (later_held : Held) (fault : Type 0) (read : IsFetchedBy user (line_asked user x) now later_held fault mid new) where
-  there : Fetches before now all (line ∷ later) old mid
-  there = subst (λ (ls : List (List ℕ)). Fetches before now all ls old mid) next so
+  there : Fetches before now all (line ∷ later) user old mid
+  there = subst (λ (ls : List (List ℕ)). Fetches before now all ls user old mid) next so
 
   fetched : new.fetched ≤ mid.fetched + may_fetch now.numbers user (line_asked user x)
   fetched = reading_fetched user (line_asked user x) now later_held fault mid new (subst IsReading (sym kept) there.reading.0) read
 
-  same_bound : may_fetch now.numbers user (line_asked user x) ≡ may_fetch before.numbers user_of_run (line_of_run line)
-  same_bound =
-      ap (λ (h : Held). may_fetch h.numbers user (line_asked user x)) so.same
-      ∙ ap (λ (u : List ℕ). may_fetch before.numbers u (line_asked user x)) first ∙ ap (may_fetch before.numbers user_of_run) kept
+  same_bound : may_fetch now.numbers user (line_asked user x) ≡ may_fetch before.numbers user (line_asked user line)
+  same_bound = ap (λ (h : Held). may_fetch h.numbers user (line_asked user x)) so.same ∙ ap (may_fetch before.numbers user) kept
 
-  still_bound : new.fetched + reads before.numbers later ≤ old.fetched + reads before.numbers all
-  still_bound =
-      let split : reads before.numbers (line ∷ later) ≡ may_fetch before.numbers user_of_run (line_of_run line) + reads before.numbers later = refl
-      in omega (arith, fetched, same_bound, split, there.bound)
+  still_bound : (r : ℕ) → r ≤ max (reads before.numbers user later) (reads before.numbers (user_after (line_asked user line) served.Done user) later)
+      → new.fetched + r ≤ old.fetched + reads before.numbers user_of_run all
+  still_bound r below =
+      let split : reads before.numbers user (line ∷ later) ≡ may_fetch before.numbers user (line_asked user line)
+      + max (reads before.numbers user later) (reads before.numbers (user_after (line_asked user line) served.Done user) later) = refl
+      in omega (arith, fetched, same_bound, split, there.bound, below)
 
-  pub fetches_more : (IsReading (line_asked user x) → later_held ≡ now) → Fetches before later_held all later old new
-  fetches_more still = record {
-    same = still (subst IsReading (sym kept) there.reading.0) ∙ so.same;
-    reading = there.reading.1;
-    bound = still_bound;
-  }
+  pub fetches_more : (what : Served) (then : List ℕ) → then ≡ user_after (line_asked user x) what user → (IsReading (line_asked user x) → later_held ≡ now)
+      → Fetches before later_held all later then old new
+  fetches_more what then is still =
+      let acts : then ≡ user_after (line_asked user line) what user = is ∙ ap (λ (l : Line). user_after l what user) kept
+      in let more : Fetches before later_held all later (user_after (line_asked user line) what user) old new = record {
+        same = still (subst IsReading (sym kept) there.reading.0) ∙ so.same;
+        reading = there.reading.1 what;
+        bound = still_bound (reads before.numbers (user_after (line_asked user line) what user) later) (most_read before.numbers (line_asked user line) what user later);
+      }
+      in subst (λ (u : List ℕ). Fetches before later_held all later u old new) (sym acts) more
 
-  pub fetches_ends : new.fetched ≤ old.fetched + reads before.numbers all
-  fetches_ends = omega (arith, still_bound)
+  pub fetches_ends : new.fetched ≤ old.fetched + reads before.numbers user_of_run all
+  fetches_ends = omega (arith, still_bound 0 (omega arith))
 
 -- ---- damage
 
@@ -239,8 +276,9 @@ replied_some steps l served.Comment held stage staged old new some is = cc
 replied_some steps l served.Done held stage staged old new some is = reply_some l is.0 is.3.to_line
 replied_some steps l served.Refused held stage staged old new some is = reply_some l is.0 is.3.to_line
 
-module _ (user x : List ℕ) (first : user ≡ codes "admin") (before now : Kept) (script : Script) (stage staged : Staged) (old new : State) (told : staged.tells ≡ stage.tells)
-    (among : (command : Command) → line_asked user x ≡ Asks command → script.tells ≡ true → IsLineOf script.left x)
+module _ (user x : List ℕ) (before now : Kept) (script : Script) (stage staged : Staged) (old new : State) (told : staged.tells ≡ stage.tells)
+    (gone : List (List ℕ)) (acts : ActsAfter gone user_of_run user)
+    (among : (command : Command) → line_asked user x ≡ Asks command → script.tells ≡ true → (after : List (List ℕ)) × (lines_of script.left ≡ gone ++ x ∷ after))
     (behind : is_comment_in (line_asked user x) ≡ false → script.tells ≡ true → HasReply script.left) where
   -- the command's damage
   command_damage : (page : ℕ) → (new.tells ≡ true → IsByJournal now.held new) → IsCommandMet user (line_asked user x) before now stage staged old new page
@@ -248,15 +286,17 @@ module _ (user x : List ℕ) (first : user ≡ codes "admin") (before now : Kept
   command_damage page by is =
       let met = is.damaged
       in record {
+        before = gone;
         line = x;
         among = among met.0 met.1;
+        user = user;
+        acts = acts;
         command = met.0;
-        asks = ap (λ (u : List ℕ). line_asked u x) (sym first) ∙ met.1;
+        asks = met.1;
         held = now.held;
         numbers = by;
-        damaged = subst (λ (u : List ℕ). IsDamaged u met.0 staged now.held now.held new page) first
-            (now_damaged before now stage staged old new told Pages page user met.0
-            (subst (λ (l : Line). IsIdleOn l (ending.Damaged Pages page) before now stage staged old new) met.1 is.idle) met.2);
+        damaged = now_damaged before now stage staged old new told Pages page user met.0
+            (subst (λ (l : Line). IsIdleOn l (ending.Damaged Pages page) before now stage staged old new) met.1 is.idle) met.2;
       }
 
   -- a step's
@@ -284,17 +324,33 @@ pub err_end : {A : Type 0} → (e f : EndErr) → (let one : Result A EndErr = E
 err_end e f is = cc
 
 -- a line of the script, where it asks for something
-pub asked_among : (ended : Bool) (user x kept line all left later : List ℕ) → user ≡ codes "admin" → x ≡ kept → kept ≡ take 65537 line
-    → (gone : List (List ℕ)) × (lines_of all ≡ gone ++ lines_of left) → IsNext ended line left later
-    → (command : Command) → line_asked user x ≡ Asks command → IsLineOf all x
-asked_among ended user x kept line all left later first value keeps lined next command is =
-    subst (IsLineOf all) (sym (asked_whole x line command (value ∙ keeps) (ap (λ (u : List ℕ). line_asked u x) (sym first) ∙ is))) (line_among ended all line left later lined next)
+pub asked_among : (ended : Bool) (user x kept line all left later : List ℕ) (gone : List (List ℕ)) → x ≡ kept → kept ≡ take 65537 line
+    → lines_of all ≡ gone ++ lines_of left → IsNext ended line left later
+    → (command : Command) → line_asked user x ≡ Asks command → (after : List (List ℕ)) × (lines_of all ≡ gone ++ x ∷ after)
+asked_among ended user x kept line all left later gone value keeps whole next command is = (
+  lines_of later,
+  whole_more ended all line left later gone whole next
+      ∙ ap (λ (l : List ℕ). gone ++ l ∷ lines_of later) (sym (asked_whole user x line command (value ∙ keeps) is)),
+)
+
+not_denied : (found : Option Refusal) (command : Command) → is_comment_in (unless_denied found command) ≡ false
+not_denied None command = refl
+not_denied (Some refusal) command = refl
+
+-- whether a line is a comment is the same for all users
+comment_by : (user : List ℕ) (l : Line) → is_comment_in (line_by user l) ≡ is_comment_in l
+comment_by user Comment = refl
+comment_by user (Asks command) = not_denied (permit user command) command
+comment_by user (Refused refusal) = refl
 
 -- a line that has a reply
-pub reply_among : (ended : Bool) (user x kept line all left later : List ℕ) → user ≡ codes "admin" → x ≡ kept → kept ≡ take 65537 line
-    → (gone : List (List ℕ)) × (lines_of all ≡ gone ++ lines_of left) → IsNext ended line left later → is_comment_in (line_asked user x) ≡ false → HasReply all
-reply_among ended user x kept line all left later first value keeps lined next some =
-    (line, line_among ended all line left later lined next, ap is_comment_in (sym (line_kept user x kept line first value keeps)) ∙ some)
+pub reply_among : (ended : Bool) (user x kept line all left later : List ℕ) (gone : List (List ℕ)) → x ≡ kept → kept ≡ take 65537 line
+    → lines_of all ≡ gone ++ lines_of left → IsNext ended line left later → is_comment_in (line_asked user x) ≡ false → HasReply all
+reply_among ended user x kept line all left later gone value keeps whole next some = (
+  line,
+  (gone, lines_of later, whole_more ended all line left later gone whole next),
+  ap is_comment_in (sym (same_line x kept line value keeps)) ∙ sym (comment_by user (line_of served_forms x)) ∙ some,
+)
 
 pub reading_harmless : (steps : ℕ) (e : ReadErr) (script : Script) (stage : Staged) (s : State) → IsRunDamage steps script stage s (by_reading e)
 reading_harmless steps reading.Input script stage s = tt
@@ -311,3 +367,17 @@ unharmed ending.Host is = tt
 unharmed ending.Stage is = tt
 unharmed ending.Memory is = tt
 unharmed (ending.Damaged area at) is = absurd is
+
+-- ---- by the commands that are built there is one user
+
+pub one_user : (lines : List (List ℕ)) (user next : List ℕ) → ActsAfter lines user next → next ≡ user
+one_user [] user next is = is
+one_user (line ∷ lines) user next acts = one_user lines (user_after (line_asked user line) acts.0 user) next acts.1 ∙ user_stays user line acts.0
+
+pub one_reading : (user line : List ℕ) (lines : List (List ℕ)) → IsReading (line_asked user line) → AreReading user lines → AreReading user (line ∷ lines)
+one_reading user line lines is are = (is, λ what. subst (λ (u : List ℕ). AreReading u lines) (sym (user_stays user line what)) are)
+
+pub one_reads : (n : Numbers Extent Extent) (user line : List ℕ) (lines : List (List ℕ)) → reads n user (line ∷ lines) ≡ may_fetch n user (line_asked user line) + reads n user lines
+one_reads n user line lines =
+    let same : reads n (user_after (line_asked user line) served.Done user) lines ≡ reads n user lines = ap (λ (u : List ℕ). reads n u lines) (user_stays user line served.Done)
+    in omega (arith, same)

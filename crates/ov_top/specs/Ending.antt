@@ -4,7 +4,7 @@
 --     Keeps old new      what every run keeps to, however it ends
 --     IsTold w old      the ends tell their bytes, nothing is pending, and the store's bytes stand for the World
 --     Plays status steps w old new      what was said and done, and what a stop left
-use Rattle.std.specs.Prelude.{◌≡◌, ◌≢◌, ◌≤◌, ◌<◌, ◌⊎◌, ◌+◌, ◌^◌, ◌++◌, ℕ, Bool, true, false, List, [], length, None, Some, codes}
+use Rattle.std.specs.Prelude.{◌≡◌, ◌≢◌, ◌≤◌, ◌<◌, ◌⊎◌, ◌+◌, ◌^◌, ◌++◌, ℕ, Bool, true, false, List, [], length, None, Some}
 use Rattle.ov_host.specs.declared.area.Area.TheVariants.{Pages}
 use Rattle.ov_host.specs.Disk.{AllSettled, Image, as_read}
 use Rattle.ov_host.specs.Host.{State, Rose}
@@ -21,7 +21,7 @@ use Rattle.law_runs.specs.Serving.{has_error, session_of}
 use Rattle.law_runs.specs.Stops.{IsDue, printed_of}
 use Rattle.ov_model.specs.Act.{Session}
 use Rattle.ov_model.specs.Course.{Served, Space, course, play}
-use Rattle.ov_model.specs.BuiltShapes.{served_forms}
+use Rattle.law_forms.specs.BuiltShapes.{served_forms}
 use Rattle.ov_model.specs.Words.{lines_of}
 use Rattle.ov_model.specs.World.{World}
 use Rattle.ov_open.specs.declared.errors.OpenErr.{OpenErr}
@@ -32,7 +32,7 @@ use Rattle.ov_session.specs.Commands.{Attended, Goes}
 use Rattle.ov_args.specs.Words.{options_of}
 use Rattle.ov_script.specs.Reader.{ended_lines, taken_of}
 use Rattle.ov_top.specs.Bytes.{Opens}
-use Rattle.ov_top.specs.Running.{IsReadWhole, ReadsDamage, Spent, StepsOnDamage}
+use Rattle.ov_top.specs.Running.{ActsAfter, IsReadWhole, ReadsDamage, Spent, StepsOnDamage, user_of_run}
 use Rattle.ov_top.specs.declared.status.Status.{Status}
 use Rattle.ov_top.specs.declared.status.Status.TheVariants.{Done, Refused, Usage, HostFault, InputFault, Memory, NotAStore, Damaged, Format, ScriptTooLong}
 
@@ -112,7 +112,7 @@ pub record IsEntry (entry : Entry) (c : Image) : Type 0 where
 
 -- a run begins as this user
 abbrev pub session_at : Ends → Session
-session_at ends = session_of ends.stage.files (codes "admin")
+session_at ends = session_of ends.stage.files user_of_run
 
 -- the course of the script under some answers for room
 abbrev pub course_of : ℕ → World → Ends → Space → Served
@@ -135,7 +135,8 @@ abbrev pub course_taken : ℕ → World → Ends → Ends → Space → Served
 course_taken steps w old new space = course served_forms steps w (session_at old) (lines_taken old new) space
 
 -- And where only the reading of the script ended, just the lines whose line feed was taken were served: their replies are printed
--- whole, nothing is pending, and the bytes stand for the World after them and their steps.
+-- whole, nothing is pending, the bytes stand for the World after them and their steps, and the
+-- stage's files and the user, who may act behind these lines, are as they leave them.
 pub record PlayedTaken (steps : ℕ) (w : World) (old new : Ends) : Type 0 where
   pub space : Space
   pub licensed : (entry : Entry) → IsEntry entry (as_read old.host.tape.disk)
@@ -144,7 +145,9 @@ pub record PlayedTaken (steps : ℕ) (w : World) (old new : Ends) : Type 0 where
   pub printed : printed_of new.host ≡ printed_of old.host ++ play (course_taken steps w old new space).items
   pub settled : AllSettled new.host.tape.disk
   pub stands : StandsAs (course_taken steps w old new space).world (as_read new.host.tape.disk)
-  pub files : session_at new ≡ (course_taken steps w old new space).session
+  pub user : List ℕ
+  pub acts : ActsAfter (lines_taken old new) user_of_run user
+  pub files : session_of new.stage.files user ≡ (course_taken steps w old new space).session
 
 -- and where the script was read to its end, the replies of the course are printed, nothing is pending, and the bytes stand for
 -- its last World; the flag says whether a reply is an error
@@ -156,7 +159,9 @@ pub record Played (steps : ℕ) (w : World) (failed : Bool) (old new : Ends) : T
   pub printed : printed_of new.host ≡ printed_of old.host ++ play (course_of steps w old space).items
   pub settled : AllSettled new.host.tape.disk
   pub stands : StandsAs (course_of steps w old space).world (as_read new.host.tape.disk)
-  pub files : session_at new ≡ (course_of steps w old space).session
+  pub user : List ℕ
+  pub acts : ActsAfter (lines_of old.script.left) user_of_run user
+  pub files : session_of new.stage.files user ≡ (course_of steps w old space).session
   pub failed_is : failed ≡ has_error (course_of steps w old space).items
 
 abbrev pub Plays : Status → ℕ → World → Ends → Ends → Type 0

@@ -20,7 +20,7 @@ ghost use Rattle.ov_args.specs.Words.{options_of};
 ghost use Rattle.ov_script.specs.Reader.{ended_lines, taken_of};
 ghost use Rattle.ov_top.specs.Bytes.{Opens, OpensAs};
 ghost use Rattle.ov_top.specs.Ending.{AreWords, Cause, IsTold, IsUndamaged, Keeps, Plays};
-ghost use Rattle.ov_top.specs.Running.{AllServed, AreReading, IsReadWhole, IsRunDamage, IsUnharmed, Spent, reads, status_by, status_by_opening};
+ghost use Rattle.ov_top.specs.Running.{AllServed, AreReading, IsReadWhole, IsRunDamage, IsUnharmed, Spent, reads, status_by, status_by_opening, user_of_run};
 
 use crate::errors::RunErr;
 use crate::status::Status;
@@ -44,7 +44,7 @@ fn or_refused(failed: bool, served: Served) -> bool
 }
 
 fn first_user(alloc: Global) -> Result<Txt, AllocError>
-    ensures { IfOk result (λ user. user ≡ codes "admin") }
+    ensures { IfOk result (λ user. user ≡ user_of_run) }
 {
     Txt::new(alloc, FIRST_USER)
 }
@@ -70,14 +70,14 @@ fn serve_all<H: Host, S: Source, T: Stage>(
     ensures damaged { ((H.state host.old).tells ≡ true → IsByJournal store.held (H.state host.old))
         → IfErr result (IsRunDamage steps (S.script source.old) (T.staged stage.new) (H.state host.new)) }
     ensures undamaged { (w : World) → IsAtWorld w store.held (H.state host.old) → IfErr result IsUnharmed }
-    ensures fetched { TakesNoStep steps store.held.numbers → (S.script source.old).tells ≡ true → AreReading (lines_of (S.script source.old).left)
-        → (H.state host.new).fetched ≤ (H.state host.old).fetched + reads store.held.numbers (lines_of (S.script source.old).left) }
+    ensures fetched { TakesNoStep steps store.held.numbers → (S.script source.old).tells ≡ true → AreReading user_of_run (lines_of (S.script source.old).left)
+        → (H.state host.new).fetched ≤ (H.state host.old).fetched + reads store.held.numbers user_of_run (lines_of (S.script source.old).left) }
     ensures too_long { IsErrOf result RunErr.TooLong → (S.script source.old).tells ≡ true
         → length (S.script source.old).left ≡ length (S.script source.new).left + 2 ^ 32 }
     ensures ended { (S.script source.old).tells ≡ true → IsOk result → IsReadWhole (S.script source.old) (S.script source.new) }
     ensures served { (w : World) → (S.script source.old).tells ≡ true → (T.staged stage.old).tells ≡ true
-        → IsAtWorld w store.held (H.state host.old) → AllServed steps w (session_of (T.staged stage.old).files (codes "admin"))
-        (session_of (T.staged stage.new).files (codes "admin")) (lines_of (S.script source.old).left)
+        → IsAtWorld w store.held (H.state host.old) → AllServed steps w (session_of (T.staged stage.old).files user_of_run)
+        (T.staged stage.new).files (lines_of (S.script source.old).left)
         (ended_lines (taken_of (S.script source.old) (S.script source.new))) (Rose (T.staged stage.old).faults (T.staged stage.new).faults → ⊥)
         result store.held (H.state host.old) (H.state host.new) }
 {
@@ -148,8 +148,8 @@ fn run_script<H: Host, S: Source, T: Stage>(
         → Only (H.state host.old).tape (H.state host.new).tape (IsLeftByOpen (H.state host.old).tape.disk) }
     ensures undamaged { (w : World) → (H.state host.old).tells ≡ true → StandsAs w (as_read (H.state host.old).tape.disk) → IsUndamaged result }
     ensures fetched { (numbers : Numbers Extent Extent) → (H.state host.old).tells ≡ true → OpensAs numbers (H.state host.old).tape.disk
-        → TakesNoStep steps numbers → (S.script source.old).tells ≡ true → AreReading (lines_of (S.script source.old).left)
-        → (H.state host.new).fetched ≤ (H.state host.old).fetched + reads numbers (lines_of (S.script source.old).left) }
+        → TakesNoStep steps numbers → (S.script source.old).tells ≡ true → AreReading user_of_run (lines_of (S.script source.old).left)
+        → (H.state host.new).fetched ≤ (H.state host.old).fetched + reads numbers user_of_run (lines_of (S.script source.old).left) }
     ensures plays { (w : World) → IsTold w (record { host = H.state host.old; script = S.script source.old; stage = T.staged stage.old })
         → Plays result steps w
         (record { host = H.state host.old; script = S.script source.old; stage = T.staged stage.old })
@@ -188,8 +188,8 @@ pub fn run<H: Host, S: Source, T: Stage>(
         → Only (H.state host.old).tape (H.state host.new).tape (IsLeftByOpen (H.state host.old).tape.disk) }
     ensures undamaged { (w : World) → (H.state host.old).tells ≡ true → StandsAs w (as_read (H.state host.old).tape.disk) → IsUndamaged result }
     ensures fetched { (numbers : Numbers Extent Extent) (o : List ℕ × ℕ) → (H.state host.old).tells ≡ true → OpensAs numbers (H.state host.old).tape.disk
-        → options_of words.now ≡ Some o → TakesNoStep o.1 numbers → (S.script source.old).tells ≡ true → AreReading (lines_of (S.script source.old).left)
-        → (H.state host.new).fetched ≤ (H.state host.old).fetched + reads numbers (lines_of (S.script source.old).left) }
+        → options_of words.now ≡ Some o → TakesNoStep o.1 numbers → (S.script source.old).tells ≡ true → AreReading user_of_run (lines_of (S.script source.old).left)
+        → (H.state host.new).fetched ≤ (H.state host.old).fetched + reads numbers user_of_run (lines_of (S.script source.old).left) }
     ensures plays { (w : World) (o : List ℕ × ℕ) → options_of words.now ≡ Some o
         → IsTold w (record { host = H.state host.old; script = S.script source.old; stage = T.staged stage.old })
         → Plays result o.1 w

@@ -1,8 +1,7 @@
 -- Whether conditions name a lineage, one after another.
 use Rattle.std.proofs.Common.{◌≡◌, ◌<◌, ◌+◌, ◌++◌, ◌∷◌, ◌∙◌, [], ℕ, Bool, true, false, List, ap, refl, sym, length, map, drop, get_or, suc, add-one, drop-cons}
 use Rattle.std.specs.Prelude.{◌||◌, not}
-use Rattle.ov_model.specs.Asking.{cond_lineages}
-use Rattle.ov_model.specs.BuiltShapes.{is_none_named}
+use Rattle.ov_model.specs.Asking.{cond_lineages, is_none_named}
 use Rattle.ov_model.specs.Lists.{joined}
 use Rattle.ov_model.specs.declared.query.Cond.{Cond}
 

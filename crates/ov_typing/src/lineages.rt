@@ -1,8 +1,7 @@
 //! Whether a query names the lineage of a version.
 
 ghost use Rattle.std.specs.Prelude.{◌≡◌, not, map};
-ghost use Rattle.ov_model.specs.Asking.{cond_lineages, guard_lineages, lineages_of, source_lineages};
-ghost use Rattle.ov_model.specs.BuiltShapes.{is_none_named};
+ghost use Rattle.ov_model.specs.Asking.{cond_lineages, guard_lineages, is_none_named, lineages_of, source_lineages};
 ghost use Rattle.ov_model.specs.Lists.{joined};
 
 use ov_model::{Cond, Query, Src, lineages_by_cases};

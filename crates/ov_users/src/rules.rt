@@ -2,7 +2,7 @@
 
 ghost use Rattle.std.specs.Prelude.{◌≡◌, not};
 ghost use Rattle.std.specs.Str.{bytes_eq};
-ghost use Rattle.ov_model.specs.Users.{cvd_named, file_named, is_admin as is_admin_of, is_for_nobody as is_for_nobody_of, is_reserved as is_reserved_of, is_staged_file as is_staged_file_of, makes_user as makes_user_of, owner_named, passes};
+ghost use Rattle.ov_model.specs.Users.{is_admin as is_admin_of, is_reserved as is_reserved_of, is_staged_file as is_staged_file_of, names, passes};
 
 use ov_model::Command;
 
@@ -25,14 +25,14 @@ fn is_staged_file(file: &str) -> bool
 }
 
 pub(crate) fn makes_user(command: &Command) -> bool
-    ensures { result ≡ makes_user_of command.now }
+    ensures { result ≡ (names command.now).makes_user }
 {
     matches!(command, Command::CreateUser { .. })
 }
 
 // Whether it commits or takes off a staged table of another user.
 pub(crate) fn is_of_another(user: &str, command: &Command) -> bool
-    ensures { result ≡ passes (λ owner. not (bytes_eq owner user.now)) (owner_named command.now) }
+    ensures { result ≡ passes (λ owner. not (bytes_eq owner user.now)) (names command.now).owner }
 {
     match command {
         Command::CommitStaged { user: owner, .. } | Command::Unstage { user: owner, .. } => {
@@ -44,7 +44,7 @@ pub(crate) fn is_of_another(user: &str, command: &Command) -> bool
 
 // Whether its `-f` names the file of a staged table.
 pub(crate) fn names_staged_file(command: &Command) -> bool
-    ensures { result ≡ passes is_staged_file_of (file_named command.now) }
+    ensures { result ≡ passes is_staged_file_of (names command.now).file }
 {
     match command {
         Command::Init { file, .. } | Command::Commit { file, .. } => is_staged_file(file.as_str()),
@@ -58,7 +58,7 @@ pub(crate) fn names_staged_file(command: &Command) -> bool
 
 // Whether its dataset is one of the store's own.
 pub(crate) fn names_reserved(command: &Command) -> bool
-    ensures { result ≡ passes is_reserved_of (cvd_named command.now) }
+    ensures { result ≡ passes is_reserved_of (names command.now).cvd }
 {
     match command {
         Command::Init { cvd, .. }
@@ -77,7 +77,7 @@ pub(crate) fn names_reserved(command: &Command) -> bool
 
 // Whether nobody does this to such a dataset.
 pub(crate) fn is_for_nobody(command: &Command) -> bool
-    ensures { result ≡ is_for_nobody_of command.now }
+    ensures { result ≡ (names command.now).for_nobody }
 {
     match command {
         Command::Checkout { table, .. } => table.is_some(),

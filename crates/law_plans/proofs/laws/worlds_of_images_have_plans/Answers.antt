@@ -1,4 +1,4 @@
-use Rattle.law_plans.proofs.Images.{any_run, empty_plans, image_plans, served_run}
+use Rattle.law_plans.proofs.Images.{any_run, empty_plans, image_plans, run_by}
 use Rattle.law_plans.proofs.Walking.{plans_at, plans_kept}
 use Rattle.law_plans.proofs.laws.worlds_of_images_have_plans.Goals as goal
 
@@ -14,8 +14,8 @@ returns-clause-moved c = plans_kept
 pub returns-clause-each : goal.returns-clause-each
 returns-clause-each c = plans_at
 
-pub returns-clause-served : goal.returns-clause-served
-returns-clause-served c = served_run
+pub returns-clause-forms : goal.returns-clause-forms
+returns-clause-forms c = run_by
 
 pub returns-clause-all : goal.returns-clause-all
 returns-clause-all c = any_run

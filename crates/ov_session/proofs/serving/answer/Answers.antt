@@ -1,7 +1,8 @@
 use Rattle.std.proofs.Common.{◌≡◌, ◌∙◌, sym, ap, refl, subst, rules}
 use Rattle.law_runs.proofs.Doing.{breaks_looked, does_told}
 use Rattle.law_runs.specs.Serving.{Breaks, Does, session_of}
-use Rattle.ov_cmd.specs.Asked.{IsAsked}
+use Rattle.law_forms.specs.Built.{IsBuilt}
+use Rattle.ov_model.specs.Formed.{IsAsked}
 use Rattle.ov_host.specs.Host.{State}
 use Rattle.ov_model.specs.Act.{tells}
 use Rattle.ov_model.specs.Deed.{permitted}
@@ -27,7 +28,7 @@ use Rattle.ov_store.specs.Committing.{parents_off_in}
 use Rattle.ov_store.specs.Scanning.{scan_off, set_in}
 use Rattle.ov_session.proofs.Numbering.{journal_looked}
 use Rattle.ov_session.specs.Commands.{IsScanDamaged, MeetsDamage}
-use Rattle.ov_model.specs.BuiltShapes.{if_built}
+use Rattle.law_forms.specs.BuiltShapes.{if_built}
 use Rattle.ov_query.specs.Queries.{query_off}
 use Rattle.ov_session.proofs.Querying.{query_acts, query_other}
 use Rattle.ov_session.proofs.Rows.{checkout_idle, checkout_met, commit_damaged, commit_fetched, commit_refused, damages_wider, fetched_refused, map_ok, plan_damaged, plan_fetched, plan_met, plan_there, refused_there, run_damaged, run_fetched, run_met, run_refused}
@@ -49,22 +50,22 @@ pub returns-in-Commit-clause-acts : goal.returns-in-Commit-clause-acts
 returns-in-Commit-clause-acts g c = λ w built told at.
     let s = session_of (g.T.Stage.staged c.args.stage.now).files c.args.user.now
     in let t = session_of (g.T.Stage.staged c.commit.new.stage).files c.args.user.now
-    in let asked = subst IsAsked c.in-Commit.is c.requires.asked
+    in let bare = subst IsBuilt c.in-Commit.is c.requires.built
     in subst (λ (command : Command). Acts (permitted w s command) s t w c.commit.result
     c.args.store.now.held c.commit.new.store.held (g.H.Host.state c.args.host.now) (g.H.Host.state c.commit.new.host)) (sym c.in-Commit.is)
     (commit_asked w s t c.in-Commit.cvd c.commit.result c.args.store.now.held c.commit.new.store.held (g.H.Host.state c.args.host.now) (g.H.Host.state c.commit.new.host)
-    c.in-Commit.vids c.as_slice.result.now c.in-Commit.file c.in-Commit.message c.in-Commit.added c.as_slice.ensures asked.2
+    c.in-Commit.vids c.as_slice.result.now c.in-Commit.file c.in-Commit.message c.in-Commit.added c.as_slice.ensures bare
     (c.commit.ensures.acts w c.args.user.now told at))
 
 pub returns-in-Checkout-clause-acts : goal.returns-in-Checkout-clause-acts
 returns-in-Checkout-clause-acts g c = λ w built told at.
     let s = session_of (g.T.Stage.staged c.args.stage.now).files c.args.user.now
     in let t = session_of (g.T.Stage.staged c.checkout.new.stage).files c.args.user.now
-    in let asked = subst IsAsked c.in-Checkout.is c.requires.asked
+    in let bare = subst IsBuilt c.in-Checkout.is c.requires.built
     in subst (λ (command : Command). Acts (permitted w s command) s t w c.checkout.result
     c.args.store.now.held c.args.store.now.held (g.H.Host.state c.args.host.now) (g.H.Host.state c.checkout.new.host)) (sym c.in-Checkout.is)
     (checkout_asked w s t c.in-Checkout.cvd c.checkout.result c.args.store.now.held c.args.store.now.held (g.H.Host.state c.args.host.now) (g.H.Host.state c.checkout.new.host)
-    c.in-Checkout.vids c.as_slice-in-Checkout.result.now c.in-Checkout.file c.in-Checkout.table c.as_slice-in-Checkout.ensures asked.1
+    c.in-Checkout.vids c.as_slice-in-Checkout.result.now c.in-Checkout.file c.in-Checkout.table c.as_slice-in-Checkout.ensures bare
     (c.checkout.ensures.acts w c.args.user.now told at))
 
 pub returns-in_err-layout-in-Layout-clause-acts : goal.returns-in_err-layout-in-Layout-clause-acts
@@ -130,9 +131,9 @@ returns-in-DropCvd-clause-unread g c = λ is. c.drop_cvd.ensures.fetched
 
 pub returns-in-Commit-clause-fetched : goal.returns-in-Commit-clause-fetched
 returns-in-Commit-clause-fetched g c =
-    let asked = subst IsAsked c.in-Commit.is c.requires.asked
+    let bare = subst IsBuilt c.in-Commit.is c.requires.built
     in subst (λ (command : Command). IsFetched c.args.user.now command c.args.store.now.held c.commit.new.store.held (IsErrOf c.commit.result ending.Host) (g.H.Host.state c.args.host.now) (g.H.Host.state c.commit.new.host))
-    (sym (c.in-Commit.is ∙ ap (asks.Commit c.in-Commit.cvd c.in-Commit.vids c.in-Commit.file c.in-Commit.message) asked.2))
+    (sym (c.in-Commit.is ∙ ap (asks.Commit c.in-Commit.cvd c.in-Commit.vids c.in-Commit.file c.in-Commit.message) bare))
     (commit_fetched c.args.store.now.held.numbers c.args.user.now c.in-Commit.cvd c.in-Commit.vids c.in-Commit.file c.in-Commit.message (g.H.Host.state c.args.host.now).fetched (g.H.Host.state c.commit.new.host).fetched
     (subst (λ (v : List ℕ). (g.H.Host.state c.commit.new.host).fetched ≤ (g.H.Host.state c.args.host.now).fetched + bytes_in (set_in c.args.store.now.held.numbers c.in-Commit.cvd) v) c.as_slice.ensures c.commit.ensures.fetched)
     (λ off is. ap (λ (s : State). s.fetched) (c.commit.ensures.unread off
@@ -140,18 +141,18 @@ returns-in-Commit-clause-fetched g c =
 
 pub returns-in-Commit-clause-unread : goal.returns-in-Commit-clause-unread
 returns-in-Commit-clause-unread g c = λ is.
-    let asked = subst IsAsked c.in-Commit.is c.requires.asked
+    let bare = subst IsBuilt c.in-Commit.is c.requires.built
     in let there = commit_refused c.args.store.now.held.numbers c.args.user.now c.in-Commit.cvd c.in-Commit.vids c.in-Commit.file c.in-Commit.message
     (subst (λ (command : Command). is_command_off c.args.store.now.held.numbers c.args.user.now command ≡ true)
-    (c.in-Commit.is ∙ ap (asks.Commit c.in-Commit.cvd c.in-Commit.vids c.in-Commit.file c.in-Commit.message) asked.2) is)
+    (c.in-Commit.is ∙ ap (asks.Commit c.in-Commit.cvd c.in-Commit.vids c.in-Commit.file c.in-Commit.message) bare) is)
     in ap (λ (s : State). s.fetched) (c.commit.ensures.unread there.0
     (subst (λ (v : List ℕ). parents_off_in (set_in c.args.store.now.held.numbers c.in-Commit.cvd) v ≡ Some there.0) (sym c.as_slice.ensures) there.1))
 
 pub returns-in-Checkout-clause-fetched : goal.returns-in-Checkout-clause-fetched
 returns-in-Checkout-clause-fetched g c =
-    let asked = subst IsAsked c.in-Checkout.is c.requires.asked
+    let bare = subst IsBuilt c.in-Checkout.is c.requires.built
     in subst (λ (command : Command). IsFetched c.args.user.now command c.args.store.now.held c.args.store.now.held (IsErrOf c.checkout.result ending.Host) (g.H.Host.state c.args.host.now) (g.H.Host.state c.checkout.new.host))
-    (sym (c.in-Checkout.is ∙ ap (asks.Checkout c.in-Checkout.cvd c.in-Checkout.vids c.in-Checkout.file) asked.1))
+    (sym (c.in-Checkout.is ∙ ap (asks.Checkout c.in-Checkout.cvd c.in-Checkout.vids c.in-Checkout.file) bare))
     (fetched_refused c.in-Checkout.cvd (scan_off c.args.store.now.held.numbers c.in-Checkout.cvd c.in-Checkout.vids) (bytes_in (set_in c.args.store.now.held.numbers c.in-Checkout.cvd) c.in-Checkout.vids)
     (g.H.Host.state c.args.host.now).fetched (g.H.Host.state c.checkout.new.host).fetched
     (subst (λ (v : List ℕ). (g.H.Host.state c.checkout.new.host).fetched ≤ (g.H.Host.state c.args.host.now).fetched + bytes_in (set_in c.args.store.now.held.numbers c.in-Checkout.cvd) v) c.as_slice-in-Checkout.ensures c.checkout.ensures.fetched)
@@ -160,10 +161,10 @@ returns-in-Checkout-clause-fetched g c =
 
 pub returns-in-Checkout-clause-unread : goal.returns-in-Checkout-clause-unread
 returns-in-Checkout-clause-unread g c = λ is.
-    let asked = subst IsAsked c.in-Checkout.is c.requires.asked
+    let bare = subst IsBuilt c.in-Checkout.is c.requires.built
     in let there = refused_there c.in-Checkout.cvd (scan_off c.args.store.now.held.numbers c.in-Checkout.cvd c.in-Checkout.vids)
     (subst (λ (command : Command). is_command_off c.args.store.now.held.numbers c.args.user.now command ≡ true)
-    (c.in-Checkout.is ∙ ap (asks.Checkout c.in-Checkout.cvd c.in-Checkout.vids c.in-Checkout.file) asked.1) is)
+    (c.in-Checkout.is ∙ ap (asks.Checkout c.in-Checkout.cvd c.in-Checkout.vids c.in-Checkout.file) bare) is)
     in ap (λ (s : State). s.fetched) (c.checkout.ensures.unread there.0
     (subst (λ (v : List ℕ). scan_off c.args.store.now.held.numbers c.in-Checkout.cvd v ≡ Some there.0) (sym c.as_slice-in-Checkout.ensures) there.1))
 
@@ -196,9 +197,9 @@ returns-in-Commit-clause-idle g c =
 
 pub returns-in-Checkout-clause-idle : goal.returns-in-Checkout-clause-idle
 returns-in-Checkout-clause-idle g c =
-    let asked = subst IsAsked c.in-Checkout.is c.requires.asked
+    let bare = subst IsBuilt c.in-Checkout.is c.requires.built
     in subst (λ (command : Command). IfErr c.checkout.result (λ e. IsIdleBy command e c.args.store.now c.args.store.now (g.T.Stage.staged c.args.stage.now) (g.T.Stage.staged c.checkout.new.stage)
-    (g.H.Host.state c.args.host.now) (g.H.Host.state c.checkout.new.host))) (sym (c.in-Checkout.is ∙ ap (asks.Checkout c.in-Checkout.cvd c.in-Checkout.vids c.in-Checkout.file) asked.1))
+    (g.H.Host.state c.args.host.now) (g.H.Host.state c.checkout.new.host))) (sym (c.in-Checkout.is ∙ ap (asks.Checkout c.in-Checkout.cvd c.in-Checkout.vids c.in-Checkout.file) bare))
     (checkout_idle c.in-Checkout.cvd c.in-Checkout.vids c.in-Checkout.file c.args.store.now (g.T.Stage.staged c.args.stage.now) (g.T.Stage.staged c.checkout.new.stage) (g.H.Host.state c.args.host.now) (g.H.Host.state c.checkout.new.host) c.checkout.result c.checkout.ensures.idle)
 
 pub returns-in_err-layout-in-Layout-clause-fetched : goal.returns-in_err-layout-in-Layout-clause-fetched
@@ -285,11 +286,11 @@ returns-in-Ls-clause-whole g c = λ page told.
 
 pub returns-in-Checkout-clause-whole : goal.returns-in-Checkout-clause-whole
 returns-in-Checkout-clause-whole g c = λ page told.
-    let asked = subst IsAsked c.in-Checkout.is c.requires.asked
+    let bare = subst IsBuilt c.in-Checkout.is c.requires.built
     in map_ok _ _ c.checkout.result
     (λ whole built met. whole (checkout_met c.args.user.now c.in-Checkout.cvd c.in-Checkout.vids c.in-Checkout.file (g.T.Stage.staged c.args.stage.now) c.args.store.now.held c.args.store.now.held (g.H.Host.state c.args.host.now) page
     (subst (λ (command : Command). MeetsDamage c.args.user.now command (g.T.Stage.staged c.args.stage.now) c.args.store.now.held (g.H.Host.state c.args.host.now) page)
-    (c.in-Checkout.is ∙ ap (asks.Checkout c.in-Checkout.cvd c.in-Checkout.vids c.in-Checkout.file) asked.1) met)))
+    (c.in-Checkout.is ∙ ap (asks.Checkout c.in-Checkout.cvd c.in-Checkout.vids c.in-Checkout.file) bare) met)))
     (subst (λ (v : List ℕ). OnOk c.checkout.result (IsScanDamaged c.in-Checkout.cvd v c.args.store.now.held (g.H.Host.state c.args.host.now) page → ⊥))
     c.as_slice-in-Checkout.ensures (c.checkout.ensures.whole page told))
 
@@ -400,9 +401,9 @@ returns-in-Run-clause-acts g c = λ w built told at.
 
 pub returns-in-Commit-clause-damaged : goal.returns-in-Commit-clause-damaged
 returns-in-Commit-clause-damaged g c =
-    let asked = subst IsAsked c.in-Commit.is c.requires.asked
+    let bare = subst IsBuilt c.in-Commit.is c.requires.built
     in subst (λ (command : Command). IfErr c.commit.result (IsDamageOf (IsDamaged c.args.user.now command (g.T.Stage.staged c.args.stage.now) c.args.store.now.held c.commit.new.store.held (g.H.Host.state c.commit.new.host))))
-    (sym (c.in-Commit.is ∙ ap (asks.Commit c.in-Commit.cvd c.in-Commit.vids c.in-Commit.file c.in-Commit.message) asked.2))
+    (sym (c.in-Commit.is ∙ ap (asks.Commit c.in-Commit.cvd c.in-Commit.vids c.in-Commit.file c.in-Commit.message) bare))
     (damages_wider _ _ c.commit.result (commit_damaged c.args.user.now c.in-Commit.cvd c.in-Commit.vids c.in-Commit.file c.in-Commit.message (g.T.Stage.staged c.args.stage.now) c.args.store.now.held c.commit.new.store.held (g.H.Host.state c.commit.new.host))
     (subst (λ (v : List ℕ). IfErr c.commit.result (IsDamageOf (IsCommitDamaged c.in-Commit.cvd v c.in-Commit.file c.in-Commit.message (g.T.Stage.staged c.args.stage.now) c.args.store.now.held (g.H.Host.state c.commit.new.host))))
     c.as_slice.ensures c.commit.ensures.damaged))

@@ -9,7 +9,7 @@ use Rattle.law_runs.specs.Serving.{Serves, session_of}
 use Rattle.ov_model.specs.Line.{Asks, Refused}
 use Rattle.ov_session.proofs.Saying.{comment_none, line_unserved, says_comment, says_refusal}
 use Rattle.ov_session.proofs.Shaping.{broken_shaped, comment_shaped, damaged_shaped, fetched_shaped, idle_shaped, none_shaped, reply_shaped, served_shaped, still_shaped, unread_shaped, whole_shaped}
-use Rattle.ov_model.specs.BuiltShapes.{served_line}
+use Rattle.law_forms.specs.BuiltShapes.{served_forms, served_line}
 use Rattle.ov_session.specs.Commands.{IsNoDamage, is_comment_in, is_refused}
 use Rattle.std.proofs.Common.{ℕ}
 use Rattle.ov_model.specs.Line.{Line}
@@ -28,7 +28,10 @@ use Rattle.ov_session.specs.Commands.{IsDamageOf, IsDamaged}
 use Rattle.ov_session.proofs.serving.serve_line.Goals as goal
 
 pub answer-requires-clause-asked : goal.answer-requires-clause-asked
-answer-requires-clause-asked g c = subst AsksBuilt c.in-Ok-Some.field-0-is c.in-Ok-Some.ensures.asked
+answer-requires-clause-asked g c = (subst AsksBuilt c.in-Ok-Some.field-0-is c.in-Ok-Some.ensures.asked).0
+
+pub answer-requires-clause-built : goal.answer-requires-clause-built
+answer-requires-clause-built g c = (subst AsksBuilt c.in-Ok-Some.field-0-is c.in-Ok-Some.ensures.asked).1
 
 pub returns-in_err-reply-in-Ok-Some-clause-undamaged : goal.returns-in_err-reply-in-Ok-Some-clause-undamaged
 returns-in_err-reply-in-Ok-Some-clause-undamaged g c = λ w at.
@@ -49,21 +52,21 @@ pub returns-in_err-reply-in-Ok-Some-clause-serves : goal.returns-in_err-reply-in
 returns-in_err-reply-in-Ok-Some-clause-serves g c = λ w told at.
     let s = session_of (g.T.Stage.staged c.args.stage.now).files c.args.user.now
     in let t = session_of (g.T.Stage.staged c.answer.new.stage).files c.args.user.now
-    in let fact : Serves 0 w s t c.args.line.now false false c.args.store.now.held c.answer.new.store.held (g.H.Host.state c.args.host.now) (g.H.Host.state c.answer.new.host)
+    in let fact : Serves served_forms 0 w s t c.args.line.now false false c.args.store.now.held c.answer.new.store.held (g.H.Host.state c.args.host.now) (g.H.Host.state c.answer.new.host)
     = broken_shaped c.args.user.now c.in-Ok-Some.command (line_asked c.args.user.now c.args.line.now) (c.in-Ok-Some.ensures.ok ∙ ap (λ (o : Option Command). served_line (said o)) c.in-Ok-Some.field-0-is)
     c.args.store.now c.answer.new.store (g.T.Stage.staged c.args.stage.now) (g.T.Stage.staged c.answer.new.stage) (g.H.Host.state c.args.host.now) (g.H.Host.state c.answer.new.host) c.in_err-reply-in-Ok-Some.field-0.0 c.in_err-reply-in-Ok-Some.ensures.other
     w c.args.line.now refl at (λ built. c.in_err-reply-in-Ok-Some.ensures.acts w built told at)
     in let is : c.from_residual.result ≡ Err c.in_err-reply-in-Ok-Some.field-0.0 = search rules
-    in subst (λ (r : Result Served EndErr). Serves 0 w s t c.args.line.now (is_ok r) (is_refused r) c.args.store.now.held c.answer.new.store.held
+    in subst (λ (r : Result Served EndErr). Serves served_forms 0 w s t c.args.line.now (is_ok r) (is_refused r) c.args.store.now.held c.answer.new.store.held
     (g.H.Host.state c.args.host.now) (g.H.Host.state c.answer.new.host)) (sym is) fact
 
 pub returns-in_err-refusal-in-Err-clause-serves : goal.returns-in_err-refusal-in-Err-clause-serves
 returns-in_err-refusal-in-Err-clause-serves g c = λ w told at.
     let s = session_of (g.T.Stage.staged c.args.stage.now).files c.args.user.now
-    in let fact : Serves 0 w s s c.args.line.now false false c.args.store.now.held c.args.store.now.held (g.H.Host.state c.args.host.now) (g.H.Host.state c.args.host.now)
+    in let fact : Serves served_forms 0 w s s c.args.line.now false false c.args.store.now.held c.args.store.now.held (g.H.Host.state c.args.host.now) (g.H.Host.state c.args.host.now)
     = line_unserved w s c.args.line.now c.args.store.now.held (g.H.Host.state c.args.host.now) at
     in let is : c.from_residual-in_err-refusal-in-Err.result ≡ Err c.in_err-refusal-in-Err.field-0.0 = search rules
-    in subst (λ (r : Result Served EndErr). Serves 0 w s s c.args.line.now (is_ok r) (is_refused r) c.args.store.now.held c.args.store.now.held
+    in subst (λ (r : Result Served EndErr). Serves served_forms 0 w s s c.args.line.now (is_ok r) (is_refused r) c.args.store.now.held c.args.store.now.held
     (g.H.Host.state c.args.host.now) (g.H.Host.state c.args.host.now)) (sym is) fact
 
 pub returns-in-Ok-None-clause-comment : goal.returns-in-Ok-None-clause-comment

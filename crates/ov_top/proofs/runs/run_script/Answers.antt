@@ -5,7 +5,7 @@ use Rattle.ov_top.proofs.Lined.{are_words, attended_still, cause_opened, cause_u
 use Rattle.ov_host.specs.declared.area.Extent.{Extent}
 use Rattle.ov_catalog.specs.Numbers.{Numbers}
 use Rattle.ov_model.specs.Words.{lines_of}
-use Rattle.ov_top.specs.Running.{IsRunDamage, reads}
+use Rattle.ov_top.specs.Running.{IsRunDamage, reads, user_of_run}
 use Rattle.ov_top.proofs.Opened.{by_opened, opens, opens_as, says_one}
 use Rattle.ov_top.proofs.runs.run_script.Goals as goal
 
@@ -87,7 +87,7 @@ returns-in-Ok-clause-fetched g c = λ numbers told opens_ none script are.
     = says_one held.numbers numbers (g.H.Host.state c.args.host.now).tape.disk
     (opens_as (g.H.Host.state c.args.host.now).tape.disk held (g.H.Host.state c.open.new.host) (c.in-Ok.ensures.answer told)) opens_
     in let bound = c.serve_all.ensures.fetched (subst (TakesNoStep c.args.steps) (sym same) none) script are
-    in let sum : reads held.numbers lines ≡ reads numbers lines = ap (λ (n : Numbers Extent Extent). reads n lines) same
+    in let sum : reads held.numbers user_of_run lines ≡ reads numbers user_of_run lines = ap (λ (n : Numbers Extent Extent). reads n user_of_run lines) same
     in omega (arith, bound, sum, c.open.ensures.passes.fetched)
 
 pub returns-in-Err-clause-fetched : goal.returns-in-Err-clause-fetched

@@ -1,4 +1,5 @@
-use Rattle.std.proofs.Common.{◌≡◌, ◌≤◌, ◌+◌, ℕ, List, ◌++◌, true, length, codes}
+use Rattle.std.proofs.Common.{◌≡◌, ◌≤◌, ◌+◌, ℕ, true, length}
+use Rattle.std.specs.Prelude.{IsTrue}
 use Rattle.ov_core.specs.AtWorld.{IsAtWorld}
 use Rattle.law_runs.specs.Serving.{session_of}
 use Rattle.ov_core.specs.Held.{IsByJournal}
@@ -8,10 +9,11 @@ use Rattle.ov_session.specs.Commands.{Attended, Goes}
 use Rattle.ov_session.specs.Standing.{IsAtSome}
 use Rattle.ov_session.specs.Stepping.{TakesNoStep}
 use Rattle.ov_store.specs.Kept.{MayCall}
+use Rattle.ov_value.specs.Naming.{is_name}
 use Rattle.ov_script.specs.Reader.{IsAtEnd, left_of, room_of}
-use Rattle.ov_top.specs.Running.{AreReading}
+use Rattle.ov_top.specs.Running.{AreReading, user_of_run}
 use Rattle.ov_top.proofs.Lined.{Gone}
-use Rattle.ov_top.proofs.Reading.{Fetches}
+use Rattle.ov_top.proofs.Reading.{Acting, Fetches}
 use Rattle.ov_top.proofs.runs.serve_all.Given as goal
 
 abbrev pub invariant-lines : goal.invariant-lines
@@ -26,18 +28,17 @@ invariant-lines g l =
       faults : (script l.fn.source).faults ≤ (script l.source).faults;
       counted : (script l.fn.source).tells ≡ true → length (script l.fn.source).left ≡ length (script l.source).left + l.reader.count;
       call : MayCall l.store (state l.host);
-      user : l.user ≡ codes "admin";
+      named : IsTrue (is_name l.user);
       so_far : (w : World) → (script l.fn.source).tells ≡ true → (staged l.fn.stage).tells ≡ true → IsAtWorld w l.fn.store.held (state l.fn.host)
-          → Gone l.fn.steps w (session_of (staged l.fn.stage).files (codes "admin")) (session_of (staged l.stage).files (codes "admin"))
+          → Gone l.fn.steps w (session_of (staged l.fn.stage).files user_of_run) (session_of (staged l.stage).files l.user)
           (script l.fn.source).left (left_of l.reader (script l.source)) l.reader.ended l.failed l.fn.store.held l.store.held (state l.fn.host) (state l.host);
-      lined : (script l.fn.source).tells ≡ true
-          → (gone : List (List ℕ)) × (lines_of (script l.fn.source).left ≡ gone ++ lines_of (left_of l.reader (script l.source)));
+      acting : Acting (script l.fn.source).tells (script l.fn.source).left (left_of l.reader (script l.source)) l.user;
       by_journal : ((state l.fn.host).tells ≡ true → IsByJournal l.fn.store.held (state l.fn.host)) → (state l.host).tells ≡ true
           → IsByJournal l.store.held (state l.host);
       at : (w : World) → IsAtWorld w l.fn.store.held (state l.fn.host) → IsAtSome l.store.held (state l.host);
-      fetched : TakesNoStep l.fn.steps l.fn.store.held.numbers → (script l.fn.source).tells ≡ true → AreReading (lines_of (script l.fn.source).left)
+      fetched : TakesNoStep l.fn.steps l.fn.store.held.numbers → (script l.fn.source).tells ≡ true → AreReading user_of_run (lines_of (script l.fn.source).left)
           → Fetches l.fn.store.held l.store.held (lines_of (script l.fn.source).left) (lines_of (left_of l.reader (script l.source)))
-          (state l.fn.host) (state l.host);
+          l.user (state l.fn.host) (state l.host);
       at_end : (script l.fn.source).tells ≡ true → IsAtEnd l.reader (script l.source);
     }
 

@@ -3,20 +3,16 @@
 --     is_built_shape asked      what a text asks has such a shape, or is refused as it stands
 --     served_forms      the forms of the commands that the program serves
 --     served_line line      what a line says, of which a query of another shape is refused
-use Rattle.std.specs.Prelude.{ℕ, Bool, true, false, if◌then◌else◌, List, [], ◌∷◌, map, Result, Ok, Err}
-use Rattle.ov_model.specs.Asking.{lineages_of}
-use Rattle.ov_model.specs.Forms.{Form, built_forms}
+use Rattle.std.specs.Prelude.{Bool, true, false, if◌then◌else◌, List, map, Result, Ok, Err}
+use Rattle.law_forms.specs.Built.{built_forms}
+use Rattle.ov_model.specs.Asking.{is_none_named, lineages_of}
+use Rattle.ov_model.specs.Forms.{Form}
 use Rattle.ov_model.specs.Line.{Line, Comment, Asks, Refused, answer}
 use Rattle.ov_model.specs.QueryTexts.{Asked, BadByte, NoQuery, AsksQuery, AsksJoin, asked_of}
 use Rattle.ov_model.specs.declared.command.Command.{Command}
 use Rattle.ov_model.specs.declared.command.Command.TheVariants as asks
 use Rattle.ov_model.specs.declared.refusal.Refusal.{Refusal}
 use Rattle.ov_model.specs.declared.refusal.Refusal.TheVariants as no
-
--- no version is named
-abbrev pub is_none_named : List ℕ → Bool
-is_none_named [] = true
-is_none_named (vid ∷ vids) = false
 
 abbrev pub is_built_shape : Asked → Bool
 is_built_shape (BadByte at) = true

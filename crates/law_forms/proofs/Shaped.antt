@@ -3,7 +3,7 @@ use Rattle.std.proofs.Common.{◌≡◌, ◌∙◌, ℕ, Bool, true, false, List
 use Rattle.std.specs.Prelude.{if◌then◌else◌, nat_lt, not, ◌&&◌}
 use Rattle.std.specs.Option.{option_map}
 use Rattle.std.specs.Str.{bytes_eq, is_utf8}
-use Rattle.ov_model.specs.BuiltShapes.{made_if_built, served_form, served_line}
+use Rattle.law_forms.specs.BuiltShapes.{made_if_built, served_form, served_line}
 use Rattle.ov_model.specs.Forms.{Form, Values}
 use Rattle.ov_model.specs.Line.{Line, Comment, Refused, Read, answer, by_form, by_name, by_words, first_of, form_of, has_second, line_of, made_by, missing, off_all, read_words, unless_missing}
 use Rattle.ov_model.specs.Words.{Next, NoWord, Word, Unclosed, is_comment, next_word, without_blanks, words_of}

@@ -1,6 +1,6 @@
 // The law of the shapes of queries that are built.
 ghost use Rattle.std.specs.Prelude.{◌≡◌, ℕ, List, map};
-ghost use Rattle.ov_model.specs.BuiltShapes.{served_form, served_line};
+ghost use Rattle.law_forms.specs.BuiltShapes.{served_form, served_line};
 ghost use Rattle.ov_model.specs.Forms.{Form};
 ghost use Rattle.ov_model.specs.Line.{line_of};
 
