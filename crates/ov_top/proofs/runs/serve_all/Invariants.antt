@@ -1,4 +1,4 @@
-use Rattle.std.proofs.Common.{◌≡◌, ◌≤◌, ◌+◌, ℕ, true, length}
+use Rattle.std.proofs.Common.{◌≡◌, ◌≤◌, ◌+◌, true, length}
 use Rattle.std.specs.Prelude.{IsTrue}
 use Rattle.ov_core.specs.AtWorld.{IsAtWorld}
 use Rattle.law_runs.specs.Serving.{session_of}
