@@ -1,4 +1,4 @@
-use Rattle.std.proofs.Common.{◌≡◌, ◌++◌, [], ◌∷◌, List, None, length, ap, arith}
+use Rattle.std.proofs.Common.{◌≡◌, ◌++◌, [], ◌∷◌, List, None, length, sym, ap, subst, arith}
 use Rattle.std.proofs.lemmas.List.{length-map}
 use Rattle.std.proofs.lemmas.Result.{err_from_is_err_and}
 use Rattle.ov_host.specs.declared.area.Extent.{Extent}
@@ -7,10 +7,10 @@ use Rattle.ov_catalog.specs.declared.cvd.Cvd.{Cvd}
 use Rattle.ov_catalog.specs.Applying.{number_off}
 use Rattle.ov_catalog.specs.Numbers.{Numbers, SetNumbers}
 use Rattle.ov_catalog.specs.Raw.{whole_in}
-use Rattle.ov_catalog.specs.Ready.{reach_in}
+use Rattle.ov_catalog.specs.Ready.{AreSets, AreUpTo, reach_in}
 use Rattle.ov_catalog.specs.Sets.{numbers_of, set_in, sets_in}
 use Rattle.ov_catalog.specs.Wholes.{whole_off}
-use Rattle.ov_catalog.proofs.RoomLemmas.{none-both, number-is, sets-more, up-to-push, whole-few, why-second}
+use Rattle.ov_catalog.proofs.RoomLemmas.{none-both, number-is, sets-more, space-stays, up-to-push, whole-few, why-second}
 use Rattle.ov_catalog.proofs.catalog.Catalog.restore.Goals as goal
 
 pub returns-in_err-d-clause-answer : goal.returns-in_err-d-clause-answer
@@ -49,3 +49,12 @@ returns-clause-answer c =
     let n : Numbers Extent Extent = record { next = inside.next; sets = sets_in inside.sets.items } in
     let applies : whole_off said (whole_in said) n ≡ None = rw c.as_slice.ensures.value at (c.in_ok-d.ensures.answer inside.next) in
     rw (← c.self.view_is) (none-both (number_off said.number (reach_in inside.next inside.reach)) (whole_off said (whole_in said) n) c.in_ok-check_number.ensures applies)
+
+pub invariant_of-self : goal.invariant_of-self
+invariant_of-self c =
+    let inside = c.self.inside in
+    let same = c.in_err-reserve.ensures.items in (
+      subst (λ (ds : List Cvd). AreSets inside.next ds) (sym same) c.self.invariant.0,
+      space-stays inside.room inside.sets c.reserve.new.self same c.in_err-reserve.ensures.capacity c.self.invariant.1,
+      subst (λ (ds : List Cvd). AreUpTo inside.reach (numbers_of ds)) (sym same) c.self.invariant.2,
+    )
