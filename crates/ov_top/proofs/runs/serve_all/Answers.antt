@@ -24,7 +24,7 @@ returns-in_err-user-clause-served g c = λ w script stage at.
     let s = session_of (g.T.Stage.staged c.args.stage.now).files user_of_run
     in let source = g.S.Source.script c.args.source.now
     in let faults = (g.T.Stage.staged c.args.stage.now).faults
-    in let is : c.from_residual.result ≡ Err running.Memory = search rules
+    in let is : c.from_residual.result ≡ Err running.Memory = err_is c.from_residual.result running.Memory c.from_residual.ensures.0 c.from_residual.ensures.1
     in subst (λ (r : Result Bool RunErr). AllServed c.args.steps w s (g.T.Stage.staged c.args.stage.now).files (lines_of source.left) (ended_lines (taken_of source source)) (Rose faults faults → ⊥) r c.args.store.held
     (g.H.Host.state c.args.host.now) (g.H.Host.state c.args.host.now)) (sym is)
     (runs_start c.args.steps w s source.left c.args.store.held (g.H.Host.state c.args.host.now) at)
@@ -34,7 +34,7 @@ returns-in_err-reader-clause-served g c = λ w script stage at.
     let s = session_of (g.T.Stage.staged c.args.stage.now).files user_of_run
     in let source = g.S.Source.script c.args.source.now
     in let faults = (g.T.Stage.staged c.args.stage.now).faults
-    in let is : c.from_residual-in_err-reader.result ≡ Err running.Memory = search rules
+    in let is : c.from_residual-in_err-reader.result ≡ Err running.Memory = err_is c.from_residual-in_err-reader.result running.Memory c.from_residual-in_err-reader.ensures.0 c.from_residual-in_err-reader.ensures.1
     in subst (λ (r : Result Bool RunErr). AllServed c.args.steps w s (g.T.Stage.staged c.args.stage.now).files (lines_of source.left) (ended_lines (taken_of source source)) (Rose faults faults → ⊥) r c.args.store.held
     (g.H.Host.state c.args.host.now) (g.H.Host.state c.args.host.now)) (sym is)
     (runs_start c.args.steps w s source.left c.args.store.held (g.H.Host.state c.args.host.now) at)
