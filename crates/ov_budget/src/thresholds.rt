@@ -60,7 +60,9 @@ fn line_of(depth: u32, sized: &[Sized]) -> Line
 ///
 /// It makes a hundred splits, one after another, and compares each one's parts with those of the split before: only a part that
 /// isn't among these is united. So time goes by the splits, and by the ranges of the lists of all different parts times a logarithm;
-/// memory by one split and one union.
+/// memory by two splits and one union. Of 65,535 versions of 8 rows in six shapes it took 3 to 6 seconds, of 200 versions of 20,000
+/// rows 0.1, and of 1,000 of them 0.7 as a random tree and 7 as a chain; the test `large_tables_are_made` of `test_budget` prints
+/// some of these times anew.
 pub fn table(alloc: Global, tree: &Tree, lists: &[Members]) -> Result<Vec<Line>, AllocError>
     requires sound { IsSound tree.now.nodes.items }
     requires some { 0 < length tree.now.nodes.items }

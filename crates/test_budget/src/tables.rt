@@ -118,7 +118,11 @@ fn random_dataset(alloc: Global, random: &mut u32) -> Result<Dataset, Fail> {
     let mut last = 0;
     let count = 2 + next(random) % 30;
     for before in 0..count {
-        let parent = if before == 0 { 0 } else { next(random) % before + 1 };
+        let parent = if before == 0 {
+            0
+        } else {
+            next(random) % before + 1
+        };
         let mut rids = Vec::new(alloc);
         if let Some(from) = versions.get((parent as usize).wrapping_sub(1)) {
             for rid in from {
@@ -156,11 +160,14 @@ fn plain_line(alloc: Global, dataset: &Dataset, p: u32) -> Result<Line, Fail> {
         return Err("no such tree")?;
     }
     let split = split(alloc, &dataset.tree, p, 100)?;
-    let mut plain = line(split.depth, split.parts.len() as u32, 0, 0);
+    let mut plain = line(split.depth, 0, 0, 0);
     for part in &split.parts {
         let size = counted(&dataset.lists, part, 1000);
+        plain.partitions = plain.partitions.wrapping_add(1);
         plain.stored = plain.stored.wrapping_add(size);
-        plain.cost = plain.cost.wrapping_add(size.wrapping_mul(part.len() as u64));
+        plain.cost = plain
+            .cost
+            .wrapping_add(size.wrapping_mul(part.len() as u64));
     }
     Ok(plain)
 }
@@ -169,7 +176,7 @@ fn plain_line(alloc: Global, dataset: &Dataset, p: u32) -> Result<Line, Fail> {
 fn lines_are_sums_over_sets(rt: HostRuntime) -> Result<(), Fail> {
     let alloc = rt.alloc();
     let mut random = 57;
-    let mut distinct = 0;
+    let mut distinct: u32 = 0;
     for _ in 0..40 {
         let dataset = random_dataset(alloc, &mut random)?;
         let table = dataset.table(alloc)?;
@@ -178,7 +185,7 @@ fn lines_are_sums_over_sets(rt: HostRuntime) -> Result<(), Fail> {
             let plain = plain_line(alloc, &dataset, before as u32 + 1)?;
             assert_eq!(rt; numbers(found), numbers(&plain));
             if numbers(found) != last {
-                distinct += 1;
+                distinct = distinct.wrapping_add(1);
                 last = numbers(found);
             }
         }
