@@ -1,0 +1,4 @@
+pub mod Chosen
+pub mod Together
+pub mod Divided
+pub mod Listing
