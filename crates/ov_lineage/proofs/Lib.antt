@@ -1,3 +1,4 @@
 pub mod Ranges
 pub mod Rising
 pub mod Growing
+pub mod Saying
