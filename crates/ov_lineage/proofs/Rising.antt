@@ -70,7 +70,7 @@ rises-counted : (low from count : ℕ) → low < from → Rises low (counted fro
 rises-counted low from zero lt = tt
 rises-counted low from (suc count) lt = (lt, rises-counted from (from + 1) count (omega arith))
 
-rises-relatives : (parents : List (List ℕ)) (kind : LineageKind) (vid : ℕ) → Rises 0 (relatives_by parents kind vid)
+pub rises-relatives : (parents : List (List ℕ)) (kind : LineageKind) (vid : ℕ) → Rises 0 (relatives_by parents kind vid)
 rises-relatives parents kind vid =
     Rises-filter (is_relative (versions_with parents) kind vid) 0 (counted 1 (length (versions_with parents))) (rises-counted 0 1 (length (versions_with parents)) (omega arith))
 

@@ -7,7 +7,8 @@ use Rattle.std.proofs.lemmas.List.{map-append, take-append-drop, append-nil}
 use Rattle.ov_value.specs.Shapes.{Shape}
 use Rattle.ov_model.specs.Answers.{Here, Pair, Related, here_for, holds, kept_pairs, term_of_group, is_true, order_by, key_order, grouped_pairs, limited, shown, sorted_by, truth, truth_not, truth_every, truth_any}
 use Rattle.ov_model.specs.Act.{if_so}
-use Rattle.ov_model.specs.Asking.{cond_lineages, guard_lineages, missing_version, source_lineages}
+use Rattle.ov_lineage.proofs.Listing.{listed-same}
+use Rattle.ov_model.specs.Asking.{cond_lineages, guard_lineages, listed_refusal, missing_version, source_lineages}
 use Rattle.ov_model.specs.Kinds.{Place, and_then, cols_kinds, count_all, counted, guard_counts, is_grouped, items_kinds, place_of, plain_place, terms_kinds}
 use Rattle.ov_model.specs.Lists.{joined}
 use Rattle.ov_model.specs.declared.answer.Cell.{Cell}
@@ -208,6 +209,7 @@ resolved-is parents query src where_ having is f h =
     record {
       source = is;
       free = λ i. (ap source_lineages is ∙ source-free related query.source) i ++ (guard-free related query.filter where_ f i ++ guard-free related query.having having h i);
+      same_listed = ap (listed_refusal (length parents)) is ∙ listed-same parents query.source;
       same_kinds = λ schema i.
           and_then (items_kinds (place_of query schema) query.items) (λ of.
           and_then (guard-same related (plain_place schema) query.filter where_ f i 1) (λ nth.

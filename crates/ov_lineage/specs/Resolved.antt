@@ -2,10 +2,10 @@
 --     SaysAs related old new      a condition without lineages that says what the old one says of these relatives
 --     IsResolved parents query resolved      so a query
 --     Refuses answer refusal      an answer, or this refusal of a lineage, or memory was wanting
-use Rattle.std.specs.Prelude.{◌≡◌, ℕ, List, [], Option, Some, None, Result, Ok, Err, IfSome, map}
+use Rattle.std.specs.Prelude.{◌≡◌, ℕ, List, [], length, Option, Some, None, Result, Ok, Err, IfSome, map}
 use Rattle.ov_value.specs.Shapes.{Shape}
 use Rattle.ov_model.specs.Answers.{Related, Pair, answer, truth}
-use Rattle.ov_model.specs.Asking.{cond_lineages, lineages_of}
+use Rattle.ov_model.specs.Asking.{cond_lineages, lineages_of, listed_refusal}
 use Rattle.ov_model.specs.Kinds.{Place, counted, kinds}
 use Rattle.ov_model.specs.Lists.{joined}
 use Rattle.ov_model.specs.declared.answer.Cell.{Cell}
@@ -45,6 +45,8 @@ GuardSaysAs related (Some old) (Some new) = SaysAs related old new
 pub record IsResolved (parents : List (List ℕ)) (query resolved : Query) : Type 0 where
   pub source : resolved.source ≡ source_by (relatives_by parents) query.source
   pub free : lineages_of resolved ≡ []
+  -- what stands for a lineage is listed in order
+  pub same_listed : listed_refusal (length parents) resolved.source ≡ listed_refusal (length parents) query.source
   pub same_kinds : (schema : Shape) → kinds resolved schema ≡ kinds query schema
   pub same_rows : (schema : Shape) (other : Related) (all : List Pair) → answer resolved schema other all ≡ answer query schema (relatives_by parents) all
 
