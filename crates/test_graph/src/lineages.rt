@@ -1,4 +1,4 @@
-//! Relatives of versions in a chain, a star and merges, and lists in place of lineages.
+//! Relatives of versions in a chain with merges.
 
 ghost use Rattle.std.specs.Prelude.{◌≡◌, [], ◌∷◌, IfOk};
 ghost use Rattle.ov_lineage.specs.Related.{lists_of};
