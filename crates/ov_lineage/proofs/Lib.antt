@@ -1,0 +1,5 @@
+pub mod Ranges
+pub mod Rising
+pub mod Growing
+pub mod Listing
+pub mod Saying
