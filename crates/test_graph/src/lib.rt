@@ -1,10 +1,8 @@
-//! Tests of the graph of versions, of lineages, of placement, and of the splits of large trees.
+//! Tests of the graph of versions, of placement, and of the splits of large trees.
 #![tactic(auto)]
 
 #[cfg(test)]
 mod graphs;
-#[cfg(test)]
-mod lineages;
 #[cfg(test)]
 mod places;
 #[cfg(test)]
