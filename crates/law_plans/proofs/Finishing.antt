@@ -26,7 +26,7 @@ use Rattle.law_plans.specs.Runs.{Between, HasPlans, IsRun}
 use Rattle.law_plans.proofs.Datasets.{IsKept, goes_to, kept_if, made, made_number}
 use Rattle.law_plans.proofs.Walking.{plans_at, walk}
 
-pieces_in : (sets : List Dataset) (d : Dataset) → ArePieces sets → IsIn sets d → HasPieces d
+pub pieces_in : (sets : List Dataset) (d : Dataset) → ArePieces sets → IsIn sets d → HasPieces d
 pieces_in [] d are is = absurd is
 pieces_in (x ∷ sets) d are (inl same) = subst HasPieces (sym same) are.0
 pieces_in (x ∷ sets) d are (inr later) = pieces_in sets d are.1 later
@@ -144,7 +144,7 @@ bounds_same a b p q same stored_same cost_same is = record {
       (subst (λ n. p * n ≤ q * all_members (nodes_of_set a)) (sym cost_same) is.cost_bound);
 }
 
-stored_in : (d : Dataset) → copied_records d.plan ≡ 0 → stored d ≡ sum (map (λ part. length (held part)) d.parts)
+pub stored_in : (d : Dataset) → copied_records d.plan ≡ 0 → stored d ≡ sum (map (λ part. length (held part)) d.parts)
 stored_in d none = omega (arith, none)
 
 same_bounds : (a b : Dataset) (p q : ℕ) → Same a b → a.plan ≡ None → copied_records b.plan ≡ 0 → IsBounded a p q → IsBounded b p q
@@ -172,3 +172,39 @@ split_stays w items k j d plan run ends all later leaves =
       split = split_same (flipped d) stays.set plan.p plan.q stays.same done.split;
       bounds = λ none. same_bounds (flipped d) stays.set plan.p plan.q stays.same done.idle none done.bounds;
     }
+
+-- ---- a split that stands when a run begins
+
+pub finished_at : (w : World) (d : Dataset) (p q : ℕ) → HasPlans w → IsIn w.sets d → IsSplit d p q → d.plan ≡ None → IsFinished w d p q
+finished_at w d p q has there split idle =
+    let planned_is : IsPlanned d = planned_in w.sets d has.planned there
+    in record {
+      there = there;
+      idle = idle;
+      split = split;
+      bounds =
+          split_bounded d p q (old_in w.sets d has.old_or_new there) planned_is split idle
+          (tight_exact d planned_is (pieces_in w.sets d has.sound.pieces there) split.tight);
+    }
+
+pub stays_from : (w : World) (items : List Item) (j : ℕ) (d : Dataset) (p q : ℕ) → IsRun w items → IsFinished w d p q → Between items 0 j (LeavesParts d.cvd.number)
+    → StaysSplit (world_at w items j) d p q
+stays_from w items j d p q run done leaves =
+    let stays : Stays d (world_at w items j) =
+    walk (Stays d) (LeavesParts d.cvd.number) w items run (λ m v due has leaves stays. stays_moved d m v leaves stays)
+    0 j (omega arith) leaves (record { set = d; there = done.there; same = same_refl d })
+    in record {
+      set = stays.set;
+      there = stays.there;
+      cvd = stays.same.cvd;
+      parts = stays.same.parts;
+      split = split_same d stays.set p q stays.same done.split;
+      bounds = λ none. same_bounds d stays.set p q stays.same done.idle none done.bounds;
+    }
+
+pub split_later : (w : World) (items : List Item) (j : ℕ) (d : Dataset) (p q : ℕ) → IsRun w items → IsIn w.sets d → IsSplit d p q → d.plan ≡ None
+    → Between items 0 j (LeavesParts d.cvd.number) → StaysSplit (world_at w items j) d p q
+split_later w items j d p q run there split idle leaves = stays_from w items j d p q run (finished_at w d p q run.plans there split idle) leaves
+
+pub none_copied : (d : Dataset) → d.plan ≡ None → copied_records d.plan ≡ 0
+none_copied d idle = ap copied_records idle

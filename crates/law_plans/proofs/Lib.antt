@@ -9,3 +9,4 @@ pub mod Telling
 pub mod Waiting
 pub mod Walking
 pub mod Worked
+pub mod OnDisk

@@ -3,3 +3,4 @@ pub mod Leaves
 pub mod Runs
 pub mod Told
 pub mod Worked
+pub mod OnDisk

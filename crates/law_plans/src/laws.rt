@@ -1,6 +1,8 @@
 // Laws of what a finished plan leaves.
-ghost use Rattle.std.specs.Prelude.{◌≡◌, ◌≢◌, ◌≤◌, ◌<◌, ◌+◌, ℕ, List, slice_get, Some};
+ghost use Rattle.std.specs.Prelude.{◌≡◌, ◌≢◌, ◌≤◌, ◌<◌, ◌+◌, ℕ, List, slice_get, Some, None};
 ghost use Rattle.ov_host.specs.Disk.{Image};
+ghost use Rattle.ov_event.specs.declared.event.Event.{Event};
+ghost use Rattle.ov_journal.specs.Journal.{Kept};
 ghost use Rattle.ov_model.specs.Act.{Session};
 ghost use Rattle.ov_model.specs.Course.{Item, Space, course, moves_of, world_at};
 ghost use Rattle.ov_model.specs.Forms.{Form, all_forms};
@@ -10,12 +12,14 @@ ghost use Rattle.ov_model.specs.Plans.{flipped};
 ghost use Rattle.ov_model.specs.World.{Dataset, Part, Plan, World, empty_world};
 ghost use Rattle.law_partitions.specs.Courses.{IsDue};
 ghost use Rattle.law_partitions.specs.OldOrNew.{AllTight};
-ghost use Rattle.law_partitions.specs.PlanEnds.{HasAllVersions};
+ghost use Rattle.law_partitions.specs.PlanEnds.{HasAllVersions, IsSplit};
 ghost use Rattle.law_partitions.specs.Sound.{AllNameVersions};
-ghost use Rattle.law_image.specs.Images.{StandsAs};
+ghost use Rattle.law_image.specs.Images.{StandsAs, StandsBy};
+ghost use Rattle.law_image.specs.Pages.{readings_of};
 ghost use Rattle.law_image.specs.Worked.{the_image, the_world};
 ghost use Rattle.law_plans.specs.Ends.{BeganAt, BeginsNoPlan, BringsNoVersion, EndsPlan, LeavesParts, Waits};
 ghost use Rattle.law_plans.specs.Leaves.{IsFinished, StaysSplit};
+ghost use Rattle.law_plans.specs.OnDisk.{IsSplitOnDisk};
 ghost use Rattle.law_plans.specs.Runs.{Between, HasPlans, IsRun};
 ghost use Rattle.law_plans.specs.Told.{IsAnswered, IsAsTold};
 ghost use Rattle.law_plans.specs.Worked.{the_items, the_plan, the_set};
@@ -105,4 +109,24 @@ pub fn a_plan_ends_in_a_run()
     ensures begins { BeganAt the_items 0 1 1 1 2 }
     ensures ends { EndsPlan the_world the_items 1 the_set the_plan }
     ensures has_all { HasAllVersions the_set the_plan }
+{}
+
+/// A split that stands where a run begins, with no plan running, goes on to stand in each World of the run until a commit to that dataset,
+/// a flip of it or its drop; and so in each run after it.
+pub fn a_split_stays_in_later_runs()
+    ensures { (w : World) (items : List Item) (j p q : ℕ) (d : Dataset) → IsRun w items → IsIn w.sets d → IsSplit d p q → d.plan ≡ None
+        → Between items 0 j (LeavesParts d.cvd.number) → StaysSplit (world_at w items j) d p q }
+{}
+
+/// On the disk: where an image stands for a World behind the flip that ends a plan which has all versions, and no commit to that dataset,
+/// flip of it or drop came since, the journal's events say partitions whose versions are the parts of the split, in order; the segments of
+/// each, as read of the pages, have just the records of its versions, each once; and both bounds hold of these numbers. So it is in
+/// later runs, of a split that stood at their entry.
+pub fn a_finished_plan_stands_on_the_disk()
+    ensures plan { (w : World) (items : List Item) (k j : ℕ) (d : Dataset) (plan : Plan) (c : Image) (kept : Kept) (events : List Event) → IsRun w items
+        → EndsPlan w items k d plan → HasAllVersions d plan → k < j → Between items (k + 1) j (LeavesParts d.cvd.number)
+        → StandsBy kept events (world_at w items j) c → IsSplitOnDisk events (readings_of c.pages) (flipped d) plan.p plan.q }
+    ensures later { (w : World) (items : List Item) (j p q : ℕ) (d : Dataset) (c : Image) (kept : Kept) (events : List Event) → IsRun w items → IsIn w.sets d
+        → IsSplit d p q → d.plan ≡ None → Between items 0 j (LeavesParts d.cvd.number) → StandsBy kept events (world_at w items j) c
+        → IsSplitOnDisk events (readings_of c.pages) d p q }
 {}
