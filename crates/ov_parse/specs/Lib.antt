@@ -1,3 +1,4 @@
 pub mod Refusing
 pub mod Returning
+pub mod Scopes
 pub mod Unquoting

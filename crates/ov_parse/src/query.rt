@@ -2,32 +2,39 @@
 
 ghost use Rattle.std.specs.Prelude.{◌≡◌, Some, None, true, false};
 ghost use Rattle.ov_model.specs.declared.query.Fixed.TheVariants as f;
-ghost use Rattle.ov_model.specs.Reading.{term_at, test_at, cond_at, items_at, of_cvd_at, listed_at, of_lineage_at, source_at, guard_at, grouped_at, grouping_at, direction_at, key_at, ordered_at, order_at, limit_at, is_nothing, is_end as is_the_end, tail_at, head_at, kept_at, made_of, query_of};
+ghost use Rattle.ov_model.specs.Reading.{cond_at, items_at, of_cvd_at, listed_at, of_lineage_at, source_at, guard_at, grouped_at, grouping_at, direction_at, key_at, ordered_at, order_at, limit_at, is_nothing, is_end as is_the_end, tail_at, head_at, kept_at, made_of, query_of};
 ghost use Rattle.ov_parse.specs.Returning.{Gives};
+ghost use Rattle.ov_parse.specs.Scopes.{term_in, test_in};
 
 use crate::cond::condition;
 use crate::list::listed;
 use crate::part::Part;
+use crate::scope::Scope;
 use crate::stop::Stop;
 use crate::symbols::{behind, eaten};
-use crate::term::{lineage, name};
+use crate::term::{count, lineage, name};
 use ov_model::{Col, Cond, Fixed, Items, Key, Query, Seq, Src, Symbol, Term};
 use ov_value::Txt;
 use std::alloc::Global;
 
+/// What is shown.
 #[tactic(auto, unfolding(ov_model::specs::Reading::items_at))]
-fn items(alloc: Global, symbols: &[Symbol]) -> Result<(Items, &[Symbol]), Stop>
-    ensures { Gives (λ x. (x.0, x.1.now)) result (items_at term_at symbols.now) }
+pub(crate) fn items(
+    alloc: Global,
+    scope: Scope,
+    symbols: &[Symbol],
+) -> Result<(Items, &[Symbol]), Stop>
+    ensures { Gives (λ x. (x.0, x.1.now)) result (items_at (term_in scope) symbols.now) }
 {
     if let Some(rest) = eaten(Fixed::Star, symbols) {
         return Ok((Items::Everything, rest));
     }
-    let (terms, rest) = listed::<Term>(alloc, symbols)?;
+    let (terms, rest) = listed::<Term>(alloc, scope, Fixed::Comma, symbols)?;
     Ok((Items::Terms(terms), rest))
 }
 
 #[tactic(auto, unfolding(ov_model::specs::Reading::of_cvd_at))]
-fn of_cvd(alloc: Global, symbols: &[Symbol]) -> Result<(Txt, &[Symbol]), Stop>
+pub(crate) fn of_cvd(alloc: Global, symbols: &[Symbol]) -> Result<(Txt, &[Symbol]), Stop>
     ensures { Gives (λ x. (x.0, x.1.now)) result (of_cvd_at symbols.now) }
 {
     let rest = behind(Fixed::Of, symbols)?;
@@ -39,7 +46,7 @@ fn of_cvd(alloc: Global, symbols: &[Symbol]) -> Result<(Txt, &[Symbol]), Stop>
 fn listed_versions(alloc: Global, symbols: &[Symbol]) -> Result<(Src, &[Symbol]), Stop>
     ensures { Gives (λ x. (x.0, x.1.now)) result (listed_at symbols.now) }
 {
-    let (vids, rest) = listed::<u64>(alloc, symbols)?;
+    let (vids, rest) = listed::<u64>(alloc, Scope::Rows, Fixed::Comma, symbols)?;
     let (cvd, rest) = of_cvd(alloc, rest)?;
     Ok((Src::Listed { vids, cvd }, rest))
 }
@@ -48,7 +55,7 @@ fn listed_versions(alloc: Global, symbols: &[Symbol]) -> Result<(Src, &[Symbol])
 fn of_lineage(alloc: Global, symbols: &[Symbol]) -> Result<(Src, &[Symbol]), Stop>
     ensures { Gives (λ x. (x.0, x.1.now)) result (of_lineage_at symbols.now) }
 {
-    let ((kind, vid), rest) = lineage(alloc, symbols)?;
+    let ((kind, vid), rest) = lineage(symbols)?;
     let (cvd, rest) = of_cvd(alloc, rest)?;
     Ok((Src::Lineage { kind, vid, cvd }, rest))
 }
@@ -69,17 +76,17 @@ fn source(alloc: Global, symbols: &[Symbol]) -> Result<(Src, &[Symbol]), Stop>
 
 /// A condition behind this keyword, if it stands here.
 #[tactic(auto, unfolding(ov_model::specs::Reading::guard_at))]
-fn guard(
+pub(crate) fn guard(
     alloc: Global,
     word: Fixed,
-    aggregates: bool,
+    scope: Scope,
     symbols: &[Symbol],
 ) -> Result<(Option<Cond>, &[Symbol]), Stop>
-    ensures { Gives (λ x. (x.0, x.1.now)) result (guard_at word (cond_at (test_at aggregates) 100) symbols.now) }
+    ensures { Gives (λ x. (x.0, x.1.now)) result (guard_at word (cond_at (test_in scope) 100) symbols.now) }
 {
     match eaten(word, symbols) {
         Some(rest) => {
-            let (cond, rest) = condition(alloc, aggregates, rest)?;
+            let (cond, rest) = condition(alloc, scope, rest)?;
             Ok((Some(cond), rest))
         }
         None => Ok((None, symbols)),
@@ -98,8 +105,8 @@ fn grouped(alloc: Global, symbols: &[Symbol]) -> Result<(Groups, &[Symbol]), Sto
     ensures { Gives (λ x. ((x.0.groups, x.0.having), x.1.now)) result (grouped_at symbols.now) }
 {
     let rest = behind(Fixed::By, symbols)?;
-    let (groups, rest) = listed::<Col>(alloc, rest)?;
-    let (having, rest) = guard(alloc, Fixed::Having, true, rest)?;
+    let (groups, rest) = listed::<Col>(alloc, Scope::Rows, Fixed::Comma, rest)?;
+    let (having, rest) = guard(alloc, Fixed::Having, Scope::Groups, rest)?;
     Ok((Groups { groups, having }, rest))
 }
 
@@ -133,36 +140,36 @@ fn direction(symbols: &[Symbol]) -> (bool, &[Symbol])
 }
 
 impl Part for Key {
-    ghost at = { key_at term_at };
+    ghost at = { λ scope. key_at (term_in scope) };
 
     #[tactic(auto, unfolding(ov_model::specs::Reading::key_at))]
-    fn read(alloc: Global, symbols: &[Symbol]) -> Result<(Key, &[Symbol]), Stop> {
-        let (term, rest) = Term::read(alloc, symbols)?;
+    fn read(alloc: Global, scope: Scope, symbols: &[Symbol]) -> Result<(Key, &[Symbol]), Stop> {
+        let (term, rest) = Term::read(alloc, scope, symbols)?;
         let (down, rest) = direction(rest);
         Ok((Key { term, down }, rest))
     }
 }
 
 #[tactic(auto, unfolding(ov_model::specs::Reading::order_at, ov_model::specs::Reading::ordered_at))]
-fn order(alloc: Global, symbols: &[Symbol]) -> Result<(Seq<Key>, &[Symbol]), Stop>
-    ensures { Gives (λ x. (x.0, x.1.now)) result (order_at term_at symbols.now) }
+fn order(alloc: Global, scope: Scope, symbols: &[Symbol]) -> Result<(Seq<Key>, &[Symbol]), Stop>
+    ensures { Gives (λ x. (x.0, x.1.now)) result (order_at (term_in scope) symbols.now) }
 {
     match eaten(Fixed::Order, symbols) {
         Some(rest) => {
             let rest = behind(Fixed::By, rest)?;
-            listed::<Key>(alloc, rest)
+            listed::<Key>(alloc, scope, Fixed::Comma, rest)
         }
         None => Ok((Seq::new(alloc), symbols)),
     }
 }
 
 #[tactic(auto, unfolding(ov_model::specs::Reading::limit_at))]
-fn limit(alloc: Global, symbols: &[Symbol]) -> Result<(Option<u64>, &[Symbol]), Stop>
+fn limit(symbols: &[Symbol]) -> Result<(Option<u64>, &[Symbol]), Stop>
     ensures { Gives (λ x. (x.0, x.1.now)) result (limit_at symbols.now) }
 {
     match eaten(Fixed::Limit, symbols) {
         Some(rest) => {
-            let (count, rest) = u64::read(alloc, rest)?;
+            let (count, rest) = count(rest)?;
             Ok((Some(count), rest))
         }
         None => Ok((None, symbols)),
@@ -182,11 +189,15 @@ fn is_end(symbols: &[Symbol]) -> bool
 
 /// ORDER BY, LIMIT and the end.
 #[tactic(auto, unfolding(ov_model::specs::Reading::tail_at))]
-fn tail(alloc: Global, symbols: &[Symbol]) -> Result<(Seq<Key>, Option<u64>), Stop>
-    ensures { Gives (λ x. x) result (tail_at term_at symbols.now) }
+pub(crate) fn tail(
+    alloc: Global,
+    scope: Scope,
+    symbols: &[Symbol],
+) -> Result<(Seq<Key>, Option<u64>), Stop>
+    ensures { Gives (λ x. x) result (tail_at (term_in scope) symbols.now) }
 {
-    let (keys, rest) = order(alloc, symbols)?;
-    let (limit, rest) = limit(alloc, rest)?;
+    let (keys, rest) = order(alloc, scope, symbols)?;
+    let (limit, rest) = limit(rest)?;
     if !is_end(rest) {
         return Err(Stop::Unspelled);
     }
@@ -199,7 +210,7 @@ fn head(alloc: Global, symbols: &[Symbol]) -> Result<((Items, Src), &[Symbol]), 
     ensures { Gives (λ x. (x.0, x.1.now)) result (head_at symbols.now) }
 {
     let rest = behind(Fixed::Select, symbols)?;
-    let (items, rest) = items(alloc, rest)?;
+    let (items, rest) = items(alloc, Scope::Groups, rest)?;
     let rest = behind(Fixed::From, rest)?;
     let (source, rest) = source(alloc, rest)?;
     Ok(((items, source), rest))
@@ -210,7 +221,7 @@ fn head(alloc: Global, symbols: &[Symbol]) -> Result<((Items, Src), &[Symbol]), 
 fn kept(alloc: Global, symbols: &[Symbol]) -> Result<((Option<Cond>, Groups), &[Symbol]), Stop>
     ensures { Gives (λ x. ((x.0.0, (x.0.1.groups, x.0.1.having)), x.1.now)) result (kept_at symbols.now) }
 {
-    let (filter, rest) = guard(alloc, Fixed::Where, false, symbols)?;
+    let (filter, rest) = guard(alloc, Fixed::Where, Scope::Rows, symbols)?;
     let (groups, rest) = grouping(alloc, rest)?;
     Ok(((filter, groups), rest))
 }
@@ -239,6 +250,6 @@ pub(crate) fn query(alloc: Global, symbols: &[Symbol]) -> Result<Query, Stop>
 {
     let (head, rest) = head(alloc, symbols)?;
     let (kept, rest) = kept(alloc, rest)?;
-    let tail = tail(alloc, rest)?;
+    let tail = tail(alloc, Scope::Groups, rest)?;
     Ok(made(head, kept, tail))
 }

@@ -1,10 +1,15 @@
 //! Columns, terms, operands and counts.
 
 ghost use Rattle.std.specs.Prelude.{◌≡◌, Some, None, ℤ};
-ghost use Rattle.ov_model.specs.Reading.{col_of as the_col, col_at, inner_at, all_at, counted_at, term_at, is_literal as is_a_literal, literal_of as the_literal, may_stand as may, standing_at, operand_at, count_of as the_count, count_at, name_of as the_name, name_at, kind_at, lineage_at, sign_of as the_sign, sign_by, sign_at};
+ghost use Rattle.ov_model.specs.Reading.{col_of as the_col, col_at, inner_at, all_at, counted_at, term_at, is_literal as is_a_literal, literal_of as the_literal, may_stand as may, made_at, standing_at, count_of as the_count, count_at, name_of as the_name, name_at, kind_at, lineage_at, sign_of as the_sign, sign_by, sign_at};
+ghost use Rattle.ov_model.specs.JoinReading.{side_term_at};
+ghost use Rattle.ov_model.specs.declared.query.Operand.TheVariants as operand;
 ghost use Rattle.ov_parse.specs.Returning.{Gives};
+ghost use Rattle.ov_parse.specs.Scopes.{operand_in, standing_in, term_in};
 
 use crate::part::Part;
+use crate::scope::Scope;
+use crate::side::side_term;
 use crate::stop::Stop;
 use crate::symbols::{behind, eaten, same};
 use ov_model::{Col, Fixed, LineageKind, Operand, Sign, Symbol, Term};
@@ -28,15 +33,21 @@ fn col_of(alloc: Global, symbol: &Symbol) -> Result<Col, Stop>
     }
 }
 
-impl Part for Col {
-    ghost at = { col_at };
+#[tactic(auto, unfolding(ov_model::specs::Reading::col_at))]
+fn col(alloc: Global, symbols: &[Symbol]) -> Result<(Col, &[Symbol]), Stop>
+    ensures { Gives (λ x. (x.0, x.1.now)) result (col_at symbols.now) }
+{
+    match symbols {
+        [] => Err(Stop::Unspelled),
+        [first, rest @ ..] => Ok((col_of(alloc, first)?, rest)),
+    }
+}
 
-    #[tactic(auto, unfolding(ov_model::specs::Reading::col_at))]
-    fn read(alloc: Global, symbols: &[Symbol]) -> Result<(Col, &[Symbol]), Stop> {
-        match symbols {
-            [] => Err(Stop::Unspelled),
-            [first, rest @ ..] => Ok((col_of(alloc, first)?, rest)),
-        }
+impl Part for Col {
+    ghost at = { λ scope. col_at };
+
+    fn read(alloc: Global, _scope: Scope, symbols: &[Symbol]) -> Result<(Col, &[Symbol]), Stop> {
+        col(alloc, symbols)
     }
 }
 
@@ -46,7 +57,7 @@ fn inner(alloc: Global, symbols: &[Symbol]) -> Result<(Col, &[Symbol]), Stop>
     ensures { Gives (λ x. (x.0, x.1.now)) result (inner_at symbols.now) }
 {
     let rest = behind(Fixed::Open, symbols)?;
-    let (col, rest) = Col::read(alloc, rest)?;
+    let (col, rest) = col(alloc, rest)?;
     let rest = behind(Fixed::Close, rest)?;
     Ok((col, rest))
 }
@@ -69,28 +80,38 @@ fn counted(alloc: Global, symbols: &[Symbol]) -> Result<(Term, &[Symbol]), Stop>
     }
 }
 
-impl Part for Term {
-    ghost at = { term_at };
+/// A term of a query.
+#[tactic(auto, unfolding(ov_model::specs::Reading::term_at))]
+fn query_term(alloc: Global, symbols: &[Symbol]) -> Result<(Term, &[Symbol]), Stop>
+    ensures { Gives (λ x. (x.0, x.1.now)) result (term_at symbols.now) }
+{
+    if let Some(rest) = eaten(Fixed::Count, symbols) {
+        return counted(alloc, rest);
+    }
+    if let Some(rest) = eaten(Fixed::Sum, symbols) {
+        let (col, rest) = inner(alloc, rest)?;
+        return Ok((Term::Sum(col), rest));
+    }
+    if let Some(rest) = eaten(Fixed::Min, symbols) {
+        let (col, rest) = inner(alloc, rest)?;
+        return Ok((Term::Min(col), rest));
+    }
+    if let Some(rest) = eaten(Fixed::Max, symbols) {
+        let (col, rest) = inner(alloc, rest)?;
+        return Ok((Term::Max(col), rest));
+    }
+    let (col, rest) = col(alloc, symbols)?;
+    Ok((Term::Plain(col), rest))
+}
 
-    #[tactic(auto, unfolding(ov_model::specs::Reading::term_at))]
-    fn read(alloc: Global, symbols: &[Symbol]) -> Result<(Term, &[Symbol]), Stop> {
-        if let Some(rest) = eaten(Fixed::Count, symbols) {
-            return counted(alloc, rest);
+impl Part for Term {
+    ghost at = { term_in };
+
+    fn read(alloc: Global, scope: Scope, symbols: &[Symbol]) -> Result<(Term, &[Symbol]), Stop> {
+        match scope {
+            Scope::Rows | Scope::Groups => query_term(alloc, symbols),
+            Scope::Sides => side_term(alloc, symbols),
         }
-        if let Some(rest) = eaten(Fixed::Sum, symbols) {
-            let (col, rest) = inner(alloc, rest)?;
-            return Ok((Term::Sum(col), rest));
-        }
-        if let Some(rest) = eaten(Fixed::Min, symbols) {
-            let (col, rest) = inner(alloc, rest)?;
-            return Ok((Term::Min(col), rest));
-        }
-        if let Some(rest) = eaten(Fixed::Max, symbols) {
-            let (col, rest) = inner(alloc, rest)?;
-            return Ok((Term::Max(col), rest));
-        }
-        let (col, rest) = Col::read(alloc, symbols)?;
-        Ok((Term::Plain(col), rest))
     }
 }
 
@@ -135,28 +156,45 @@ fn may_stand(aggregates: bool, term: &Term) -> bool
 }
 
 #[tactic(auto, unfolding(ov_model::specs::Reading::standing_at))]
-fn standing(
+fn query_standing(
     alloc: Global,
     aggregates: bool,
     symbols: &[Symbol],
 ) -> Result<(Operand, &[Symbol]), Stop>
     ensures { Gives (λ x. (x.0, x.1.now)) result (standing_at aggregates symbols.now) }
 {
-    let (term, rest) = Term::read(alloc, symbols)?;
+    let (term, rest) = query_term(alloc, symbols)?;
     if !may_stand(aggregates, &term) {
         return Err(Stop::Unspelled);
     }
     Ok((Operand::Term(term), rest))
 }
 
-/// A side of a comparison, in which aggregates may stand or not.
+fn side_standing(alloc: Global, symbols: &[Symbol]) -> Result<(Operand, &[Symbol]), Stop>
+    ensures { Gives (λ x. (x.0, x.1.now)) result (made_at operand.Term side_term_at symbols.now) }
+{
+    let (term, rest) = side_term(alloc, symbols)?;
+    Ok((Operand::Term(term), rest))
+}
+
+fn standing(alloc: Global, scope: Scope, symbols: &[Symbol]) -> Result<(Operand, &[Symbol]), Stop>
+    ensures { Gives (λ x. (x.0, x.1.now)) result (standing_in scope symbols.now) }
+{
+    match scope {
+        Scope::Rows => query_standing(alloc, false, symbols),
+        Scope::Groups => query_standing(alloc, true, symbols),
+        Scope::Sides => side_standing(alloc, symbols),
+    }
+}
+
+/// A side of a comparison.
 #[tactic(auto, unfolding(ov_model::specs::Reading::operand_by))]
 pub(crate) fn operand(
     alloc: Global,
-    aggregates: bool,
+    scope: Scope,
     symbols: &[Symbol],
 ) -> Result<(Operand, &[Symbol]), Stop>
-    ensures { Gives (λ x. (x.0, x.1.now)) result (operand_at aggregates symbols.now) }
+    ensures { Gives (λ x. (x.0, x.1.now)) result (operand_in scope symbols.now) }
 {
     match symbols {
         [] => Err(Stop::Unspelled),
@@ -164,7 +202,7 @@ pub(crate) fn operand(
             if is_literal(first) {
                 return Ok((Operand::Literal(literal_of(alloc, first)?), rest));
             }
-            standing(alloc, aggregates, symbols)
+            standing(alloc, scope, symbols)
         }
     }
 }
@@ -184,15 +222,22 @@ fn count_of(symbol: &Symbol) -> Result<u64, Stop>
     }
 }
 
-impl Part for u64 {
-    ghost at = { count_at };
+/// A number without a minus sign.
+#[tactic(auto, unfolding(ov_model::specs::Reading::count_at))]
+pub(crate) fn count(symbols: &[Symbol]) -> Result<(u64, &[Symbol]), Stop>
+    ensures { Gives (λ x. (x.0, x.1.now)) result (count_at symbols.now) }
+{
+    match symbols {
+        [] => Err(Stop::Unspelled),
+        [first, rest @ ..] => Ok((count_of(first)?, rest)),
+    }
+}
 
-    #[tactic(auto, unfolding(ov_model::specs::Reading::count_at))]
-    fn read(_alloc: Global, symbols: &[Symbol]) -> Result<(u64, &[Symbol]), Stop> {
-        match symbols {
-            [] => Err(Stop::Unspelled),
-            [first, rest @ ..] => Ok((count_of(first)?, rest)),
-        }
+impl Part for u64 {
+    ghost at = { λ scope. count_at };
+
+    fn read(_alloc: Global, _scope: Scope, symbols: &[Symbol]) -> Result<(u64, &[Symbol]), Stop> {
+        count(symbols)
     }
 }
 
@@ -223,15 +268,12 @@ fn kind(symbols: &[Symbol]) -> Result<(LineageKind, &[Symbol]), Stop>
 
 /// A lineage: its kind and the number of its version.
 #[tactic(auto, unfolding(ov_model::specs::Reading::lineage_at))]
-pub(crate) fn lineage(
-    alloc: Global,
-    symbols: &[Symbol],
-) -> Result<((LineageKind, u64), &[Symbol]), Stop>
+pub(crate) fn lineage(symbols: &[Symbol]) -> Result<((LineageKind, u64), &[Symbol]), Stop>
     ensures { Gives (λ x. (x.0, x.1.now)) result (lineage_at symbols.now) }
 {
     let (kind, rest) = kind(symbols)?;
     let rest = behind(Fixed::Open, rest)?;
-    let (vid, rest) = u64::read(alloc, rest)?;
+    let (vid, rest) = count(rest)?;
     let rest = behind(Fixed::Close, rest)?;
     Ok(((kind, vid), rest))
 }

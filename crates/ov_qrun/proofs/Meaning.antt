@@ -5,8 +5,7 @@ use Rattle.std.specs.Ordering.{on}
 use Rattle.ov_value.specs.Rows.{Fits}
 use Rattle.ov_value.specs.Shapes.{Shape}
 use Rattle.ov_value.specs.declared.value.Value.{Value}
-use Rattle.ov_fetch.specs.Scans.{AllFit, rows_of}
-use Rattle.ov_segment.specs.declared.numbered.Record.{Record}
+use Rattle.ov_model.specs.Book.{Row}
 use Rattle.ov_model.specs.Answers.{Pair, Related, distinct_keys, group_key, grouped_pairs, groups_of, here_for, is_same_key, limited, list_order, order_by, placed_by, sorted_by}
 use Rattle.ov_model.specs.declared.answer.Cell.{Cell}
 use Rattle.ov_model.specs.declared.query.Col.{Col}
@@ -45,24 +44,24 @@ map-through g f [] = refl
 map-through g f (x ∷ xs) = ap (λ l. g (f x) ∷ l) (map-through g f xs)
 
 -- the values of the group columns of a query, at a spot
-abbrev named_key : Shape → List Record → List Col → Spot → List Cell
-named_key schema records cs spot = group_key schema cs (pair_at records spot)
+abbrev named_key : Shape → List Row → List Col → Spot → List Cell
+named_key schema rows cs spot = group_key schema cs (pair_at rows spot)
 
-abbrev named_order : Shape → List Record → List Col → Spot → Spot → Ordering
-named_order schema records cs = on (named_key schema records cs) ranked_lists
+abbrev named_order : Shape → List Row → List Col → Spot → Spot → Ordering
+named_order schema rows cs = on (named_key schema rows cs) ranked_lists
 
 -- those that were found are the same
-order-found : (schema : Shape) (records : List Record) (cs : List Col) (found : List Lookup) → AreLookups schema cs found
-    → spot_order records found ≡ named_order schema records cs
-order-found schema records cs found are = λ i a b. ranked_lists (are (pair_at records a) i) (are (pair_at records b) i)
+order-found : (schema : Shape) (rows : List Row) (cs : List Col) (found : List Lookup) → AreLookups schema cs found
+    → spot_order rows found ≡ named_order schema rows cs
+order-found schema rows cs found are = λ i a b. ranked_lists (are (pair_at rows a) i) (are (pair_at rows b) i)
 
-abbrev pub SpotsFit : Shape → List Record → Type 0
-SpotsFit schema records = (spot : Spot) → PairFits schema (pair_at records spot)
+abbrev pub SpotsFit : Shape → List Row → Type 0
+SpotsFit schema rows = (spot : Spot) → PairFits schema (pair_at rows spot)
 
-keys-are : (schema : Shape) (records : List Record) (cs : List Col) → SpotsFit schema records → (ks : List Spot)
-    → AllByRecursion (KeyIs schema cs) (map (named_key schema records cs) ks)
-keys-are schema records cs fit [] = tt
-keys-are schema records cs fit (s ∷ ks) = (key-is schema cs (pair_at records s) (fit s), keys-are schema records cs fit ks)
+keys-are : (schema : Shape) (rows : List Row) (cs : List Col) → SpotsFit schema rows → (ks : List Spot)
+    → AllByRecursion (KeyIs schema cs) (map (named_key schema rows cs) ks)
+keys-are schema rows cs fit [] = tt
+keys-are schema rows cs fit (s ∷ ks) = (key-is schema cs (pair_at rows s) (fit s), keys-are schema rows cs fit ks)
 
 distinct-all : (P : List Cell → Type 0) (ks : List (List Cell)) → AllByRecursion P ks → AllByRecursion P (distinct_by ranked_lists ks)
 distinct-all P [] all = tt
@@ -77,36 +76,36 @@ distinct-agree schema cs (k ∷ ks) all =
     ∙ ap (filter (λ other. not (is_same_key k other))) (distinct-agree schema cs ks all.1))
 
 -- the pairs of those with a key
-members-are : (schema : Shape) (records : List Record) (cs : List Col) → SpotsFit schema records → (ks : List Spot) (k : List Cell) → KeyIs schema cs k
-    → pairs_at records (with_key (named_key schema records cs) ranked_lists ks k) ≡ filter (λ pair. is_same_key k (group_key schema cs pair)) (pairs_at records ks)
-members-are schema records cs fit ks k is =
-    ap (map (pair_at records)) (agreed ks) ∙ sym (filter-map (λ pair. is_same_key k (group_key schema cs pair)) (pair_at records) ks) where
-      agreed : (ks : List Spot) → filter (λ s. is_eq (ranked_lists k (named_key schema records cs s))) ks ≡ filter (λ s. is_same_key k (named_key schema records cs s)) ks
+members-are : (schema : Shape) (rows : List Row) (cs : List Col) → SpotsFit schema rows → (ks : List Spot) (k : List Cell) → KeyIs schema cs k
+    → pairs_at rows (with_key (named_key schema rows cs) ranked_lists ks k) ≡ filter (λ pair. is_same_key k (group_key schema cs pair)) (pairs_at rows ks)
+members-are schema rows cs fit ks k is =
+    ap (map (pair_at rows)) (agreed ks) ∙ sym (filter-map (λ pair. is_same_key k (group_key schema cs pair)) (pair_at rows) ks) where
+      agreed : (ks : List Spot) → filter (λ s. is_eq (ranked_lists k (named_key schema rows cs s))) ks ≡ filter (λ s. is_same_key k (named_key schema rows cs s)) ks
       agreed [] = refl
       agreed (s ∷ ks) =
-          ap (λ o. cond (is_eq o) (s ∷ filter (λ s. is_eq (ranked_lists k (named_key schema records cs s))) ks) (filter (λ s. is_eq (ranked_lists k (named_key schema records cs s))) ks))
-          (lists-agree schema cs k (named_key schema records cs s) is (key-is schema cs (pair_at records s) (fit s)))
-          ∙ ap (λ l. cond (is_same_key k (named_key schema records cs s)) (s ∷ l) l) (agreed ks)
+          ap (λ o. cond (is_eq o) (s ∷ filter (λ s. is_eq (ranked_lists k (named_key schema rows cs s))) ks) (filter (λ s. is_eq (ranked_lists k (named_key schema rows cs s))) ks))
+          (lists-agree schema cs k (named_key schema rows cs s) is (key-is schema cs (pair_at rows s) (fit s)))
+          ∙ ap (λ l. cond (is_same_key k (named_key schema rows cs s)) (s ∷ l) l) (agreed ks)
 
 -- the groups of the definitions are the runs of the spots that were sorted by their keys
-pub groups-are : (schema : Shape) (records : List Record) (cs : List Col) → SpotsFit schema records → (ks : List Spot)
-    → map (λ run. pairs_at records (run_items run)) (cut (same_by (on (named_key schema records cs) ranked_lists)) (sorted_by (on (named_key schema records cs) ranked_lists) ks))
-    ≡ groups_of schema cs (pairs_at records ks)
-groups-are schema records cs fit ks =
-    let key : Spot → List Cell = named_key schema records cs in
+pub groups-are : (schema : Shape) (rows : List Row) (cs : List Col) → SpotsFit schema rows → (ks : List Spot)
+    → map (λ run. pairs_at rows (run_items run)) (cut (same_by (on (named_key schema rows cs) ranked_lists)) (sorted_by (on (named_key schema rows cs) ranked_lists) ks))
+    ≡ groups_of schema cs (pairs_at rows ks)
+groups-are schema rows cs fit ks =
+    let key : Spot → List Cell = named_key schema rows cs in
     let found : List (List Cell) = map key ks in
-    let are : AllByRecursion (KeyIs schema cs) found = keys-are schema records cs fit ks in
+    let are : AllByRecursion (KeyIs schema cs) found = keys-are schema rows cs fit ks in
     let distinct : AllByRecursion (KeyIs schema cs) (distinct_by ranked_lists found) = distinct-all (KeyIs schema cs) found are in
-    let sorted : sorted_by ranked_lists (distinct_by ranked_lists found) ≡ sorted_by list_order (distinct_keys (map (group_key schema cs) (pairs_at records ks))) =
+    let sorted : sorted_by ranked_lists (distinct_by ranked_lists found) ≡ sorted_by list_order (distinct_keys (map (group_key schema cs) (pairs_at rows ks))) =
     sorted-agree ranked_lists list_order (KeyIs schema cs) (lists-agree schema cs) (distinct_by ranked_lists found) distinct
-    ∙ ap (sorted_by list_order) (distinct-agree schema cs found are ∙ ap distinct_keys (sym (map-through (group_key schema cs) (pair_at records) ks))) in
-    sym (map-through (pairs_at records) run_items (cut (same_by (on key ranked_lists)) (sorted_by (on key ranked_lists) ks)))
-    ∙ ap (map (pairs_at records)) (groups key ranked_lists lists-total ks)
-    ∙ map-through (pairs_at records) (with_key key ranked_lists ks) (sorted_by ranked_lists (distinct_by ranked_lists found))
-    ∙ map-agree (λ k. pairs_at records (with_key key ranked_lists ks k)) (λ k. filter (λ pair. is_same_key k (group_key schema cs pair)) (pairs_at records ks)) (KeyIs schema cs)
-    (members-are schema records cs fit ks) (sorted_by ranked_lists (distinct_by ranked_lists found))
+    ∙ ap (sorted_by list_order) (distinct-agree schema cs found are ∙ ap distinct_keys (sym (map-through (group_key schema cs) (pair_at rows) ks))) in
+    sym (map-through (pairs_at rows) run_items (cut (same_by (on key ranked_lists)) (sorted_by (on key ranked_lists) ks)))
+    ∙ ap (map (pairs_at rows)) (groups key ranked_lists lists-total ks)
+    ∙ map-through (pairs_at rows) (with_key key ranked_lists ks) (sorted_by ranked_lists (distinct_by ranked_lists found))
+    ∙ map-agree (λ k. pairs_at rows (with_key key ranked_lists ks k)) (λ k. filter (λ pair. is_same_key k (group_key schema cs pair)) (pairs_at rows ks)) (KeyIs schema cs)
+    (members-are schema rows cs fit ks) (sorted_by ranked_lists (distinct_by ranked_lists found))
     (sorted-all (KeyIs schema cs) ranked_lists (distinct_by ranked_lists found) distinct)
-    ∙ ap (map (λ k. filter (λ pair. is_same_key k (group_key schema cs pair)) (pairs_at records ks))) sorted
+    ∙ ap (map (λ k. filter (λ pair. is_same_key k (group_key schema cs pair)) (pairs_at rows ks))) sorted
 
 -- ---- rows that fit
 
@@ -118,13 +117,13 @@ get-any P (x ∷ xs) d all pd (suc k) = get-any P xs d (λ j e lt. all (suc j) e
 fits-kinds : (schema : Shape) (rows : List (List Value)) → All (Fits schema) rows → All (IsOfKinds schema) rows
 fits-kinds schema rows all k d lt = row-kinds schema (get_or rows k d) (all k d lt).kinds
 
-pub spots-fit : (schema : Shape) (records : List Record) → AllFit schema records → SpotsFit schema records
-spots-fit schema records all spot =
-    get-any (IsOfKinds schema) (rows_of records) [] (fits-kinds schema (rows_of records) all) (no-row schema) spot.place
+pub spots-fit : (schema : Shape) (rows : List Row) → All (Fits schema) rows → SpotsFit schema rows
+spots-fit schema rows all spot =
+    get-any (IsOfKinds schema) rows [] (fits-kinds schema rows all) (no-row schema) spot.place
 
-pairs-fit : (schema : Shape) (records : List Record) → SpotsFit schema records → (group : List Spot) → AllByRecursion (PairFits schema) (pairs_at records group)
-pairs-fit schema records fit [] = tt
-pairs-fit schema records fit (spot ∷ group) = (fit spot, pairs-fit schema records fit group)
+pairs-fit : (schema : Shape) (rows : List Row) → SpotsFit schema rows → (group : List Spot) → AllByRecursion (PairFits schema) (pairs_at rows group)
+pairs-fit schema rows fit [] = tt
+pairs-fit schema rows fit (spot ∷ group) = (fit spot, pairs-fit schema rows fit group)
 
 -- ---- places in their order
 
@@ -132,19 +131,19 @@ each-of : {X Y : Type 0} (f g : X → Y) (xs : List X) → map f xs ≡ map g xs
 each-of f g [] e = tt
 each-of f g (x ∷ xs) e = (ap (λ l. get_or l 0 (f x)) e, each-of f g xs (ap (drop 1) e))
 
-pub ordered-are : (schema : Shape) (records : List Record) (related : Related) (order : List Key) (terms : List FoundTerm) (found : List Place) → AllFit schema records
-    → AreKeys schema order terms → map cells_in found ≡ map (λ place. keys_for terms (pairs_of records place)) found
-    → map (pairs_of records) (sorted_by (place_order order) found)
-    ≡ sorted_by (λ a b. order_by order (here_for schema related a) (here_for schema related b)) (map (pairs_of records) found)
-ordered-are schema records related order terms found all are given =
-    let keys : map cells_in found ≡ map (λ place. named_keys schema order (pairs_of records place)) found =
-    given ∙ (λ i. map (λ place. are (pairs_of records place) i) found) in
-    let fit : SpotsFit schema records = spots-fit schema records all in
-    sorted-map (pairs_of records) (place_order order) (λ a b. order_by order (here_for schema related a) (here_for schema related b))
-    (λ place. cells_in place ≡ named_keys schema order (pairs_of records place))
-    (λ a b ea eb. ap₂ (ranked_by order) ea eb ∙ order-agree schema related order (pairs_of records a) (pairs_of records b)
-    (pairs-fit schema records fit a.group.now) (pairs-fit schema records fit b.group.now))
-    found (each-of cells_in (λ place. named_keys schema order (pairs_of records place)) found keys)
+pub ordered-are : (schema : Shape) (rows : List Row) (related : Related) (order : List Key) (terms : List FoundTerm) (found : List Place) → All (Fits schema) rows
+    → AreKeys schema order terms → map cells_in found ≡ map (λ place. keys_for terms (pairs_of rows place)) found
+    → map (pairs_of rows) (sorted_by (place_order order) found)
+    ≡ sorted_by (λ a b. order_by order (here_for schema related a) (here_for schema related b)) (map (pairs_of rows) found)
+ordered-are schema rows related order terms found all are given =
+    let keys : map cells_in found ≡ map (λ place. named_keys schema order (pairs_of rows place)) found =
+    given ∙ (λ i. map (λ place. are (pairs_of rows place) i) found) in
+    let fit : SpotsFit schema rows = spots-fit schema rows all in
+    sorted-map (pairs_of rows) (place_order order) (λ a b. order_by order (here_for schema related a) (here_for schema related b))
+    (λ place. cells_in place ≡ named_keys schema order (pairs_of rows place))
+    (λ a b ea eb. ap₂ (ranked_by order) ea eb ∙ order-agree schema related order (pairs_of rows a) (pairs_of rows b)
+    (pairs-fit schema rows fit a.group.now) (pairs-fit schema rows fit b.group.now))
+    found (each-of cells_in (λ place. named_keys schema order (pairs_of rows place)) found keys)
 
 -- ---- groups
 
@@ -157,53 +156,53 @@ sorted-tied [] = refl
 sorted-tied (x ∷ xs) = ap (placed_by (λ a b. Equal) x) (sorted-tied xs) ∙ placed-tied x xs
 
 -- without columns all are in one group
-one-named : (schema : Shape) (records : List Record) (cs : List Col) (spots all : List Spot) → length cs ≡ 0 → spots ≡ sorted_by (named_order schema records cs) all
-    → pairs_at records spots ∷ [] ≡ grouped_pairs schema cs (pairs_at records all)
-one-named schema records [] spots all none is = ap (λ l. pairs_at records l ∷ []) (is ∙ sorted-tied all)
-one-named schema records (c ∷ cs) spots all none is = absurd (omega (arith, none))
+one-named : (schema : Shape) (rows : List Row) (cs : List Col) (spots all : List Spot) → length cs ≡ 0 → spots ≡ sorted_by (named_order schema rows cs) all
+    → pairs_at rows spots ∷ [] ≡ grouped_pairs schema cs (pairs_at rows all)
+one-named schema rows [] spots all none is = ap (λ l. pairs_at rows l ∷ []) (is ∙ sorted-tied all)
+one-named schema rows (c ∷ cs) spots all none is = absurd (omega (arith, none))
 
-pub one-group : (schema : Shape) (records : List Record) (cs : List Col) (found : List Lookup) (spots all : List Spot) → AreLookups schema cs found → length cs ≡ 0
-    → spots ≡ sorted_by (spot_order records found) all → pairs_at records spots ∷ [] ≡ grouped_pairs schema cs (pairs_at records all)
-one-group schema records cs found spots all are none is =
-    one-named schema records cs spots all none (is ∙ ap (λ order. sorted_by order all) (order-found schema records cs found are))
+pub one-group : (schema : Shape) (rows : List Row) (cs : List Col) (found : List Lookup) (spots all : List Spot) → AreLookups schema cs found → length cs ≡ 0
+    → spots ≡ sorted_by (spot_order rows found) all → pairs_at rows spots ∷ [] ≡ grouped_pairs schema cs (pairs_at rows all)
+one-group schema rows cs found spots all are none is =
+    one-named schema rows cs spots all none (is ∙ ap (λ order. sorted_by order all) (order-found schema rows cs found are))
 
 -- with columns they are the runs
-runs-named : (schema : Shape) (records : List Record) (cs : List Col) (spots all : List Spot) (groups : List (List Spot)) → AllFit schema records → 0 < length cs
-    → spots ≡ sorted_by (named_order schema records cs) all → groups ≡ map run_items (cut (same_by (named_order schema records cs)) spots)
-    → map (pairs_at records) groups ≡ grouped_pairs schema cs (pairs_at records all)
-runs-named schema records [] spots all groups fit some is are = absurd (omega (arith, some))
-runs-named schema records (c ∷ cs) spots all groups fit some is are =
-    ap (map (pairs_at records)) (are ∙ ap (λ l. map run_items (cut (same_by (named_order schema records (c ∷ cs))) l)) is)
-    ∙ map-through (pairs_at records) run_items (cut (same_by (named_order schema records (c ∷ cs))) (sorted_by (named_order schema records (c ∷ cs)) all))
-    ∙ groups-are schema records (c ∷ cs) (spots-fit schema records fit) all
+runs-named : (schema : Shape) (rows : List Row) (cs : List Col) (spots all : List Spot) (groups : List (List Spot)) → All (Fits schema) rows → 0 < length cs
+    → spots ≡ sorted_by (named_order schema rows cs) all → groups ≡ map run_items (cut (same_by (named_order schema rows cs)) spots)
+    → map (pairs_at rows) groups ≡ grouped_pairs schema cs (pairs_at rows all)
+runs-named schema rows [] spots all groups fit some is are = absurd (omega (arith, some))
+runs-named schema rows (c ∷ cs) spots all groups fit some is are =
+    ap (map (pairs_at rows)) (are ∙ ap (λ l. map run_items (cut (same_by (named_order schema rows (c ∷ cs))) l)) is)
+    ∙ map-through (pairs_at rows) run_items (cut (same_by (named_order schema rows (c ∷ cs))) (sorted_by (named_order schema rows (c ∷ cs)) all))
+    ∙ groups-are schema rows (c ∷ cs) (spots-fit schema rows fit) all
 
-pub run-groups : (schema : Shape) (records : List Record) (cs : List Col) (found : List Lookup) (spots all : List Spot) (groups : List (List Spot)) → AreLookups schema cs found
-    → AllFit schema records → 0 < length cs → spots ≡ sorted_by (spot_order records found) all → groups ≡ map run_items (cut (has_same_key records found) spots)
-    → map (pairs_at records) groups ≡ grouped_pairs schema cs (pairs_at records all)
-run-groups schema records cs found spots all groups are fit some is cuts =
-    let same : spot_order records found ≡ named_order schema records cs = order-found schema records cs found are in
-    runs-named schema records cs spots all groups fit some (is ∙ ap (λ order. sorted_by order all) same)
+pub run-groups : (schema : Shape) (rows : List Row) (cs : List Col) (found : List Lookup) (spots all : List Spot) (groups : List (List Spot)) → AreLookups schema cs found
+    → All (Fits schema) rows → 0 < length cs → spots ≡ sorted_by (spot_order rows found) all → groups ≡ map run_items (cut (has_same_key rows found) spots)
+    → map (pairs_at rows) groups ≡ grouped_pairs schema cs (pairs_at rows all)
+run-groups schema rows cs found spots all groups are fit some is cuts =
+    let same : spot_order rows found ≡ named_order schema rows cs = order-found schema rows cs found are in
+    runs-named schema rows cs spots all groups fit some (is ∙ ap (λ order. sorted_by order all) same)
     (cuts ∙ ap (λ order. map run_items (cut (same_by order) spots)) same)
 
 -- ---- the places of an answer
 
-pub held-places : {A : Type 0} (now : A → List Spot) (records : List Record) (q : List Pair → Bool) (found groups : List A) (all : List (List Pair))
-    → map now found ≡ filter (λ group. q (pairs_at records group)) (map now groups) → map (λ g. pairs_at records (now g)) groups ≡ all
-    → map (λ g. pairs_at records (now g)) found ≡ filter q all
-held-places now records q found groups all are is =
-    sym (map-through (pairs_at records) now found) ∙ ap (map (pairs_at records)) are ∙ sym (filter-map q (pairs_at records) (map now groups))
-    ∙ ap (filter q) (map-through (pairs_at records) now groups ∙ is)
+pub held-places : {A : Type 0} (now : A → List Spot) (rows : List Row) (q : List Pair → Bool) (found groups : List A) (all : List (List Pair))
+    → map now found ≡ filter (λ group. q (pairs_at rows group)) (map now groups) → map (λ g. pairs_at rows (now g)) groups ≡ all
+    → map (λ g. pairs_at rows (now g)) found ≡ filter q all
+held-places now rows q found groups all are is =
+    sym (map-through (pairs_at rows) now found) ∙ ap (map (pairs_at rows)) are ∙ sym (filter-map q (pairs_at rows) (map now groups))
+    ∙ ap (filter q) (map-through (pairs_at rows) now groups ∙ is)
 
-pub alone-places : {A : Type 0} (now : A → List Spot) (records : List Record) (found : List A) (spots : List Spot)
-    → map now found ≡ map (λ spot. spot ∷ []) spots → map (λ g. pairs_at records (now g)) found ≡ map (λ pair. pair ∷ []) (pairs_at records spots)
-alone-places now records found spots are =
-    sym (map-through (pairs_at records) now found) ∙ ap (map (pairs_at records)) are ∙ map-through (pairs_at records) (λ spot. spot ∷ []) spots
-    ∙ sym (map-through (λ pair. pair ∷ []) (pair_at records) spots)
+pub alone-places : {A : Type 0} (now : A → List Spot) (rows : List Row) (found : List A) (spots : List Spot)
+    → map now found ≡ map (λ spot. spot ∷ []) spots → map (λ g. pairs_at rows (now g)) found ≡ map (λ pair. pair ∷ []) (pairs_at rows spots)
+alone-places now rows found spots are =
+    sym (map-through (pairs_at rows) now found) ∙ ap (map (pairs_at rows)) are ∙ map-through (pairs_at rows) (λ spot. spot ∷ []) spots
+    ∙ sym (map-through (λ pair. pair ∷ []) (pair_at rows) spots)
 
-pub pairs-placed : {A : Type 0} (now : A → List Spot) (records : List Record) (found : List Place) (groups : List A)
-    → map (λ place. place.group.now) found ≡ map now groups → map (pairs_of records) found ≡ map (λ g. pairs_at records (now g)) groups
-pairs-placed now records found groups are =
-    sym (map-through (pairs_at records) (λ (place : Place). place.group.now) found) ∙ ap (map (pairs_at records)) are ∙ map-through (pairs_at records) now groups
+pub pairs-placed : {A : Type 0} (now : A → List Spot) (rows : List Row) (found : List Place) (groups : List A)
+    → map (λ place. place.group.now) found ≡ map now groups → map (pairs_of rows) found ≡ map (λ g. pairs_at rows (now g)) groups
+pairs-placed now rows found groups are =
+    sym (map-through (pairs_at rows) (λ (place : Place). place.group.now) found) ∙ ap (map (pairs_at rows)) are ∙ map-through (pairs_at rows) now groups
 
 pub if-true : {X : Type 0} (b : Bool) (x y : X) → b ≡ true → (if b then x else y) ≡ x
 if-true true x y e = refl

@@ -16,7 +16,7 @@ use std::slice;
 
 // How two spots compare by the values of the group columns.
 fn cmp_spots(table: &Table<'_>, cols: &[Lookup], a: Spot, b: Spot) -> Ordering
-    ensures { result ≡ ranked_lists (key_at table.now.records.now cols.now a) (key_at table.now.records.now cols.now b) }
+    ensures { result ≡ ranked_lists (key_at table.now cols.now a) (key_at table.now cols.now b) }
 {
     for col in cols {
         let order = cmp_ranked(table.value_at(a, *col), table.value_at(b, *col));
@@ -29,7 +29,7 @@ fn cmp_spots(table: &Table<'_>, cols: &[Lookup], a: Spot, b: Spot) -> Ordering
 
 // Whether no spot has greater values than the next one.
 fn climb(table: &Table<'_>, cols: &[Lookup], spots: &[Spot]) -> bool
-    ensures { result ≡ climbs (spot_order table.now.records.now cols.now) spots.now }
+    ensures { result ≡ climbs (spot_order table.now cols.now) spots.now }
 {
     for at in 1..spots.len() {
         if cmp_spots(table, cols, spots[at - 1], spots[at]) == Ordering::Greater {
@@ -41,12 +41,12 @@ fn climb(table: &Table<'_>, cols: &[Lookup], spots: &[Spot]) -> bool
 
 /// Sorts spots by the values of the group columns. Spots with the same ones keep their order. Those that stand in order already, as
 /// those of versions in order do for groups by version, are left as they are.
-pub(crate) fn sort_spots(
+pub fn sort_spots(
     table: &Table<'_>,
     cols: &[Lookup],
     spots: &mut Vec<Spot>,
 ) -> Result<(), AllocError>
-    ensures { OnOk result (spots.new.items ≡ sorted_by (spot_order table.now.records.now cols.now) spots.old.items) }
+    ensures { OnOk result (spots.new.items ≡ sorted_by (spot_order table.now cols.now) spots.old.items) }
 {
     if !climb(table, cols, spots.as_slice()) {
         spots.sort_by(|a, b| cmp_spots(table, cols, *a, *b))?;
@@ -56,7 +56,7 @@ pub(crate) fn sort_spots(
 
 // How many spots from the first one on have its values.
 fn first_run(table: &Table<'_>, cols: &[Lookup], spots: &[Spot]) -> usize
-    ensures { result ≡ run_len (has_same_key table.now.records.now cols.now) spots.now }
+    ensures { result ≡ run_len (has_same_key table.now cols.now) spots.now }
 {
     for at in 1..spots.len() {
         if cmp_spots(table, cols, spots[at - 1], spots[at]) != Ordering::Equal {
@@ -74,7 +74,7 @@ pub(crate) fn runs<'a>(
     spots: &'a [Spot],
 ) -> Result<Vec<&'a [Spot]>, AllocError>
     ensures { IfOk result (λ found. map (λ run. run.now) found.items
-        ≡ map run_items (cut (has_same_key table.now.records.now cols.now) spots.now)) }
+        ≡ map run_items (cut (has_same_key table.now cols.now) spots.now)) }
 {
     let mut found = Vec::new(alloc);
     let mut rest = spots;
@@ -118,7 +118,7 @@ pub(crate) fn held<'a, 'b>(
     having: &'a Option<FoundCond>,
 ) -> Result<Vec<&'b [Spot]>, AllocError>
     ensures { IfOk result (λ found. map (λ group. group.now) found.items
-        ≡ filter (λ group. found_holds having.now (pairs_at table.now.records.now group)) (map (λ group. group.now) groups.now)) }
+        ≡ filter (λ group. found_holds having.now (pairs_at table.now group)) (map (λ group. group.now) groups.now)) }
 {
     let mut found = Vec::new(alloc);
     for group in groups {

@@ -11,4 +11,6 @@ mod places;
 mod plan;
 mod run;
 
-pub use run::run_typed;
+pub use groups::sort_spots;
+pub use order::cmp_ranked;
+pub use run::{rows_over, run_typed};

@@ -21,7 +21,7 @@ fn rank(seen: Seen<'_>) -> u8
 }
 
 /// By kind, and within a kind as the definitions say: NULL and nothing are one value below all others.
-pub(crate) fn cmp_ranked(a: Seen<'_>, b: Seen<'_>) -> Ordering
+pub fn cmp_ranked(a: Seen<'_>, b: Seen<'_>) -> Ordering
     ensures { result ≡ ranked (cell_of a.entry) (cell_of b.entry) }
 {
     match (a, b) {

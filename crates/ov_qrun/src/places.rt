@@ -27,7 +27,7 @@ fn keys_over<'a>(
     order: &[FoundTerm],
     group: &[Spot],
 ) -> Result<Vec<Seen<'a>>, AllocError>
-    ensures { IfOk result (λ keys. map cell_of keys.items ≡ keys_for order.now (pairs_at table.now.records.now group.now)) }
+    ensures { IfOk result (λ keys. map cell_of keys.items ≡ keys_for order.now (pairs_at table.now group.now)) }
 {
     let mut keys = Vec::with_capacity(alloc, order.len())?;
     for term in order {
@@ -45,7 +45,7 @@ pub(crate) fn places_of<'a, 'b>(
 ) -> Result<Vec<Place<'a, 'b>>, AllocError>
     ensures groups { IfOk result (λ places. map (λ place. place.group.now) places.items ≡ map (λ group. group.now) groups.now) }
     ensures keys { IfOk result (λ places. map cells_in places.items
-        ≡ map (λ place. keys_for order.now (pairs_of table.now.records.now place)) places.items) }
+        ≡ map (λ place. keys_for order.now (pairs_of table.now place)) places.items) }
 {
     let mut places = Vec::with_capacity(alloc, groups.len())?;
     for group in groups {

@@ -8,14 +8,14 @@ ghost use Rattle.ov_qrun.specs.Plans.{AreLookups, IsPlan};
 
 use ov_model::{Col, Key, Query};
 use ov_terms::{FoundCond, FoundItems, FoundTerm, Lookup, find_guard};
-use ov_value::Schema;
+use ov_typing::Shape;
 use std::alloc::{AllocError, Global};
 
-/// A query, and where its columns are found in rows of a schema.
+/// A query, and where its columns are found in rows.
 #[derive(Drop)]
 pub(crate) struct Plan<'a> {
     pub(crate) query: &'a Query,
-    pub(crate) schema: &'a Schema,
+    pub(crate) shape: &'a Shape<'a>,
     pub(crate) filter: Option<FoundCond>,
     pub(crate) groups: Vec<Lookup>,
     pub(crate) having: Option<FoundCond>,
@@ -24,26 +24,26 @@ pub(crate) struct Plan<'a> {
     pub(crate) items: FoundItems,
 }
 
-/// A query over rows of a schema. Its columns are looked up here, and at no row.
+/// A query over rows of these columns. Its columns are looked up here, and at no row.
 pub(crate) fn plan_of<'a>(
     alloc: Global,
     query: &'a Query,
-    schema: &'a Schema,
+    shape: &'a Shape<'a>,
 ) -> Result<Plan<'a>, AllocError>
     requires filter { NoLineages query.now.filter }
     requires having { NoLineages query.now.having }
     ensures plan { IfOk result IsPlan }
     ensures query { IfOk result (λ plan. plan.query.now ≡ query.now) }
-    ensures schema { IfOk result (λ plan. plan.schema.now ≡ schema.now) }
+    ensures shape { IfOk result (λ plan. plan.shape.now ≡ shape.now) }
 {
-    let filter = find_guard(alloc, schema, &query.filter)?;
-    let groups = find_cols(alloc, schema, query.groups.as_slice())?;
-    let having = find_guard(alloc, schema, &query.having)?;
-    let order = find_keys(alloc, schema, query.order.as_slice())?;
-    let items = FoundItems::of(alloc, schema, &query.items)?;
+    let filter = find_guard(alloc, shape, &query.filter)?;
+    let groups = find_cols(alloc, shape, query.groups.as_slice())?;
+    let having = find_guard(alloc, shape, &query.having)?;
+    let order = find_keys(alloc, shape, query.order.as_slice())?;
+    let items = FoundItems::of(alloc, shape, &query.items)?;
     Ok(Plan {
         query,
-        schema,
+        shape,
         filter,
         groups,
         having,
@@ -52,22 +52,22 @@ pub(crate) fn plan_of<'a>(
     })
 }
 
-fn find_cols(alloc: Global, schema: &Schema, cols: &[Col]) -> Result<Vec<Lookup>, AllocError>
-    ensures { (pair : Pair) → IfOk result (λ found. key_in found.items pair ≡ group_key schema.now cols.now pair) }
+fn find_cols(alloc: Global, shape: &Shape<'_>, cols: &[Col]) -> Result<Vec<Lookup>, AllocError>
+    ensures { (pair : Pair) → IfOk result (λ found. key_in found.items pair ≡ group_key shape.now cols.now pair) }
 {
     let mut found = Vec::with_capacity(alloc, cols.len())?;
     for col in cols {
-        found.push(Lookup::of(schema, col))?;
+        found.push(Lookup::of(shape, col))?;
     }
     Ok(found)
 }
 
-fn find_keys(alloc: Global, schema: &Schema, order: &[Key]) -> Result<Vec<FoundTerm>, AllocError>
-    ensures { (group : List Pair) → IfOk result (λ found. keys_for found.items group ≡ named_keys schema.now order.now group) }
+fn find_keys(alloc: Global, shape: &Shape<'_>, order: &[Key]) -> Result<Vec<FoundTerm>, AllocError>
+    ensures { (group : List Pair) → IfOk result (λ found. keys_for found.items group ≡ named_keys shape.now order.now group) }
 {
     let mut found = Vec::with_capacity(alloc, order.len())?;
     for key in order {
-        found.push(FoundTerm::of(schema, &key.term))?;
+        found.push(FoundTerm::of(shape, &key.term))?;
     }
     Ok(found)
 }

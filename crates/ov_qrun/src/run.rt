@@ -1,23 +1,25 @@
 //! The answer of a query over a scan.
 
-ghost use Rattle.std.specs.Prelude.{◌≡◌, Ok, List, IfOk, OnOk, if◌then◌else◌, length, map};
-ghost use Rattle.ov_model.specs.Answers.{Related, answer, grouped_pairs, here_for, limited, order_by, places, sorted_by};
+ghost use Rattle.std.specs.Prelude.{◌≡◌, Ok, List, IfOk, OnOk, if◌then◌else◌, filter, map};
+ghost use Rattle.std.specs.List.{All};
+ghost use Rattle.ov_model.specs.Answers.{Pair, Related, answer, grouped_pairs, here_for, limited, order_by, places, sorted_by};
 ghost use Rattle.ov_model.specs.Kinds.{is_grouped, kinds};
-ghost use Rattle.ov_fetch.specs.Scans.{AllFit, IsSound};
-ghost use Rattle.ov_terms.specs.Finding.{shown_by};
+ghost use Rattle.ov_fetch.specs.Scans.{IsSound};
+ghost use Rattle.ov_value.specs.Rows.{Fits};
+ghost use Rattle.ov_terms.specs.Finding.{in_version, is_taken, shown_by};
 ghost use Rattle.ov_terms.specs.Standing.{NoLineages, pairs_at, pairs_shown};
 ghost use Rattle.ov_terms.specs.declared.spot.Spot.{Spot as SpotValue};
 ghost use Rattle.ov_qrun.specs.Keys.{pairs_of, spot_order};
-ghost use Rattle.ov_qrun.specs.Plans.{IsPlan};
+ghost use Rattle.ov_qrun.specs.Plans.{IsPlan, keyless};
 
 use crate::groups::{alone, held, runs, sort_spots};
 use crate::places::{Place, places_of, sort_places};
 use crate::plan::{Plan, plan_of};
 use ov_fetch::Scan;
-use ov_model::{Answer, Cell, Seq};
-use ov_terms::{FoundItems, Lookup, Spot, Table};
-use ov_typing::Typed;
-use ov_value::Kind;
+use ov_model::{Answer, Cell, Query, Seq};
+use ov_terms::{FoundItems, Lookup, SideBySide, Spot, Table};
+use ov_typing::{Shape, Typed, is_grouped};
+use ov_value::{Column, Kind};
 use std::alloc::{AllocError, Global};
 
 // The groups of spots that are sorted by the values of the group columns; where there are no columns, all in one group.
@@ -28,10 +30,10 @@ fn groups_in<'b>(
     spots: &'b [Spot],
 ) -> Result<Vec<&'b [Spot]>, AllocError>
     requires plan { IsPlan plan.now }
-    requires fit { AllFit plan.now.schema.now table.now.records.now }
-    ensures { (all : List SpotValue) → spots.now ≡ sorted_by (spot_order table.now.records.now plan.now.groups.items) all
-        → IfOk result (λ found. map (λ group. pairs_at table.now.records.now group.now) found.items
-        ≡ grouped_pairs plan.now.schema.now plan.now.query.now.groups (pairs_at table.now.records.now all)) }
+    requires fit { All (Fits plan.now.shape.now) table.now }
+    ensures { (all : List SpotValue) → spots.now ≡ sorted_by (spot_order table.now plan.now.groups.items) all
+        → IfOk result (λ found. map (λ group. pairs_at table.now group.now) found.items
+        ≡ grouped_pairs plan.now.shape.now plan.now.query.now.groups (pairs_at table.now all)) }
 {
     if plan.query.groups.as_slice().is_empty() {
         let mut found = Vec::new(alloc);
@@ -51,12 +53,12 @@ fn taken<'a, 'b>(
     spots: &'b [Spot],
 ) -> Result<Vec<&'b [Spot]>, AllocError>
     requires plan { IsPlan plan.now }
-    requires fit { AllFit plan.now.schema.now table.now.records.now }
+    requires fit { All (Fits plan.now.shape.now) table.now }
     requires grouped { grouped ≡ is_grouped plan.now.query.now }
     ensures { (related : Related) (all : List SpotValue)
-        → spots.now ≡ (if grouped then sorted_by (spot_order table.now.records.now plan.now.groups.items) all else all)
-        → IfOk result (λ found. map (λ group. pairs_at table.now.records.now group.now) found.items
-        ≡ places plan.now.query.now plan.now.schema.now related (pairs_at table.now.records.now all)) }
+        → spots.now ≡ (if grouped then sorted_by (spot_order table.now plan.now.groups.items) all else all)
+        → IfOk result (λ found. map (λ group. pairs_at table.now group.now) found.items
+        ≡ places plan.now.query.now plan.now.shape.now related (pairs_at table.now all)) }
 {
     if grouped {
         let groups = groups_in(alloc, table, plan, spots)?;
@@ -75,10 +77,10 @@ fn ordered<'a, 'b>(
     groups: &[&'b [Spot]],
 ) -> Result<Vec<Place<'a, 'b>>, AllocError>
     requires plan { IsPlan plan.now }
-    requires fit { AllFit plan.now.schema.now table.now.records.now }
-    ensures { (related : Related) → IfOk result (λ found. map (pairs_of table.now.records.now) found.items
-        ≡ sorted_by (λ a b. order_by plan.now.query.now.order (here_for plan.now.schema.now related a) (here_for plan.now.schema.now related b))
-        (map (λ group. pairs_at table.now.records.now group.now) groups.now)) }
+    requires fit { All (Fits plan.now.shape.now) table.now }
+    ensures { (related : Related) → IfOk result (λ found. map (pairs_of table.now) found.items
+        ≡ sorted_by (λ a b. order_by plan.now.query.now.order (here_for plan.now.shape.now related a) (here_for plan.now.shape.now related b))
+        (map (λ group. pairs_at table.now group.now) groups.now)) }
 {
     let mut found = places_of(alloc, table, plan.order.as_slice(), groups)?;
     sort_places(plan.query.order.as_slice(), &mut found)?;
@@ -108,7 +110,7 @@ fn rows_at(
     items: &FoundItems,
     places: &[Place<'_, '_>],
 ) -> Result<Seq<Seq<Cell>>, AllocError>
-    ensures { IfOk result (λ rows. rows ≡ map (shown_by items.now) (map (pairs_of table.now.records.now) places.now)) }
+    ensures { IfOk result (λ rows. rows ≡ map (shown_by items.now) (map (pairs_of table.now) places.now)) }
 {
     let mut rows = Vec::with_capacity(alloc, places.len())?;
     for place in places {
@@ -135,7 +137,7 @@ fn sort_if(
     spots: &mut Vec<Spot>,
 ) -> Result<(), AllocError>
     ensures { OnOk result (spots.new.items
-        ≡ (if grouped then sorted_by (spot_order table.now.records.now cols.now) spots.old.items else spots.old.items)) }
+        ≡ (if grouped then sorted_by (spot_order table.now cols.now) spots.old.items else spots.old.items)) }
 {
     if grouped {
         sort_spots(table, cols, spots)?;
@@ -143,27 +145,21 @@ fn sort_if(
     Ok(())
 }
 
-// The rows of the answer.
+// The rows of the answer, over the spots that WHERE takes.
 fn answer_rows<'a>(
     alloc: Global,
     table: &Table<'a>,
     plan: &'a Plan<'_>,
     grouped: bool,
-    scan: &Scan,
+    taken_spots: Vec<Spot>,
 ) -> Result<Seq<Seq<Cell>>, AllocError>
-    requires records { table.now.records.now ≡ scan.now.records }
-    requires paired { length scan.now.vids ≡ length scan.now.picks }
     requires plan { IsPlan plan.now }
-    requires fit { AllFit plan.now.schema.now table.now.records.now }
+    requires fit { All (Fits plan.now.shape.now) table.now }
     requires grouped { grouped ≡ is_grouped plan.now.query.now }
-    ensures { (related : Related) → IfOk result (λ rows. rows ≡ answer plan.now.query.now plan.now.schema.now related (pairs_shown scan.now)) }
+    ensures { (related : Related) (all : List Pair) → pairs_at table.now taken_spots.items ≡ filter (is_taken plan.now.filter) all
+        → IfOk result (λ rows. rows ≡ answer plan.now.query.now plan.now.shape.now related all) }
 {
-    let mut kept = table.kept(
-        alloc,
-        scan.vids.as_slice(),
-        scan.picks.as_slice(),
-        &plan.filter,
-    )?;
+    let mut kept = taken_spots;
     sort_if(table, plan.groups.as_slice(), grouped, &mut kept)?;
     let groups = taken(alloc, table, plan, grouped, kept.as_slice())?;
     let places = ordered(alloc, table, plan, groups.as_slice())?;
@@ -187,11 +183,37 @@ pub fn run_typed(alloc: Global, typed: &Typed<'_>, scan: &Scan) -> Result<Answer
     ensures rows { (related : Related) → IfOk result (λ made. made.rows
         ≡ answer typed.now.query typed.now.schema related (pairs_shown scan.now)) }
 {
-    let plan = plan_of(alloc, typed.query(), typed.schema())?;
-    let table = Table {
-        records: &scan.records,
-    };
-    let rows = answer_rows(alloc, &table, &plan, typed.is_grouped(), scan)?;
+    let shape = Shape::of(typed.schema());
+    let plan = plan_of(alloc, typed.query(), &shape)?;
+    let table = Table::of(&scan.records);
+    let kept = table.kept(
+        alloc,
+        scan.vids.as_slice(),
+        scan.picks.as_slice(),
+        &plan.filter,
+    )?;
+    let rows = answer_rows(alloc, &table, &plan, typed.is_grouped(), kept)?;
     let kinds = copy_of(alloc, typed.kinds())?;
     Ok(Answer { kinds, rows })
+}
+
+/// The rows of the answer of a query over rows side by side, which are of version 0 and fit these columns. Memory and time go as those
+/// of [`run_typed`].
+pub fn rows_over<'a>(
+    alloc: Global,
+    query: &Query,
+    columns: &[Column],
+    rows: &'a SideBySide<'a>,
+) -> Result<Seq<Seq<Cell>>, AllocError>
+    requires fit { All (Fits (keyless columns.now)) rows.now }
+    requires filter { NoLineages query.now.filter }
+    requires having { NoLineages query.now.having }
+    ensures { (related : Related) → IfOk result (λ made. made ≡ answer query.now (keyless columns.now) related (map (in_version 0) rows.now)) }
+{
+    let shape = Shape::without_key(columns);
+    let plan = plan_of(alloc, query, &shape)?;
+    let table = Table::of_two(rows);
+    let kept = table.kept_rows(alloc, &plan.filter)?;
+    let made = answer_rows(alloc, &table, &plan, is_grouped(query), kept)?;
+    Ok(made)
 }

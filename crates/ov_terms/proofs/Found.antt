@@ -6,7 +6,8 @@ use Rattle.std.specs.List.{All}
 use Rattle.ov_fetch.specs.Scans.{row_at}
 use Rattle.ov_model.specs.Answers.{row_cells, row_of}
 use Rattle.ov_segment.specs.declared.numbered.Record.{Record}
-use Rattle.ov_terms.specs.Standing.{pairs_at}
+use Rattle.ov_model.specs.Book.{Row}
+use Rattle.ov_terms.specs.Standing.{pairs_at, row_in}
 use Rattle.ov_terms.specs.declared.spot.Spot.{Spot}
 
 -- one more
@@ -32,6 +33,6 @@ all-of P xs i end before = subst (All P) (take_all i xs end) before
 pub row-at : (records : List Record) (i : ℕ) (none : Record) → i < length records → (get_or records i none).row ≡ row_at records i
 row-at records i none lt = sym (get_or-map (λ r. r.row) records i none [] lt)
 
-pub first-row : (records : List Record) (group : List Spot) (d : Spot) → 1 ≤ length group → row_cells (row_at records (get_or group 0 d).place) ≡ row_of (pairs_at records group)
-first-row records [] d some = absurd (omega (arith, some))
-first-row records (spot ∷ rest) d some = refl
+pub first-row : (rows : List Row) (group : List Spot) (d : Spot) → 1 ≤ length group → row_cells (row_in rows (get_or group 0 d).place) ≡ row_of (pairs_at rows group)
+first-row rows [] d some = absurd (omega (arith, some))
+first-row rows (spot ∷ rest) d some = refl

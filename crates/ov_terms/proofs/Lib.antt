@@ -6,3 +6,4 @@ pub mod Found
 pub mod FoundTruths
 pub mod Among
 pub mod OfRows
+pub mod Joined

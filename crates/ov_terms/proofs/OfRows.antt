@@ -3,15 +3,12 @@ use Rattle.std.proofs.Common.{◌≡◌, ◌<◌, ◌+◌, ◌++◌, ◌∷◌, 
 use Rattle.std.specs.Prelude.{Option}
 use Rattle.std.specs.List.{All}
 use Rattle.std.proofs.lemmas.List.{map-append}
-use Rattle.ov_fetch.specs.Scans.{rows_of}
-use Rattle.ov_segment.specs.declared.numbered.Record.{Record}
 use Rattle.ov_model.specs.Answers.{truth_any, truth_every, truth_not}
 use Rattle.ov_model.specs.Book.{Row}
 use Rattle.ov_terms.specs.Finding.{IsOfRow, found_truth, in_version, is_taken, verdicts}
 use Rattle.ov_terms.specs.Standing.{pair_at}
 use Rattle.ov_terms.specs.declared.found_cond.FoundCond.{FoundCond}
 use Rattle.ov_terms.specs.declared.found_cond.FoundCond.TheVariants.{Not, Every, Any}
-use Rattle.ov_terms.proofs.Found.{row-at}
 use Rattle.ov_terms.proofs.FoundTruths.{truth-not, truth-every, truth-any}
 
 pub not-of-row : (c : FoundCond) → IsOfRow c → IsOfRow (Not c)
@@ -28,14 +25,11 @@ every-of-row cs all v w row =
 pub any-of-row : (cs : List FoundCond) → All IsOfRow cs → IsOfRow (Any cs)
 any-of-row cs all v w row = truth-any (in_version v row ∷ []) cs ∙ ap truth_any (all-same cs all v w row) ∙ sym (truth-any (in_version w row ∷ []) cs)
 
--- what WHERE says of one record more
-pub verdict-more : (guard : Option FoundCond) (records : List Record) (made : List Bool) (i : ℕ) (taken : Bool) → i < length records
-    → taken ≡ is_taken guard (pair_at records (record { vid = 0; place = i })) → made ≡ verdicts guard (rows_of (take i records))
-    → made ++ taken ∷ [] ≡ verdicts guard (rows_of (take (i + 1) records))
-verdict-more guard records made i taken lt is before =
-    let none : Record = record { rid = 0; row = [] } in
+-- what WHERE says of one row more
+pub verdict-more : (guard : Option FoundCond) (rows : List Row) (made : List Bool) (i : ℕ) (taken : Bool) → i < length rows
+    → taken ≡ is_taken guard (pair_at rows (record { vid = 0; place = i })) → made ≡ verdicts guard (take i rows)
+    → made ++ taken ∷ [] ≡ verdicts guard (take (i + 1) rows)
+verdict-more guard rows made i taken lt is before =
     let says : Row → Bool = λ row. is_taken guard (in_version 0 row) in
-    let here : take (i + 1) records ≡ take i records ++ get_or records i none ∷ [] = rw (add-one i) (take-suc records i none lt) in
-    ap₂ (λ l t. l ++ t ∷ []) before (is ∙ ap says (sym (row-at records i none lt)))
-    ∙ sym (ap (verdicts guard) (ap rows_of here ∙ map-append (λ r. r.row) (take i records) (get_or records i none ∷ []))
-    ∙ map-append says (rows_of (take i records)) ((get_or records i none).row ∷ []))
+    let here : take (i + 1) rows ≡ take i rows ++ get_or rows i [] ∷ [] = rw (add-one i) (take-suc rows i [] lt) in
+    ap₂ (λ l t. l ++ t ∷ []) before is ∙ sym (ap (verdicts guard) here ∙ map-append says (take i rows) (get_or rows i [] ∷ []))

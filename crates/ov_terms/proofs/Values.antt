@@ -3,7 +3,7 @@ use Rattle.std.proofs.Common.{◌≡◌, ◌<◌, ◌+◌, ◌∷◌, ℕ, List,
 use Rattle.std.specs.Prelude.{ℤ, if◌then◌else◌, not}
 use Rattle.ov_value.specs.declared.value.Value.{Value}
 use Rattle.ov_value.specs.declared.value.Value.TheVariants as value
-use Rattle.ov_segment.specs.declared.numbered.Record.{Record}
+use Rattle.ov_model.specs.Book.{Row}
 use Rattle.ov_model.specs.Answers.{cell_order, first_by, greatest_from, is_below, is_null_cell, is_present, least_from, plus, sum_from, value_order}
 use Rattle.ov_model.specs.declared.answer.Cell.{Cell}
 use Rattle.ov_model.specs.declared.answer.Cell.TheVariants as cell
@@ -17,15 +17,15 @@ use Rattle.ov_terms.specs.Standing.{pair_at, pairs_at}
 abbrev pub onto : Value → List Value → List Value
 onto v vs = if is_present v then v ∷ vs else vs
 
-abbrev pub values : List Record → Lookup → List Spot → List Value
-values records found group = present_at (pairs_at records group) found
+abbrev pub values : List Row → Lookup → List Spot → List Value
+values rows found group = present_at (pairs_at rows group) found
 
 -- the value at a place, in front of those behind it
-pub values-more : (records : List Record) (found : Lookup) (group : List Spot) (i : ℕ) (d : Spot) → i < length group
-    → values records found (drop i group) ≡ onto (value_at found (pair_at records (get_or group i d))) (values records found (drop (i + 1) group))
-values-more records found group i d lt =
+pub values-more : (rows : List Row) (found : Lookup) (group : List Spot) (i : ℕ) (d : Spot) → i < length group
+    → values rows found (drop i group) ≡ onto (value_at found (pair_at rows (get_or group i d))) (values rows found (drop (i + 1) group))
+values-more rows found group i d lt =
     let here : drop i group ≡ get_or group i d ∷ drop (i + 1) group = rw (add-one i) (drop-cons group i d lt) in
-    ap (values records found) here
+    ap (values rows found) here
 
 pub null-absent : (v : Value) → is_null_cell (cell.Value v) ≡ not (is_present v)
 null-absent (value.Int n) = refl
@@ -41,12 +41,12 @@ sum-onto n (value.Flag flag) vs = refl
 sum-onto n value.Null vs = refl
 
 -- one value more of a sum
-pub sum-more : (records : List Record) (found : Lookup) (group : List Spot) (i : ℕ) (d : Spot) (n m all : ℤ) (seen : Cell) → i < length group
-    → seen ≡ cell.Value (value_at found (pair_at records (get_or group i d))) → m ≡ plus_cell n seen → all ≡ sum_from n (values records found (drop i group))
-    → all ≡ sum_from m (values records found (drop (i + 1) group))
-sum-more records found group i d n m all seen lt is more before =
-    let rest : List Value = values records found (drop (i + 1) group) in
-    before ∙ ap (sum_from n) (values-more records found group i d lt) ∙ sum-onto n (value_at found (pair_at records (get_or group i d))) rest
+pub sum-more : (rows : List Row) (found : Lookup) (group : List Spot) (i : ℕ) (d : Spot) (n m all : ℤ) (seen : Cell) → i < length group
+    → seen ≡ cell.Value (value_at found (pair_at rows (get_or group i d))) → m ≡ plus_cell n seen → all ≡ sum_from n (values rows found (drop i group))
+    → all ≡ sum_from m (values rows found (drop (i + 1) group))
+sum-more rows found group i d n m all seen lt is more before =
+    let rest : List Value = values rows found (drop (i + 1) group) in
+    before ∙ ap (sum_from n) (values-more rows found group i d lt) ∙ sum-onto n (value_at found (pair_at rows (get_or group i d))) rest
     ∙ ap (λ k. sum_from k rest) (sym (more ∙ ap (plus_cell n) is))
 
 -- and of a count
@@ -56,13 +56,13 @@ length-onto (value.Text text) vs null e = rw e refl
 length-onto (value.Flag flag) vs null e = rw e refl
 length-onto value.Null vs null e = rw e refl
 
-pub length-more : (records : List Record) (found : Lookup) (group : List Spot) (i : ℕ) (d : Spot) (seen : Cell) (null : Bool) → i < length group
-    → seen ≡ cell.Value (value_at found (pair_at records (get_or group i d))) → null ≡ is_null_cell seen
-    → length (values records found (drop i group))
-    ≡ (if null then length (values records found (drop (i + 1) group)) else suc (length (values records found (drop (i + 1) group))))
-length-more records found group i d seen null lt is e =
-    ap length (values-more records found group i d lt)
-    ∙ length-onto (value_at found (pair_at records (get_or group i d))) (values records found (drop (i + 1) group)) null (e ∙ ap is_null_cell is)
+pub length-more : (rows : List Row) (found : Lookup) (group : List Spot) (i : ℕ) (d : Spot) (seen : Cell) (null : Bool) → i < length group
+    → seen ≡ cell.Value (value_at found (pair_at rows (get_or group i d))) → null ≡ is_null_cell seen
+    → length (values rows found (drop i group))
+    ≡ (if null then length (values rows found (drop (i + 1) group)) else suc (length (values rows found (drop (i + 1) group))))
+length-more rows found group i d seen null lt is e =
+    ap length (values-more rows found group i d lt)
+    ∙ length-onto (value_at found (pair_at rows (get_or group i d))) (values rows found (drop (i + 1) group)) null (e ∙ ap is_null_cell is)
 
 pub count-there : (null : Bool) (all count now behind rest : ℕ) → null ≡ false → now ≡ count + 1 → behind ≡ (if null then rest else suc rest) → all ≡ count + behind → all ≡ now + rest
 count-there true all count now behind rest n is e before = absurd (true≢false n)

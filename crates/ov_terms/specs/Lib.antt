@@ -1,4 +1,5 @@
 pub mod Seeing
+pub mod Sources
 pub mod Standing
 pub mod Summing
 pub mod Best

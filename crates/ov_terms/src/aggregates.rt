@@ -18,7 +18,7 @@ use ov_value::CellRef;
 impl<'a> Table<'a> {
     /// How many values there are.
     pub(crate) fn count(&self, group: &[Spot], found: Lookup) -> usize
-        ensures { result ≡ length (present_at (pairs_at self.now.records.now group.now) found) }
+        ensures { result ≡ length (present_at (pairs_at self.now group.now) found) }
     {
         let mut count = 0;
         for spot in group {
@@ -31,7 +31,7 @@ impl<'a> Table<'a> {
 
     /// The sum of the values; nothing where there are none.
     pub(crate) fn sum(&self, group: &[Spot], found: Lookup) -> Seen<'a>
-        ensures { cell_of result ≡ sum_cell (present_at (pairs_at self.now.records.now group.now) found) }
+        ensures { cell_of result ≡ sum_cell (present_at (pairs_at self.now group.now) found) }
     {
         let mut sum = 0;
         let mut count: usize = 0;
@@ -51,7 +51,7 @@ impl<'a> Table<'a> {
 
     /// The least of the values, the first one at a tie; nothing where there are none.
     pub(crate) fn least(&self, group: &[Spot], found: Lookup) -> Seen<'a>
-        ensures { cell_of result ≡ first_by least_from (present_at (pairs_at self.now.records.now group.now) found) }
+        ensures { cell_of result ≡ first_by least_from (present_at (pairs_at self.now group.now) found) }
     {
         let mut least = Seen::Nothing;
         for spot in group {
@@ -62,7 +62,7 @@ impl<'a> Table<'a> {
 
     /// The greatest of the values, the first one at a tie; nothing where there are none.
     pub(crate) fn greatest(&self, group: &[Spot], found: Lookup) -> Seen<'a>
-        ensures { cell_of result ≡ first_by greatest_from (present_at (pairs_at self.now.records.now group.now) found) }
+        ensures { cell_of result ≡ first_by greatest_from (present_at (pairs_at self.now group.now) found) }
     {
         let mut greatest = Seen::Nothing;
         for spot in group {

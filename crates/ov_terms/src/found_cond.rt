@@ -13,7 +13,7 @@ ghost use Rattle.ov_terms.specs.declared.found_operand.FoundOperand.{FoundOperan
 use crate::found_operand::FoundOperand;
 use crate::lineages::free_by_cases;
 use ov_model::{Boxed, Cond, Seq, Sign, truth_by_cases};
-use ov_value::Schema;
+use ov_typing::Shape;
 use std::alloc::{AllocError, Global};
 
 /// A condition without lineages, with where its columns are found. The bool of `IsNull` and `InList` is true for NOT.
@@ -43,23 +43,23 @@ pub fn found_by_cases()
     ensures any { (group : List Pair) (cs : List FoundValue) → found_truth group (Any cs) ≡ truth_any (map (found_truth group) cs) }
 {}
 
-/// A condition over rows of a schema.
+/// A condition over rows of these columns.
 #[cycle(find_cond)]
-pub fn find_cond(alloc: Global, schema: &Schema, cond: &Cond) -> Result<FoundCond, AllocError>
+pub fn find_cond(alloc: Global, shape: &Shape<'_>, cond: &Cond) -> Result<FoundCond, AllocError>
     requires { NoLineage cond.now }
-    ensures { IfOk result (IsFound schema.now cond.now) }
+    ensures { IfOk result (IsFound shape.now cond.now) }
 {
     truth_by_cases();
     free_by_cases();
     found_by_cases();
     match cond {
         Cond::Compare(left, sign, right) => {
-            let left = FoundOperand::of(alloc, schema, left)?;
-            let right = FoundOperand::of(alloc, schema, right)?;
+            let left = FoundOperand::of(alloc, shape, left)?;
+            let right = FoundOperand::of(alloc, shape, right)?;
             Ok(FoundCond::Compare(left, *sign, right))
         }
         Cond::IsNull(tested, negated) => {
-            let tested = FoundOperand::of(alloc, schema, tested)?;
+            let tested = FoundOperand::of(alloc, shape, tested)?;
             Ok(FoundCond::IsNull(tested, *negated))
         }
         Cond::InLineage(_, _, _) => unreachable!(),
@@ -68,45 +68,49 @@ pub fn find_cond(alloc: Global, schema: &Schema, cond: &Cond) -> Result<FoundCon
             Ok(FoundCond::InList(vids, *negated))
         }
         Cond::Not(inner) => {
-            let inner = find_cond(alloc, schema, inner.get())?;
+            let inner = find_cond(alloc, shape, inner.get())?;
             let inner = Boxed::new(alloc, inner)?;
             Ok(FoundCond::Not(inner))
         }
         Cond::Every(conds) => {
-            let conds = find_conds(alloc, schema, conds.as_slice())?;
+            let conds = find_conds(alloc, shape, conds.as_slice())?;
             Ok(FoundCond::Every(conds))
         }
         Cond::Any(conds) => {
-            let conds = find_conds(alloc, schema, conds.as_slice())?;
+            let conds = find_conds(alloc, shape, conds.as_slice())?;
             Ok(FoundCond::Any(conds))
         }
     }
 }
 
 #[cycle(find_cond)]
-fn find_conds(alloc: Global, schema: &Schema, conds: &[Cond]) -> Result<Seq<FoundCond>, AllocError>
+fn find_conds(
+    alloc: Global,
+    shape: &Shape<'_>,
+    conds: &[Cond],
+) -> Result<Seq<FoundCond>, AllocError>
     requires { All NoLineage conds.now }
     ensures { (related : Related) (group : List Pair)
-        → IfOk result (λ found. map (found_truth group) found ≡ map (truth (here_for schema.now related group)) conds.now) }
+        → IfOk result (λ found. map (found_truth group) found ≡ map (truth (here_for shape.now related group)) conds.now) }
 {
     let mut found = Seq::new(alloc);
     for cond in conds {
-        found.push(find_cond(alloc, schema, cond)?)?;
+        found.push(find_cond(alloc, shape, cond)?)?;
     }
     Ok(found)
 }
 
-/// WHERE or HAVING over rows of a schema.
+/// WHERE or HAVING over rows of these columns.
 pub fn find_guard(
     alloc: Global,
-    schema: &Schema,
+    shape: &Shape<'_>,
     guard: &Option<Cond>,
 ) -> Result<Option<FoundCond>, AllocError>
     requires { NoLineages guard.now }
-    ensures { IfOk result (IsFoundGuard schema.now guard.now) }
+    ensures { IfOk result (IsFoundGuard shape.now guard.now) }
 {
     match guard {
         None => Ok(None),
-        Some(cond) => Ok(Some(find_cond(alloc, schema, cond)?)),
+        Some(cond) => Ok(Some(find_cond(alloc, shape, cond)?)),
     }
 }

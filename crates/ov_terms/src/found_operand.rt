@@ -5,7 +5,8 @@ ghost use Rattle.ov_terms.specs.Finding.{IsFoundOperand, IsOperandOfRow};
 
 use crate::found_term::FoundTerm;
 use ov_model::Operand;
-use ov_value::{Schema, Value};
+use ov_typing::Shape;
+use ov_value::Value;
 use std::alloc::{AllocError, Global};
 
 /// A side of a comparison, with where its column is found.
@@ -16,12 +17,16 @@ pub enum FoundOperand {
 }
 
 impl FoundOperand {
-    /// A side of a comparison over rows of a schema. A literal is copied.
-    pub fn of(alloc: Global, schema: &Schema, operand: &Operand) -> Result<FoundOperand, AllocError>
-        ensures { IfOk result (IsFoundOperand schema.now operand.now) }
+    /// A side of a comparison over rows of these columns. A literal is copied.
+    pub fn of(
+        alloc: Global,
+        shape: &Shape<'_>,
+        operand: &Operand,
+    ) -> Result<FoundOperand, AllocError>
+        ensures { IfOk result (IsFoundOperand shape.now operand.now) }
     {
         Ok(match operand {
-            Operand::Term(term) => FoundOperand::Term(FoundTerm::of(schema, term)),
+            Operand::Term(term) => FoundOperand::Term(FoundTerm::of(shape, term)),
             Operand::Literal(value) => FoundOperand::Literal(value.copy(alloc)?),
         })
     }

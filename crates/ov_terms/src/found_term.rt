@@ -5,7 +5,7 @@ ghost use Rattle.ov_terms.specs.Finding.{IsFoundTerm, IsTermOfRow};
 
 use crate::lookup::Lookup;
 use ov_model::Term;
-use ov_value::Schema;
+use ov_typing::Shape;
 
 /// A term of a query, with where its column is found.
 #[derive(Clone, Copy, PartialEq, Eq)]
@@ -19,17 +19,17 @@ pub enum FoundTerm {
 }
 
 impl FoundTerm {
-    /// A term over rows of a schema.
-    pub fn of(schema: &Schema, term: &Term) -> FoundTerm
-        ensures { IsFoundTerm schema.now term.now result }
+    /// A term over rows of these columns.
+    pub fn of(shape: &Shape<'_>, term: &Term) -> FoundTerm
+        ensures { IsFoundTerm shape.now term.now result }
     {
         match term {
-            Term::Plain(col) => FoundTerm::Plain(Lookup::of(schema, col)),
+            Term::Plain(col) => FoundTerm::Plain(Lookup::of(shape, col)),
             Term::CountAll => FoundTerm::CountAll,
-            Term::Count(col) => FoundTerm::Count(Lookup::of(schema, col)),
-            Term::Sum(col) => FoundTerm::Sum(Lookup::of(schema, col)),
-            Term::Min(col) => FoundTerm::Min(Lookup::of(schema, col)),
-            Term::Max(col) => FoundTerm::Max(Lookup::of(schema, col)),
+            Term::Count(col) => FoundTerm::Count(Lookup::of(shape, col)),
+            Term::Sum(col) => FoundTerm::Sum(Lookup::of(shape, col)),
+            Term::Min(col) => FoundTerm::Min(Lookup::of(shape, col)),
+            Term::Max(col) => FoundTerm::Max(Lookup::of(shape, col)),
         }
     }
 

@@ -1,4 +1,5 @@
-//! What the terms and conditions of a query are over rows, which stay where they are: among the records of a scan.
+//! What the terms and conditions of a query are over rows, which stay where they are: among the records of a scan, or of two
+//! scans whose rows stand side by side.
 //!
 //! A `Spot` is a version's number and the position of one of its rows, and a group is a list of spots. `Table` says what a term
 //! is over a group and whether a condition holds of it, as the definitions of `ov_model` do over whole rows, without memory and
@@ -12,6 +13,7 @@ mod found_operand;
 mod found_term;
 mod lineages;
 mod lookup;
+mod matches;
 mod of_rows;
 mod order;
 mod rows;
@@ -27,6 +29,7 @@ pub use found_operand::FoundOperand;
 pub use found_term::FoundTerm;
 pub use lineages::free_by_cases;
 pub use lookup::Lookup;
+pub use matches::{Match, SideBySide};
 pub use order::cmp_seen;
 pub use seen::Seen;
 pub use spot::Spot;

@@ -6,7 +6,8 @@ ghost use Rattle.std.specs.Str.{bytes_eq};
 ghost use Rattle.ov_terms.specs.Finding.{IsLookup, IsLookupOfRow};
 
 use ov_model::Col;
-use ov_value::{Column, Schema, Txt};
+use ov_typing::Shape;
+use ov_value::{Column, Txt};
 
 /// Where the value of a column is found in a pair of a version and one of its rows.
 #[derive(Clone, Copy, PartialEq, Eq)]
@@ -20,13 +21,13 @@ pub enum Lookup {
 }
 
 impl Lookup {
-    /// Where a column of a schema is found. It is looked up by its name here, and at no row.
-    pub fn of(schema: &Schema, col: &Col) -> Lookup
-        ensures { IsLookup schema.now col.now result }
+    /// Where a column is found. It is looked up by its name here, and at no row.
+    pub fn of(shape: &Shape<'_>, col: &Col) -> Lookup
+        ensures { IsLookup shape.now col.now result }
     {
         match col {
             Col::Vid => Lookup::Vid,
-            Col::Name(name) => Lookup::Column(column_at(schema.columns(), name)),
+            Col::Name(name) => Lookup::Column(column_at(shape.columns(), name)),
             Col::Left(_) | Col::Right(_) => Lookup::Nowhere,
         }
     }

@@ -1,21 +1,18 @@
 //! From a scan to the spots that WHERE takes, and from a group to a row of an answer.
 
 ghost use Rattle.std.specs.Prelude.{◌≡◌, ◌++◌, ◌∷◌, [], if◌then◌else◌, IfOk, OnOk, filter, length, map};
-ghost use Rattle.ov_fetch.specs.Scans.{rows_of};
-ghost use Rattle.ov_model.specs.Answers.{row_cells, row_of};
-ghost use Rattle.ov_terms.specs.Finding.{IsGuardOfRow, found_term, is_taken, shown_by, verdicts};
-ghost use Rattle.ov_terms.specs.Standing.{pair_at, pairs_at, pairs_in, spots_in};
+ghost use Rattle.ov_model.specs.Answers.{row_of};
+ghost use Rattle.ov_terms.specs.Finding.{IsGuardOfRow, found_term, in_version, is_taken, shown_by, verdicts};
+ghost use Rattle.ov_terms.specs.Standing.{pair_at, pairs_at, pairs_among, spots_in};
 
 use crate::found_cond::FoundCond;
 use crate::found_items::FoundItems;
 use crate::found_term::FoundTerm;
 use crate::of_rows::is_guard_of_row;
-use crate::seen::value_of;
 use crate::spot::Spot;
 use crate::table::Table;
 use ov_fetch::Pick;
 use ov_model::{Cell, Seq};
-use ov_value::Cells;
 use std::alloc::{AllocError, Global};
 use std::slice;
 
@@ -31,10 +28,10 @@ fn push_if(taken: bool, spot: Spot, kept: &mut Vec<Spot>) -> Result<(), AllocErr
 impl<'a> Table<'a> {
     // Whether WHERE takes each record, where it says the same of it in every version.
     fn verdicts(&self, alloc: Global, guard: &'a Option<FoundCond>) -> Result<Vec<bool>, AllocError>
-        ensures { IfOk result (λ made. made.items ≡ verdicts guard.now (rows_of self.now.records.now)) }
+        ensures { IfOk result (λ made. made.items ≡ verdicts guard.now self.now) }
     {
-        let mut made = Vec::with_capacity(alloc, self.records.len())?;
-        for place in 0..self.records.len() {
+        let mut made = Vec::with_capacity(alloc, self.len())?;
+        for place in 0..self.len() {
             let spot = Spot { vid: 0, place };
             made.push(self.holds(slice::from_ref(&spot), guard))?;
         }
@@ -53,14 +50,30 @@ impl<'a> Table<'a> {
         guard: &'a Option<FoundCond>,
     ) -> Result<Vec<Spot>, AllocError>
         requires { length vids.now ≡ length picks.now }
-        ensures { IfOk result (λ kept. pairs_at self.now.records.now kept.items
-            ≡ filter (is_taken guard.now) (pairs_in self.now.records.now vids.now picks.now)) }
+        ensures { IfOk result (λ kept. pairs_at self.now kept.items
+            ≡ filter (is_taken guard.now) (pairs_among self.now vids.now picks.now)) }
     {
         if is_guard_of_row(guard) {
             self.kept_by_record(alloc, vids, picks, guard)
         } else {
             self.kept_by_spot(alloc, vids, picks, guard)
         }
+    }
+
+    /// The spots of the rows that WHERE takes, each of version 0, in their order.
+    pub fn kept_rows(
+        &self,
+        alloc: Global,
+        guard: &'a Option<FoundCond>,
+    ) -> Result<Vec<Spot>, AllocError>
+        ensures { IfOk result (λ kept. pairs_at self.now kept.items ≡ filter (is_taken guard.now) (map (in_version 0) self.now)) }
+    {
+        let mut kept = Vec::new(alloc);
+        for place in 0..self.len() {
+            let spot = Spot { vid: 0, place };
+            push_if(self.holds(slice::from_ref(&spot), guard), spot, &mut kept)?;
+        }
+        Ok(kept)
     }
 
     // The spots that a WHERE takes which says the same of a row in every version.
@@ -73,8 +86,8 @@ impl<'a> Table<'a> {
     ) -> Result<Vec<Spot>, AllocError>
         requires paired { length vids.now ≡ length picks.now }
         requires same { IsGuardOfRow guard.now }
-        ensures { IfOk result (λ kept. pairs_at self.now.records.now kept.items
-            ≡ filter (is_taken guard.now) (pairs_in self.now.records.now vids.now picks.now)) }
+        ensures { IfOk result (λ kept. pairs_at self.now kept.items
+            ≡ filter (is_taken guard.now) (pairs_among self.now vids.now picks.now)) }
     {
         let verdicts = self.verdicts(alloc, guard)?;
         let mut kept = Vec::new(alloc);
@@ -99,8 +112,8 @@ impl<'a> Table<'a> {
         guard: &'a Option<FoundCond>,
     ) -> Result<Vec<Spot>, AllocError>
         requires { length vids.now ≡ length picks.now }
-        ensures { IfOk result (λ kept. pairs_at self.now.records.now kept.items
-            ≡ filter (is_taken guard.now) (pairs_in self.now.records.now vids.now picks.now)) }
+        ensures { IfOk result (λ kept. pairs_at self.now kept.items
+            ≡ filter (is_taken guard.now) (pairs_among self.now vids.now picks.now)) }
     {
         let mut kept = Vec::new(alloc);
         for (i, pick) in picks.iter().enumerate() {
@@ -112,8 +125,8 @@ impl<'a> Table<'a> {
     // Whether WHERE takes a spot, by what it says of the records.
     fn is_taken(&self, spot: Spot, guard: &'a Option<FoundCond>, said: &[bool]) -> bool
         requires same { IsGuardOfRow guard.now }
-        requires said { said.now ≡ verdicts guard.now (rows_of self.now.records.now) }
-        ensures { result ≡ is_taken guard.now (pair_at self.now.records.now spot) }
+        requires said { said.now ≡ verdicts guard.now self.now }
+        ensures { result ≡ is_taken guard.now (pair_at self.now spot) }
     {
         match said.get(spot.place) {
             Some(taken) => *taken,
@@ -131,9 +144,9 @@ impl<'a> Table<'a> {
         kept: &mut Vec<Spot>,
     ) -> Result<(), AllocError>
         requires same { IsGuardOfRow guard.now }
-        requires said { said.now ≡ verdicts guard.now (rows_of self.now.records.now) }
-        ensures { OnOk result (pairs_at self.now.records.now kept.new.items
-            ≡ pairs_at self.now.records.now kept.old.items ++ filter (is_taken guard.now) (pairs_at self.now.records.now (spots_in vid places.now))) }
+        requires said { said.now ≡ verdicts guard.now self.now }
+        ensures { OnOk result (pairs_at self.now kept.new.items
+            ≡ pairs_at self.now kept.old.items ++ filter (is_taken guard.now) (pairs_at self.now (spots_in vid places.now))) }
     {
         for place in places {
             let spot = Spot { vid, place: *place };
@@ -151,8 +164,8 @@ impl<'a> Table<'a> {
         guard: &'a Option<FoundCond>,
         kept: &mut Vec<Spot>,
     ) -> Result<(), AllocError>
-        ensures { OnOk result (pairs_at self.now.records.now kept.new.items
-            ≡ pairs_at self.now.records.now kept.old.items ++ filter (is_taken guard.now) (pairs_at self.now.records.now (spots_in vid places.now))) }
+        ensures { OnOk result (pairs_at self.now kept.new.items
+            ≡ pairs_at self.now kept.old.items ++ filter (is_taken guard.now) (pairs_at self.now (spots_in vid places.now))) }
     {
         for place in places {
             let spot = Spot { vid, place: *place };
@@ -169,7 +182,7 @@ impl<'a> Table<'a> {
         group: &[Spot],
         items: &FoundItems,
     ) -> Result<Seq<Cell>, AllocError>
-        ensures { IfOk result (λ cells. cells ≡ shown_by items.now (pairs_at self.now.records.now group.now)) }
+        ensures { IfOk result (λ cells. cells ≡ shown_by items.now (pairs_at self.now group.now)) }
     {
         match items {
             FoundItems::Everything => self.row(alloc, group),
@@ -179,17 +192,11 @@ impl<'a> Table<'a> {
 
     // The values of a group's first row; none of an empty group.
     fn row(&self, alloc: Global, group: &[Spot]) -> Result<Seq<Cell>, AllocError>
-        ensures { IfOk result (λ cells. cells ≡ row_of (pairs_at self.now.records.now group.now)) }
+        ensures { IfOk result (λ cells. cells ≡ row_of (pairs_at self.now group.now)) }
     {
         match group {
             [] => Ok(Seq::new(alloc)),
-            [spot, ..] => {
-                if spot.place < self.records.len() {
-                    cells_of(alloc, self.records.row(spot.place).cells())
-                } else {
-                    Ok(Seq::new(alloc))
-                }
-            }
+            [spot, ..] => self.cells(alloc, spot.place),
         }
     }
 
@@ -199,7 +206,7 @@ impl<'a> Table<'a> {
         group: &[Spot],
         terms: &[FoundTerm],
     ) -> Result<Seq<Cell>, AllocError>
-        ensures { IfOk result (λ cells. cells ≡ map (found_term (pairs_at self.now.records.now group.now)) terms.now) }
+        ensures { IfOk result (λ cells. cells ≡ map (found_term (pairs_at self.now group.now)) terms.now) }
     {
         let mut cells = Vec::with_capacity(alloc, terms.len())?;
         for term in terms {
@@ -207,15 +214,4 @@ impl<'a> Table<'a> {
         }
         Ok(Seq::from_vec(cells))
     }
-}
-
-fn cells_of(alloc: Global, row: Cells<'_>) -> Result<Seq<Cell>, AllocError>
-    ensures { IfOk result (λ cells. cells ≡ row_cells row.entry) }
-{
-    let mut left = row;
-    let mut cells = Vec::new(alloc);
-    while let Some(cell) = left.next() {
-        cells.push(Cell::Value(value_of(alloc, cell)?))?;
-    }
-    Ok(Seq::from_vec(cells))
 }

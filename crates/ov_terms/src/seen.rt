@@ -1,12 +1,12 @@
 //! What a term is over a group.
 
-ghost use Rattle.std.specs.Prelude.{◌≡◌, IfOk};
-ghost use Rattle.ov_model.specs.Answers.{is_null_cell};
+ghost use Rattle.std.specs.Prelude.{◌≡◌, ◌++◌, IfOk, OnOk};
+ghost use Rattle.ov_model.specs.Answers.{is_null_cell, row_cells};
 ghost use Rattle.ov_value.specs.Cells.{value_of};
 ghost use Rattle.ov_terms.specs.Seeing.{cell_of};
 
 use ov_model::Cell;
-use ov_value::{CellRef, Txt, Value};
+use ov_value::{CellRef, Cells, Txt, Value};
 use std::alloc::{AllocError, Global};
 
 /// What a term is over a group, without a copy.
@@ -67,4 +67,19 @@ pub(crate) fn value_of(alloc: Global, cell: CellRef<'_>) -> Result<Value, AllocE
         CellRef::Flag(flag) => Ok(Value::Flag(flag)),
         CellRef::Null => Ok(Value::Null),
     }
+}
+
+/// Adds the values of a row.
+pub(crate) fn push_cells(
+    alloc: Global,
+    row: Cells<'_>,
+    cells: &mut Vec<Cell>,
+) -> Result<(), AllocError>
+    ensures { OnOk result (cells.new.items ≡ cells.old.items ++ row_cells row.entry) }
+{
+    let mut left = row;
+    while let Some(cell) = left.next() {
+        cells.push(Cell::Value(value_of(alloc, cell)?))?;
+    }
+    Ok(())
 }

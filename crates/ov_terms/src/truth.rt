@@ -18,7 +18,7 @@ use ov_model::Sign;
 
 impl<'a> Table<'a> {
     fn operand(&self, group: &[Spot], operand: &'a FoundOperand) -> Seen<'a>
-        ensures { cell_of result ≡ found_operand (pairs_at self.now.records.now group.now) operand.now }
+        ensures { cell_of result ≡ found_operand (pairs_at self.now group.now) operand.now }
     {
         match operand {
             FoundOperand::Term(term) => self.term(group, *term),
@@ -33,8 +33,8 @@ impl<'a> Table<'a> {
         sign: Sign,
         right: &'a FoundOperand,
     ) -> Option<bool>
-        ensures { result ≡ compared sign (cell_order (found_operand (pairs_at self.now.records.now group.now) left.now)
-            (found_operand (pairs_at self.now.records.now group.now) right.now)) }
+        ensures { result ≡ compared sign (cell_order (found_operand (pairs_at self.now group.now) left.now)
+            (found_operand (pairs_at self.now group.now) right.now)) }
     {
         let left = self.operand(group, left);
         let right = self.operand(group, right);
@@ -43,7 +43,7 @@ impl<'a> Table<'a> {
 
     // Whether the version of a group is one of these.
     fn is_among(&self, group: &[Spot], vids: &[u32]) -> bool
-        ensures { result ≡ is_among (pairs_at self.now.records.now group.now) vids.now }
+        ensures { result ≡ is_among (pairs_at self.now group.now) vids.now }
     {
         match group {
             [] => false,
@@ -54,7 +54,7 @@ impl<'a> Table<'a> {
     /// What a condition says of a group: true, false, or none where it is unknown.
     #[cycle(truth)]
     pub fn truth(&self, group: &[Spot], cond: &'a FoundCond) -> Option<bool>
-        ensures { result ≡ found_truth (pairs_at self.now.records.now group.now) cond.now }
+        ensures { result ≡ found_truth (pairs_at self.now group.now) cond.now }
     {
         found_by_cases();
         match cond {
@@ -74,7 +74,7 @@ impl<'a> Table<'a> {
 
     #[cycle(truth)]
     fn every(&self, group: &[Spot], conds: &'a [FoundCond]) -> Option<bool>
-        ensures { result ≡ truth_every (map (found_truth (pairs_at self.now.records.now group.now)) conds.now) }
+        ensures { result ≡ truth_every (map (found_truth (pairs_at self.now group.now)) conds.now) }
     {
         let mut truth = Some(true);
         for cond in conds {
@@ -88,7 +88,7 @@ impl<'a> Table<'a> {
 
     #[cycle(truth)]
     fn any(&self, group: &[Spot], conds: &'a [FoundCond]) -> Option<bool>
-        ensures { result ≡ truth_any (map (found_truth (pairs_at self.now.records.now group.now)) conds.now) }
+        ensures { result ≡ truth_any (map (found_truth (pairs_at self.now group.now)) conds.now) }
     {
         let mut truth = Some(false);
         for cond in conds {
@@ -102,7 +102,7 @@ impl<'a> Table<'a> {
 
     /// Whether WHERE or HAVING takes a group: it isn't there, or it is true.
     pub fn holds(&self, group: &[Spot], guard: &'a Option<FoundCond>) -> bool
-        ensures { result ≡ found_holds guard.now (pairs_at self.now.records.now group.now) }
+        ensures { result ≡ found_holds guard.now (pairs_at self.now group.now) }
     {
         match guard {
             None => true,

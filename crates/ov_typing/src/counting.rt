@@ -25,7 +25,8 @@ fn same_or(nth: u64, left: Kind, right: Kind) -> Result<u64, TypeErr>
     }
 }
 
-fn compared(
+/// The number of the comparison behind this one, or the refusal of this one.
+pub fn compared(
     alloc: Global,
     place: &Place<'_>,
     nth: u64,
@@ -81,8 +82,8 @@ fn count_all(alloc: Global, place: &Place<'_>, conds: &[Cond], nth: u64) -> Resu
     Ok(next)
 }
 
-/// The same of WHERE or HAVING, where it is there.
-pub(crate) fn guard_counts(
+/// What WHERE or HAVING, where it is there, does to the number of the comparison that comes next, or its first refusal.
+pub fn guard_counts(
     alloc: Global,
     place: &Place<'_>,
     guard: &Option<Cond>,

@@ -50,7 +50,7 @@ fn is_by_aggregate(keys: &[Key]) -> bool
 }
 
 /// Whether a query is grouped: it has GROUP BY, or an aggregate among its items or in its order.
-pub(crate) fn is_grouped(query: &Query) -> bool
+pub fn is_grouped(query: &Query) -> bool
     ensures { result ≡ is_grouped query.now }
 {
     query.groups.len() != 0

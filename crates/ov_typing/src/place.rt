@@ -2,21 +2,22 @@
 
 ghost use Rattle.std.specs.Prelude.{◌≡◌, IfOk, IfSome};
 ghost use Rattle.std.specs.List.{list_any};
-ghost use Rattle.ov_model.specs.Kinds.{is_same_col, name_of, kind_named, col_kind, grouped_or, int_or, term_kind, literal_kind, operand_kind};
+ghost use Rattle.ov_model.specs.Kinds.{is_same_col, name_of, kind_named, col_kind, grouped_or, int_or, term_kind, literal_kind, operand_kind, plain_place};
 ghost use Rattle.ov_model.specs.declared.refusal.Refusal.TheVariants.{UnknownColumn};
 ghost use Rattle.ov_typing.specs.Refusing.{Gives, refusal_of};
 
 use crate::grouping::is_same_col;
+use crate::shape::Shape;
 use crate::type_err::TypeErr;
 use ov_model::{Col, Operand, Term};
-use ov_value::{Column, Kind, Schema, Txt, Value};
+use ov_value::{Column, Kind, Txt, Value};
 use std::alloc::{AllocError, Global};
 use std::marker::Model;
 
-/// The schema, whether plain columns have to be grouped, and the columns that are.
+/// The columns of the rows, whether plain columns have to be grouped, and the columns that are.
 #[derive(Drop)]
-pub(crate) struct Place<'a> {
-    pub(crate) schema: &'a Schema,
+pub struct Place<'a> {
+    pub(crate) shape: &'a Shape<'a>,
     pub(crate) grouped: bool,
     pub(crate) groups: &'a [Col],
 }
@@ -26,17 +27,28 @@ impl<'a> Model for Place<'a> {
 
     ghost Value = { Standing };
 
-    ghost view = { λ p. record { schema = p.schema.now; grouped = p.grouped; groups = p.groups.now } };
+    ghost view = { λ p. record { schema = p.shape.now; grouped = p.grouped; groups = p.groups.now } };
 }
 
 impl<'a> Place<'a> {
+    /// Where no column has to be grouped, as in WHERE and anywhere in a join.
+    pub fn plain(shape: &'a Shape<'a>) -> Place<'a>
+        ensures { result ≡ plain_place shape.now }
+    {
+        Place {
+            shape,
+            grouped: false,
+            groups: &[],
+        }
+    }
+
     /// The kind of a column.
     pub(crate) fn col_kind(&self, alloc: Global, col: &Col) -> Result<Kind, TypeErr>
         ensures { Gives result (col_kind self.now.schema col.now) }
     {
         match col {
             Col::Vid => Ok(Kind::Int),
-            Col::Name(name) => match kind_named(self.schema.columns(), name) {
+            Col::Name(name) => match kind_named(self.shape.columns(), name) {
                 Some(kind) => Ok(kind),
                 None => Err(unknown(alloc, name)),
             },

@@ -9,6 +9,7 @@ use crate::counting::guard_counts;
 use crate::fitting::Typed;
 use crate::grouping::is_grouped;
 use crate::place::Place;
+use crate::shape::Shape;
 use crate::type_err::TypeErr;
 use ov_model::{Col, Items, Key, Query, Seq, Term};
 use ov_value::{Column, Kind, Schema, Txt};
@@ -34,17 +35,13 @@ pub fn typed<'a>(alloc: Global, query: &'a Query, schema: &'a Schema) -> Result<
 fn kinds(alloc: Global, query: &Query, schema: &Schema) -> Result<Seq<Kind>, TypeErr>
     ensures { Gives result (kinds query.now schema.now) }
 {
+    let shape = Shape::of(schema);
     let place = Place {
-        schema,
+        shape: &shape,
         grouped: is_grouped(query),
         groups: query.groups.as_slice(),
     };
-    // In WHERE no column has to be grouped.
-    let plain = Place {
-        schema,
-        grouped: false,
-        groups: &[],
-    };
+    let plain = Place::plain(&shape);
     let kinds = items_kinds(alloc, &place, &query.items)?;
     let nth = guard_counts(alloc, &plain, &query.filter, 1)?;
     take_cols(alloc, &plain, query.groups.as_slice())?;
@@ -53,15 +50,15 @@ fn kinds(alloc: Global, query: &Query, schema: &Schema) -> Result<Seq<Kind>, Typ
     Ok(kinds)
 }
 
-// The kinds of the items, or their first refusal.
-fn items_kinds(alloc: Global, place: &Place<'_>, items: &Items) -> Result<Seq<Kind>, TypeErr>
+/// The kinds of the items, or their first refusal.
+pub fn items_kinds(alloc: Global, place: &Place<'_>, items: &Items) -> Result<Seq<Kind>, TypeErr>
     ensures { Gives result (items_kinds place.now items.now) }
 {
     match items {
         Items::Everything if place.grouped => Err(TypeErr::NotGrouped {
             name: Txt::new(alloc, "*")?,
         }),
-        Items::Everything => Ok(all_kinds(alloc, place.schema.columns())?),
+        Items::Everything => Ok(all_kinds(alloc, place.shape.columns())?),
         Items::Terms(terms) => terms_kinds(alloc, place, terms.as_slice()),
     }
 }
@@ -96,8 +93,8 @@ fn take_cols(alloc: Global, place: &Place<'_>, cols: &[Col]) -> Result<(), TypeE
     Ok(())
 }
 
-// The keys of ORDER BY.
-fn take_keys(alloc: Global, place: &Place<'_>, keys: &[Key]) -> Result<(), TypeErr>
+/// Whether the keys of ORDER BY have kinds, or their first refusal.
+pub fn take_keys(alloc: Global, place: &Place<'_>, keys: &[Key]) -> Result<(), TypeErr>
     ensures { Takes result (terms_kinds place.now (map (λ key. key.term) keys.now)) }
 {
     for key in keys {

@@ -6,5 +6,5 @@ use Rattle.ov_qrun.proofs.groups.first_run.Given as goal
 -- the spots before this place have the same values
 abbrev pub invariant-loop-at : goal.invariant-loop-at
 invariant-loop-at l =
-    run_len (has_same_key l.table.records.now l.cols) l.spots
-    ≡ (l.at - 1) + run_len (has_same_key l.table.records.now l.cols) (drop (l.at - 1) l.spots)
+    run_len (has_same_key l.table l.cols) l.spots
+    ≡ (l.at - 1) + run_len (has_same_key l.table l.cols) (drop (l.at - 1) l.spots)

@@ -12,7 +12,7 @@ use Rattle.ov_qrun.proofs.groups.sort_spots.Goals as goal
 
 pub returns-in_ok-sort_by : goal.returns-in_ok-sort_by
 returns-in_ok-sort_by c =
-    let records = c.args.table.now.records.now in
+    let records = c.args.table.now in
     let cols = c.args.cols.now in
     let total = on_total (key_at records cols) lists-total in
     one-sort (spot_order records cols) total _ _
@@ -21,4 +21,4 @@ returns-in_ok-sort_by c =
 
 pub returns-else-not-climb : goal.returns-else-not-climb
 returns-else-not-climb c =
-    sym (climbs-sorted (spot_order c.args.table.now.records.now c.args.cols.now) _ (sym (rw c.as_slice.ensures.value at c.climb.ensures) ∙ c.if-not-climb.false))
+    sym (climbs-sorted (spot_order c.args.table.now c.args.cols.now) _ (sym (rw c.as_slice.ensures.value at c.climb.ensures) ∙ c.if-not-climb.false))

@@ -6,4 +6,4 @@ use Rattle.ov_qrun.proofs.places.keys_over.Given as goal
 
 abbrev pub invariant-loop-term : goal.invariant-loop-term
 invariant-loop-term l =
-    map cell_of l.keys.items ≡ keys_for (take l.term-index l.order) (pairs_at l.table.records.now l.group)
+    map cell_of l.keys.items ≡ keys_for (take l.term-index l.order) (pairs_at l.table l.group)

@@ -5,4 +5,4 @@ use Rattle.ov_qrun.proofs.places.places_of.Given as goal
 abbrev pub invariant-loop-group : goal.invariant-loop-group
 invariant-loop-group l =
     (map (λ place. place.group.now) l.places.items ≡ map (λ group. group.now) (take l.group-index l.groups))
-    × (map cells_in l.places.items ≡ map (λ place. keys_for l.order (pairs_of l.table.records.now place)) l.places.items)
+    × (map cells_in l.places.items ≡ map (λ place. keys_for l.order (pairs_of l.table place)) l.places.items)

@@ -7,10 +7,10 @@ use Rattle.ov_qrun.proofs.plan.find_keys.Goals as goal
 pub loop-key-preserved : goal.loop-key-preserved
 loop-key-preserved c = λ group.
     rw c.in_ok-push.ensures.items
-    (found-more (found_term group) (λ (key : Key). term_of_group c.args.schema.now group key.term) c.loop-key.found.items c.args.order.now c.loop-key.key-index
+    (found-more (found_term group) (λ (key : Key). term_of_group c.args.shape.now group key.term) c.loop-key.found.items c.args.order.now c.loop-key.key-index
     c.of.result c.key-item.result c.loop-key-test.true c.key-item.is (c.of.ensures group) (c.loop-key.invariant group))
 
 pub returns : goal.returns
 returns c = λ group.
-    found-all (found_term group) (λ (key : Key). term_of_group c.args.schema.now group key.term) c.loop-key.found.items c.args.order.now c.loop-key.key-index
+    found-all (found_term group) (λ (key : Key). term_of_group c.args.shape.now group key.term) c.loop-key.found.items c.args.order.now c.loop-key.key-index
     c.loop-key-test.false (c.loop-key.invariant group)

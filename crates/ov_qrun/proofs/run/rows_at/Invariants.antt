@@ -5,4 +5,4 @@ use Rattle.ov_qrun.proofs.run.rows_at.Given as goal
 
 abbrev pub invariant-loop-place : goal.invariant-loop-place
 invariant-loop-place l =
-    l.rows.items ≡ map (shown_by l.items) (map (pairs_of l.table.records.now) (take l.place-index l.places))
+    l.rows.items ≡ map (shown_by l.items) (map (pairs_of l.table) (take l.place-index l.places))

@@ -10,8 +10,8 @@ use Rattle.ov_qrun.proofs.run.taken.Goals as goal
 pub returns-then-grouped : goal.returns-then-grouped
 returns-then-grouped c = λ related all is.
     let plan = c.args.plan.now in
-    let schema = plan.schema.now in
-    let records = c.args.table.now.records.now in
+    let schema = plan.shape.now in
+    let records = c.args.table.now in
     let query = plan.query.now in
     let kept = pairs_at records all in
     let having = λ (pairs : List Pair). holds (here_for schema related pairs) query.having in
@@ -25,8 +25,8 @@ returns-then-grouped c = λ related all is.
 pub returns : goal.returns
 returns c = λ related all is.
     let plan = c.args.plan.now in
-    let schema = plan.schema.now in
-    let records = c.args.table.now.records.now in
+    let schema = plan.shape.now in
+    let records = c.args.table.now in
     let query = plan.query.now in
     let kept = pairs_at records all in
     let having = λ (pairs : List Pair). holds (here_for schema related pairs) query.having in

@@ -40,10 +40,10 @@ find_cond-returns-in_ok-conds-in-Any n c = λ related group.
 pub find_conds-loop-cond-preserved : goal.find_conds-loop-cond-preserved
 find_conds-loop-cond-preserved n c = λ related group.
     rw c.in_ok-push.ensures.ok
-    (found-more (found_truth group) (truth (here_for c.args.schema.now related group)) c.loop-cond.found c.args.conds.now c.loop-cond.cond-index
+    (found-more (found_truth group) (truth (here_for c.args.shape.now related group)) c.loop-cond.found c.args.conds.now c.loop-cond.cond-index
     c.in_ok-find_cond.field-0 c.cond-item.result c.loop-cond-test.true c.cond-item.is (c.in_ok-find_cond.ensures related group) (c.loop-cond.invariant related group))
 
 pub find_conds-returns : goal.find_conds-returns
 find_conds-returns n c = λ related group.
-    found-all (found_truth group) (truth (here_for c.args.schema.now related group)) c.loop-cond.found c.args.conds.now c.loop-cond.cond-index
+    found-all (found_truth group) (truth (here_for c.args.shape.now related group)) c.loop-cond.found c.args.conds.now c.loop-cond.cond-index
     c.loop-cond-test.false (c.loop-cond.invariant related group)

@@ -6,4 +6,4 @@ use Rattle.ov_terms.proofs.found_cond.+find_cond.Given as goal
 -- the conditions before say what they say by their names
 abbrev pub invariant-find_conds-loop-cond : goal.invariant-find_conds-loop-cond
 invariant-find_conds-loop-cond l = (related : Related) (group : List Pair)
-    → map (found_truth group) l.found ≡ map (truth (here_for l.schema related group)) (take l.cond-index l.conds)
+    → map (found_truth group) l.found ≡ map (truth (here_for l.shape related group)) (take l.cond-index l.conds)

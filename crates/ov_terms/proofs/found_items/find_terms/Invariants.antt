@@ -5,4 +5,4 @@ use Rattle.ov_terms.proofs.found_items.find_terms.Given as goal
 
 -- the terms before say what they say by their names
 abbrev pub invariant-loop-term : goal.invariant-loop-term
-invariant-loop-term l = (group : List Pair) → map (found_term group) l.found.items ≡ map (term_of_group l.schema group) (take l.term-index l.terms)
+invariant-loop-term l = (group : List Pair) → map (found_term group) l.found.items ≡ map (term_of_group l.shape group) (take l.term-index l.terms)

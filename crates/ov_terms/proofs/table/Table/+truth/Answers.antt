@@ -38,13 +38,13 @@ every-returns-then-is n c = and-stops _ _ _ (c.if-is.ensures.0 refl) c.loop-cond
 
 pub every-loop-cond-preserved : goal.every-loop-cond-preserved
 every-loop-cond-preserved n c =
-    let says = found_truth (pairs_at c.args.self.now.records.now c.args.group.now) in
+    let says = found_truth (pairs_at c.args.self.now c.args.group.now) in
     rw (c.truth_and-truth.ensures, c.truth.ensures)
     (every-more says c.args.conds.now c.loop-cond.cond-index c.cond-item.result c.loop-cond.truth _ c.loop-cond-test.true c.cond-item.is c.loop-cond.invariant)
 
 pub every-returns : goal.every-returns
 every-returns n c =
-    let says = found_truth (pairs_at c.args.self.now.records.now c.args.group.now) in
+    let says = found_truth (pairs_at c.args.self.now c.args.group.now) in
     sym (c.loop-cond.invariant ∙ ap (λ l. truth_and c.loop-cond.truth (truth_every (map says l))) (drop_all _ _ c.loop-cond-test.false) ∙ and-true _)
 
 pub any-returns-then-is : goal.any-returns-then-is
@@ -52,11 +52,11 @@ any-returns-then-is n c = or-stops _ _ _ (c.if-is.ensures.0 refl) c.loop-cond.in
 
 pub any-loop-cond-preserved : goal.any-loop-cond-preserved
 any-loop-cond-preserved n c =
-    let says = found_truth (pairs_at c.args.self.now.records.now c.args.group.now) in
+    let says = found_truth (pairs_at c.args.self.now c.args.group.now) in
     rw (c.truth_or-truth.ensures, c.truth.ensures)
     (any-more says c.args.conds.now c.loop-cond.cond-index c.cond-item.result c.loop-cond.truth _ c.loop-cond-test.true c.cond-item.is c.loop-cond.invariant)
 
 pub any-returns : goal.any-returns
 any-returns n c =
-    let says = found_truth (pairs_at c.args.self.now.records.now c.args.group.now) in
+    let says = found_truth (pairs_at c.args.self.now c.args.group.now) in
     sym (c.loop-cond.invariant ∙ ap (λ l. truth_or c.loop-cond.truth (truth_any (map says l))) (drop_all _ _ c.loop-cond-test.false) ∙ or-false _)

@@ -6,5 +6,5 @@ use Rattle.ov_terms.proofs.table.Table.count.Given as goal
 abbrev pub invariant-loop-spot : goal.invariant-loop-spot
 invariant-loop-spot l =
     (l.count ≤ l.spot-index)
-    × (length (values l.self.records.now l.found l.group)
-    ≡ l.count + length (values l.self.records.now l.found (drop l.spot-index l.group)))
+    × (length (values l.self l.found l.group)
+    ≡ l.count + length (values l.self l.found (drop l.spot-index l.group)))

@@ -8,5 +8,5 @@ use Rattle.ov_terms.proofs.table.Table.greatest.Given as goal
 abbrev pub invariant-loop-spot : goal.invariant-loop-spot
 invariant-loop-spot l =
     IsBest (cell_of l.greatest)
-    × (first_by greatest_from (values l.self.records.now l.found l.group)
-    ≡ onward greatest_from (cell_of l.greatest) (values l.self.records.now l.found (drop l.spot-index l.group)))
+    × (first_by greatest_from (values l.self l.found l.group)
+    ≡ onward greatest_from (cell_of l.greatest) (values l.self l.found (drop l.spot-index l.group)))

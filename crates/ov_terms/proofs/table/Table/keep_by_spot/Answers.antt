@@ -6,10 +6,10 @@ use Rattle.ov_terms.proofs.table.Table.keep_by_spot.Goals as goal
 pub loop-place-preserved : goal.loop-place-preserved
 loop-place-preserved c =
     rw c.in_ok-push_if.ensures
-    (kept-more (is_taken c.args.guard.now) c.args.self.now.records.now c.loop-place.kept.items c.args.vid c.args.places.now c.loop-place.place-index _
+    (kept-more (is_taken c.args.guard.now) c.args.self.now c.loop-place.kept.items c.args.vid c.args.places.now c.loop-place.place-index _
     c.holds-taken.result _ c.loop-place-test.true (rw c.from_ref.ensures.value at c.holds-taken.ensures) c.loop-place.invariant)
 
 pub returns : goal.returns
 returns c =
-    kept-all (is_taken c.args.guard.now) c.args.self.now.records.now c.loop-place.kept.items c.args.vid c.args.places.now c.loop-place.place-index _
+    kept-all (is_taken c.args.guard.now) c.args.self.now c.loop-place.kept.items c.args.vid c.args.places.now c.loop-place.place-index _
     c.loop-place-test.false c.loop-place.invariant

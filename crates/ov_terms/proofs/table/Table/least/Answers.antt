@@ -7,6 +7,6 @@ use Rattle.ov_terms.proofs.table.Table.least.Goals as goal
 pub loop-spot-preserved : goal.loop-spot-preserved
 loop-spot-preserved c =
     let before = c.loop-spot.invariant in
-    let here = values-more c.args.self.now.records.now c.args.found c.args.group.now c.loop-spot.spot-index _ c.loop-spot-test.true in
+    let here = values-more c.args.self.now c.args.found c.args.group.now c.loop-spot.spot-index _ c.loop-spot-test.true in
     let step = least-more _ _ _ before.0 in
     rw (c.lesser-least.ensures, c.value_at.ensures) (step.0, before.1 ∙ ap (onward least_from _) here ∙ step.1)

@@ -8,5 +8,5 @@ use Rattle.ov_terms.proofs.table.Table.least.Given as goal
 abbrev pub invariant-loop-spot : goal.invariant-loop-spot
 invariant-loop-spot l =
     IsBest (cell_of l.least)
-    × (first_by least_from (values l.self.records.now l.found l.group)
-    ≡ onward least_from (cell_of l.least) (values l.self.records.now l.found (drop l.spot-index l.group)))
+    × (first_by least_from (values l.self l.found l.group)
+    ≡ onward least_from (cell_of l.least) (values l.self l.found (drop l.spot-index l.group)))

@@ -7,7 +7,7 @@ use Rattle.ov_terms.proofs.table.Table.sum.Goals as goal
 
 pub loop-spot-preserved : goal.loop-spot-preserved
 loop-spot-preserved c =
-    let records = c.args.self.now.records.now in
+    let records = c.args.self.now in
     let found = c.args.found in
     let group = c.args.group.now in
     let i = c.loop-spot.spot-index in
