@@ -7,3 +7,4 @@ pub mod SegmentSets
 pub mod Partitions
 pub mod VersionLists
 pub mod Making
+pub mod Tables

@@ -21,7 +21,7 @@ use Rattle.ov_catalog.specs.Numbers.{PartNumbers}
 use Rattle.ov_catalog.specs.Sets.{part_in, set_in}
 use Rattle.ov_read.specs.Sizes.{pages_in, segment_bytes_for, serves_one}
 use Rattle.ov_targets.specs.declared.candidates.Partition.{Partition}
-use Rattle.ov_optimize.specs.Damages.{RefusesPartition, RefusesPlan}
+use Rattle.ov_optimize.specs.Damages.{RefusesPartition, RefusesParts}
 use Rattle.ov_optimize.specs.Reading.{IsPartitionAt, IsPartitionOf}
 use Rattle.ov_optimize.proofs.RidSets.{or_right}
 use Rattle.ov_optimize.proofs.Vids.{parts_there}
@@ -70,15 +70,15 @@ is_listed (p ∷ parts) (suc k) part low is = inr (is_listed parts k part (omega
 
 pub stops : (s0 s1 : State) (d : Cvd) (some : List Part) (k : ℕ) (part : Part) (partitions : List Partition) (e : FetchErr) → HasPartitions s0 s1 d some partitions
     → k < length d.layout.parts → part ≡ get_or d.layout.parts k part → (s1.tells ≡ true → RefusesPartition e (page_bytes s1) (set_in d) (part_in part)) → s0.tells ≡ true
-    → RefusesPlan e (page_bytes s0) (set_in d)
+    → RefusesParts e (page_bytes s0) (set_in d)
 stops s0 s1 d some k part partitions Host h low is refuses told = tt
 stops s0 s1 d some k part partitions Memory h low is refuses told = tt
 stops s0 s1 d some k part partitions (Damaged page) h low is refuses told =
-    inr (inr (record {
+    record {
       part = part_in part;
       among = is_listed d.layout.parts k part low is;
       bad = subst (λ (a : List ℕ). RefusesPartition (Damaged page) a (set_in d) (part_in part)) (same_pages s0 s1 h.looked told) (refuses (h.looked.told ∙ told));
-    }))
+    }
 
 -- ---- each partition has a version, and so is read
 

@@ -17,7 +17,7 @@ use Rattle.ov_read.specs.Agreement.{Agrees, IsThere, Numbers, list_of}
 use Rattle.ov_read.specs.Damages.{RefusesLists}
 use Rattle.ov_read.proofs.Gatherings.{zip_at, zip_length}
 use Rattle.ov_read.proofs.Numbered.{list_is}
-use Rattle.ov_optimize.specs.Damages.{RefusesPlan}
+use Rattle.ov_optimize.specs.Damages.{RefusesAllLists, RefusesParts, RefusesPlan}
 use Rattle.ov_optimize.specs.Reading.{IsListAt, IsListOf, all_vids}
 use Rattle.ov_optimize.proofs.Applying.{vid_at}
 
@@ -53,20 +53,32 @@ are_at area s (v ∷ vs) (l ∷ lists) are is = (record { list = are.0; is = is.
 pub lists_count : (s : Numbers) (lists : List (List ℕ)) → AllZip (Agrees s) (all_vids s) lists → length lists ≡ length s.versions
 lists_count s lists are = zip_length (Agrees s) (all_vids s) lists are ∙ length-range_with_len 1 (length s.versions)
 
-pub lists_refuse : (e : FetchErr) (area : List ℕ) (s : Numbers) → RefusesLists e area s (all_vids s) → RefusesPlan e area s
+pub lists_refuse : (e : FetchErr) (area : List ℕ) (s : Numbers) → RefusesLists e area s (all_vids s) → RefusesAllLists e area s
 lists_refuse Host area s why = tt
 lists_refuse Memory area s why = tt
 lists_refuse (Damaged page) area s why = inl why
 
+-- what refuses the lists, or the partitions, refuses a plan
+pub lists_refuse_plan : (e : FetchErr) (area : List ℕ) (s : Numbers) → RefusesAllLists e area s → RefusesPlan e area s
+lists_refuse_plan Host area s why = tt
+lists_refuse_plan Memory area s why = tt
+lists_refuse_plan (Damaged page) area s (inl bad) = inl bad
+lists_refuse_plan (Damaged page) area s (inr high) = inr (inl high)
+
+pub parts_refuse_plan : (e : FetchErr) (area : List ℕ) (s : Numbers) → RefusesParts e area s → RefusesPlan e area s
+parts_refuse_plan Host area s why = tt
+parts_refuse_plan Memory area s why = tt
+parts_refuse_plan (Damaged page) area s bad = inr (inr bad)
+
 pub high_one : (area : List ℕ) (d : Cvd) (lists : List (List ℕ)) (at : ℕ) (v : Version) → AllZip (λ vid. IsList area (list_of (set_in d) vid)) (all_vids (set_in d)) lists
     → (All (λ rid. rid ≤ d.records) (get_or lists at []) → ⊥) → at < length d.versions.items → v ≡ get_or d.versions.items at v
-    → RefusesPlan (Damaged v.list.page) area (set_in d)
+    → RefusesAllLists (Damaged v.list.page) area (set_in d)
 high_one area d lists at v are high low is =
     let long : length (map version_in d.versions.items) ≡ length d.versions.items = length-map d.versions.items version_in in
     let short : at < length (map version_in d.versions.items) = omega (arith, long, low) in
     let here : get_or (all_vids (set_in d)) at 0 ≡ 1 + at = vid_at 1 (length (map version_in d.versions.items)) at 0 short in
     let next : 1 + at - 1 ≡ at = omega arith in
-    inr (inl (record {
+    inr (record {
       vid = 1 + at;
       there = (omega arith, omega (arith, short));
       rids = get_or lists at [];
@@ -74,4 +86,4 @@ high_one area d lists at v are high low is =
           (zip_at (λ vid. IsList area (list_of (set_in d) vid)) (all_vids (set_in d)) lists at 0 [] are (omega (arith, short, length-range_with_len 1 (length (map version_in d.versions.items)))));
       high = high;
       page_is = ap (λ (e : Extent). e.page) (sym (list_is d (1 + at) v (omega (arith, low)) (subst (λ n. v ≡ get_or d.versions.items n v) (sym next) is)));
-    }))
+    })

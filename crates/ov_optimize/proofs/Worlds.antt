@@ -139,7 +139,7 @@ module _ (w : World) (ds : Dataset) (area : List ℕ) (s : Numbers) (of : IsSetO
   fact : Facts ds
   fact = facts w area s ds of
 
-  graph_same : events.graph_of s.versions ≡ plans.graph_of ds.cvd.versions []
+  pub graph_same : events.graph_of s.versions ≡ plans.graph_of ds.cvd.versions []
   graph_same =
       sym (graph_each (readings_of area).list s.versions) ∙ ap events.graph_of (ap (λ x. x.versions) of.shows)
       ∙ graph_each Some (shown_versions all [] ds.cvd.versions) ∙ graph_shown all [] ds.cvd.versions
@@ -152,7 +152,7 @@ module _ (w : World) (ds : Dataset) (area : List ℕ) (s : Numbers) (of : IsSetO
   abbrev PartsShow : List (PartNumbers Extent) → List Part → Type 0
   PartsShow ps qs = map (each_part (readings_of area).segment) ps ≡ map (each_part Some) (map (shown_part (order_of ds.cvd.versions)) qs)
 
-  lists_are : (lists : List (List ℕ)) → AllZip (IsListAt area s) (all_vids s) lists → lists ≡ map (list_of all) (recs ds.cvd.versions [])
+  pub lists_are : (lists : List (List ℕ)) → AllZip (IsListAt area s) (all_vids s) lists → lists ≡ map (list_of all) (recs ds.cvd.versions [])
   lists_are lists are =
       lists_shown w ds area s (all_vids s) lists of (all_there s) (alone (all_vids s) lists are)
       ∙ ap (λ n. map (rids_in ds) (range_with_len 1 n)) count

@@ -1,6 +1,8 @@
 -- What is damaged of what is read for a plan, and which page names it.
 --     HasHighRid area s page      a version's list has a rid over the number of the dataset's records
 --     IsBadPart area s part page      a partition is damaged, or doesn't bear out its numbers
+--     IsListDamage area s page      a version's list is damaged, or has such a rid
+--     RefusesAllLists e area s, RefusesParts e area s      why the lists, or the partitions, aren't had
 --     RefusesPlan e area s      why there is no plan
 use Rattle.std.specs.Prelude.{◌≡◌, ◌⊎◌, ◌≤◌, ℕ, List, []}
 use Rattle.std.specs.List.{All, Contains}
@@ -49,6 +51,21 @@ pub record HasBadPart (area : List ℕ) (s : Numbers) (page : ℕ) : Type 0 wher
   pub part : PartNumbers Extent
   pub among : IsIn s.parts part
   pub bad : IsBadPart area s part page
+
+abbrev pub IsListDamage : List ℕ → Numbers → ℕ → Type 0
+IsListDamage area s page = HasBadList area s (all_vids s) page ⊎ HasHighRid area s page
+
+-- of the lists of all versions alone
+abbrev pub RefusesAllLists : FetchErr → List ℕ → Numbers → Type 0
+RefusesAllLists Host area s = Unit {0}
+RefusesAllLists Memory area s = Unit {0}
+RefusesAllLists (Damaged page) area s = IsListDamage area s page
+
+-- of the partitions alone
+abbrev pub RefusesParts : FetchErr → List ℕ → Numbers → Type 0
+RefusesParts Host area s = Unit {0}
+RefusesParts Memory area s = Unit {0}
+RefusesParts (Damaged page) area s = HasBadPart area s page
 
 abbrev pub IsPlanDamage : List ℕ → Numbers → ℕ → Type 0
 IsPlanDamage area s page = HasBadList area s (all_vids s) page ⊎ HasHighRid area s page ⊎ HasBadPart area s page

@@ -8,7 +8,7 @@ ghost use Rattle.ov_member.specs.Rids.{AreRids};
 ghost use Rattle.ov_catalog.specs.Sets.{set_in};
 ghost use Rattle.ov_fetch.specs.Extents.{Looked, page_bytes};
 ghost use Rattle.ov_read.specs.Sizes.{list_bytes_for};
-ghost use Rattle.ov_optimize.specs.Damages.{RefusesPlan};
+ghost use Rattle.ov_optimize.specs.Damages.{RefusesAllLists};
 ghost use Rattle.ov_optimize.specs.Reading.{IsListAt, IsListOf, all_vids};
 
 use ov_catalog::Cvd;
@@ -59,11 +59,7 @@ fn first_over(lists: &[Members], last: u32) -> Option<usize>
 
 /// The lists of all versions, in their order, each read once. `Damaged` where one of them is short, off its grammar, or doesn't agree
 /// with its version's numbers, or has a rid that the dataset doesn't have.
-pub(crate) fn all_lists<H: Host>(
-    alloc: Global,
-    host: &mut H,
-    d: &Cvd,
-) -> Result<Vec<Members>, FetchErr>
+pub fn all_lists<H: Host>(alloc: Global, host: &mut H, d: &Cvd) -> Result<Vec<Members>, FetchErr>
     requires { length d.now.versions.items ≤ 65535 }
     ensures looked { Looked (H.state host.old) (H.state host.new) }
     ensures cause { IsErrOf result FetchErr.Host → Rose (H.state host.old).faults (H.state host.new).faults }
@@ -71,7 +67,7 @@ pub(crate) fn all_lists<H: Host>(
     ensures listed { IfOk result (λ lists. AllZip (IsListOf (set_in d.now)) (all_vids (set_in d.now)) lists.items) }
     ensures answer { (H.state host.old).tells ≡ true → MatchResult result
         (λ lists. AllZip (IsListAt (page_bytes (H.state host.old)) (set_in d.now)) (all_vids (set_in d.now)) lists.items)
-        (λ e. RefusesPlan e (page_bytes (H.state host.old)) (set_in d.now)) }
+        (λ e. RefusesAllLists e (page_bytes (H.state host.old)) (set_in d.now)) }
 {
     let vids = vids_to(alloc, d.versions.len())?;
     let lists = lists_of(alloc, host, d, &vids)?;

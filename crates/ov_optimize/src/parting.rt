@@ -7,7 +7,7 @@ ghost use Rattle.ov_catalog.specs.Ready.{IsSet};
 ghost use Rattle.ov_catalog.specs.Sets.{part_in, set_in};
 ghost use Rattle.ov_fetch.specs.Extents.{Looked, page_bytes};
 ghost use Rattle.ov_read.specs.Sizes.{pages_in, segment_bytes_for};
-ghost use Rattle.ov_optimize.specs.Damages.{RefusesPartition, RefusesPlan};
+ghost use Rattle.ov_optimize.specs.Damages.{RefusesPartition, RefusesParts};
 ghost use Rattle.ov_optimize.specs.Reading.{IsPartitionAt, IsPartitionOf, all_vids};
 
 use crate::segments::{are_borne_out, first_page, sets_of};
@@ -62,7 +62,7 @@ pub(crate) fn all_partitions<H: Host>(
     ensures parted { IfOk result (λ partitions. AllZip (IsPartitionOf d.now.records) (map part_in d.now.layout.parts) partitions.items) }
     ensures answer { (H.state host.old).tells ≡ true → MatchResult result
         (λ partitions. AllZip (IsPartitionAt (page_bytes (H.state host.old)) (set_in d.now)) (map part_in d.now.layout.parts) partitions.items)
-        (λ e. RefusesPlan e (page_bytes (H.state host.old)) (set_in d.now)) }
+        (λ e. RefusesParts e (page_bytes (H.state host.old)) (set_in d.now)) }
 {
     let parts = d.layout.parts();
     let mut partitions = Vec::with_capacity(alloc, parts.len())?;

@@ -1,6 +1,6 @@
 //! A plan that may begin.
 
-ghost use Rattle.std.specs.Prelude.{◌≡◌, ◌≤◌, ◌+◌, ℕ, [], true, None, Some, map, IsTrue, IsErrOf, IfOk, MatchResult};
+ghost use Rattle.std.specs.Prelude.{◌≡◌, ◌≤◌, ◌+◌, ℕ, [], true, None, Some, map, IsTrue, IsErrOf, IfErr, IfOk, MatchResult};
 ghost use Rattle.std.specs.List.{AllZip};
 ghost use Rattle.ov_event.specs.declared.event.Event.TheVariants as says;
 ghost use Rattle.ov_event.specs.Fields.{AreFew};
@@ -19,11 +19,11 @@ ghost use Rattle.ov_catalog.specs.Shown.{plan_event};
 ghost use Rattle.ov_catalog.specs.Stands.{asked_as};
 ghost use Rattle.ov_fetch.specs.Extents.{Looked, page_bytes};
 ghost use Rattle.ov_read.specs.OfWorld.{IsSetOf, IsSpared};
-ghost use Rattle.ov_read.specs.Sizes.{bytes_for};
+ghost use Rattle.ov_read.specs.Sizes.{bytes_for, segment_bytes_for};
 ghost use Rattle.ov_core.specs.Brought.{IsBare, content};
-ghost use Rattle.ov_optimize.specs.Damages.{RefusesPlan};
+ghost use Rattle.ov_optimize.specs.Damages.{RefusesParts, RefusesPlan};
 ghost use Rattle.ov_optimize.specs.Planned.{IsMade, IsPlanned, IsReport, Says};
-ghost use Rattle.ov_optimize.specs.Reading.{IsListOf, IsPartitionOf, all_vids};
+ghost use Rattle.ov_optimize.specs.Reading.{IsListAt, IsListOf, IsPartitionOf, all_vids};
 
 use crate::listing::all_lists;
 use crate::parting::all_partitions;
@@ -89,12 +89,53 @@ fn made_of(
     Ok(Planned { event, report })
 }
 
+/// The plan of an optimize of a dataset at the threshold p / q, from 1 / 1000000 to 1, from the lists of all its versions, as
+/// [`all_lists`] gives them: the event that begins it, and what will stand when it is done. Nothing is changed, and no list is read
+/// again.
+///
+/// The plan's targets have all versions, so each partition is emptied by one of them; of all partitions the rids of their segments
+/// are read, each once. `Damaged` where one of these is short, off its grammar, or doesn't bear out the numbers of the catalog, with
+/// the page that names it; `Memory`, and `Host` only where the host failed.
+pub fn plan_with<H: Host>(
+    alloc: Global,
+    host: &mut H,
+    d: &Cvd,
+    lists: &[Members],
+    p: u32,
+    q: u32,
+) -> Result<Planned, FetchErr>
+    requires sound { IsSet d.now }
+    requires idle { d.now.plan ≡ None }
+    requires threshold { IsTrue (is_threshold p q) }
+    requires numbers { d.now.layout.next ≤ 4294000000 }
+    requires lists { AllZip (IsListOf (set_in d.now)) (all_vids (set_in d.now)) lists.now }
+    ensures looked { Looked (H.state host.old) (H.state host.new) }
+    ensures cause { IsErrOf result FetchErr.Host → Rose (H.state host.old).faults (H.state host.new).faults }
+    ensures fetched { (H.state host.new).fetched ≤ (H.state host.old).fetched + segment_bytes_for (set_in d.now) (all_vids (set_in d.now)) }
+
+    // On every host the event may be written, and the report counts what it says.
+    ensures bare { IfOk result (λ made. IsBare made.event) }
+    ensures event { IfOk result (λ made. IsEvent made.event) }
+    ensures applies { IfOk result (λ made. (n : Numbers Extent Extent) → set_numbered d.now.number n ≡ Some (set_in d.now) → first_off made.event n ≡ None) }
+    ensures made { IfOk result (IsMade (set_in d.now) p q) }
+
+    // Where the bytes are told, a partition is damaged; or the plan says what stands on the pages, if the lists stand there.
+    ensures refuses { (H.state host.old).tells ≡ true → IfErr result (λ e. RefusesParts e (page_bytes (H.state host.old)) (set_in d.now)) }
+    ensures says { (H.state host.old).tells ≡ true
+        → AllZip (IsListAt (page_bytes (H.state host.old)) (set_in d.now)) (all_vids (set_in d.now)) lists.now
+        → IfOk result (λ made. IsPlanned (page_bytes (H.state host.old)) (set_in d.now) p q made.event) }
+{
+    let partitions = all_partitions(alloc, host, d)?;
+    let made = made_of(alloc, d, lists, partitions, p, q)?;
+    Ok(made)
+}
+
 /// The plan of an optimize of a dataset at the threshold p / q, from 1 / 1000000 to 1: the event that begins it, and what will stand
 /// when it is done. Nothing is changed.
 ///
-/// The plan's targets have all versions, so each partition is emptied by one of them; of all versions the lists are read, and of all
-/// partitions the rids of their segments, each once. `Damaged` where one of these is short, off its grammar, or doesn't bear out the
-/// numbers of the catalog, with the page that names it; `Memory`, and `Host` only where the host failed.
+/// Of all versions the lists are read, and then of all partitions the rids of their segments, each once. `Damaged` where one of these
+/// is short, off its grammar, or doesn't bear out the numbers of the catalog, with the page that names it; `Memory`, and `Host` only
+/// where the host failed.
 ///
 /// Time goes by the bytes that are read, by the ranges of all lists and segments times the logarithm of their number, and by the
 /// split of the tree; memory by the ranges.
@@ -131,7 +172,6 @@ pub fn plan_of<H: Host>(
         (λ made. (Some (content (event_in made.event) [] []) ≡ Some (asked_as (plan_event ds.cvd.number p q ds))) × IsReport ds p q made.report) IsSpared }
 {
     let lists = all_lists(alloc, host, d)?;
-    let partitions = all_partitions(alloc, host, d)?;
-    let made = made_of(alloc, d, &lists, partitions, p, q)?;
+    let made = plan_with(alloc, host, d, &lists, p, q)?;
     Ok(made)
 }

@@ -7,7 +7,7 @@ use Rattle.ov_layout.specs.declared.part.Part.{Part}
 use Rattle.ov_catalog.specs.Sets.{part_in, set_in}
 use Rattle.ov_read.specs.Sizes.{segment_bytes_for}
 use Rattle.ov_targets.specs.declared.candidates.Partition.{Partition}
-use Rattle.ov_optimize.specs.Damages.{RefusesPlan}
+use Rattle.ov_optimize.specs.Damages.{RefusesParts}
 use Rattle.ov_optimize.specs.Reading.{IsPartitionAt, all_vids}
 use Rattle.ov_optimize.proofs.Partitions.{HasPartitions, all_bytes, goes_on, stops, within}
 use Rattle.ov_optimize.proofs.VersionLists.{vids_of_set}
@@ -51,7 +51,7 @@ returns-in_err-partition_of-clause-answer g c told =
     let s0 = g.H.Host.state c.args.host.now in
     let s1 = g.H.Host.state c.loop-part.host in
     let same : c.parts-parts.result.now ≡ c.args.d.now.layout.parts = c.parts-parts.ensures.parts in
-    passed_on (λ partitions. AllZip (IsPartitionAt (page_bytes s0) (set_in d)) (map part_in d.layout.parts) partitions.items) (λ e. RefusesPlan e (page_bytes s0) (set_in d))
+    passed_on (λ partitions. AllZip (IsPartitionAt (page_bytes s0) (set_in d)) (map part_in d.layout.parts) partitions.items) (λ e. RefusesParts e (page_bytes s0) (set_in d))
     c.from_residual-in_err-partition_of.result c.in_err-partition_of.field-0.0 c.from_residual-in_err-partition_of.ensures
     (stops s0 s1 d (take k c.parts-parts.result.now) k part c.loop-part.partitions.items c.in_err-partition_of.field-0.0 c.loop-part.invariant
     (subst (λ (ps : List Part). k < length ps) same c.loop-part-test.true) (subst (λ (ps : List Part). part ≡ get_or ps k part) same c.part-item.is)
