@@ -1,3 +1,5 @@
+pub mod Ordering
+pub mod Schemas
 pub mod Sparing
 pub mod Quiet
 pub mod OwnRows
