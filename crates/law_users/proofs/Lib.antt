@@ -1,3 +1,4 @@
+pub mod Times
 pub mod Ordering
 pub mod Schemas
 pub mod Sparing
