@@ -1,4 +1,4 @@
-//! Users: who may do what, and the rows of staged tables.
+//! Users: who may do what, and the rows of users and of staged tables.
 //!
 //! Four rules decide, by the user and the command alone. They stand in `ov_model`'s definitions; a query or join is asked by
 //! the names of its datasets, once its text is read.
@@ -9,4 +9,4 @@ mod registry;
 mod rules;
 
 pub use denying::{Denied, permit, permit_names};
-pub use registry::{find, without_row};
+pub use registry::{find, is_user, with_row, without_row};

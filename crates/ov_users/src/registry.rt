@@ -1,11 +1,12 @@
-//! The rows of staged tables: where the row of one stands, and all but that one.
+//! The rows of the registry: those with one more, whether one is a user's, where a table's stands, and all but that one.
 
 ghost use Rattle.std.specs.Prelude.{◌≡◌, ◌<◌, ◌^◌, length, IfOk};
 ghost use Rattle.std.specs.Ordering.{is_eq};
 ghost use Rattle.ov_value.specs.Rows.{value_at, value_cmp};
 ghost use Rattle.ov_value.specs.declared.value.Value.TheVariants.{Text};
-ghost use Rattle.ov_model.specs.Registry.{find as find_of, is_table as is_table_of, without_row as without_row_of};
+ghost use Rattle.ov_model.specs.Registry.{find as find_of, is_table as is_table_of, is_user as is_user_of, with_row as with_row_of, without_row as without_row_of};
 
+use crate::rules::is_admin;
 use ov_value::{Row, Value};
 use std::alloc::{AllocError, Global};
 
@@ -26,6 +27,31 @@ fn is_table(row: &Row, owner: &str, name: &str) -> bool
     has_text(row, 0, owner) && has_text(row, 1, name)
 }
 
+// Whether the row is this user's.
+fn is_user_row(row: &Row, name: &str) -> bool
+    ensures { result ≡ is_eq (value_cmp (Text name.now) (value_at row.now 0)) }
+{
+    match row.values().get(0) {
+        Some(Value::Text(found)) => name == found.as_str(),
+        _ => false,
+    }
+}
+
+/// Whether the name is `admin`, or one of these rows of users has it. It takes no memory.
+pub fn is_user(rows: &[Row], name: &str) -> bool
+    ensures { result ≡ is_user_of rows.now name.now }
+{
+    if is_admin(name) {
+        return true;
+    }
+    for row in rows {
+        if is_user_row(row, name) {
+            return true;
+        }
+    }
+    false
+}
+
 /// The place of the row of this owner's table of this name.
 pub fn find(rows: &[Row], owner: &str, name: &str) -> Option<u32>
     requires { length rows.now < 2 ^ 32 }
@@ -39,6 +65,18 @@ pub fn find(rows: &[Row], owner: &str, name: &str) -> Option<u32>
         place += 1;
     }
     None
+}
+
+/// The rows with one more behind them.
+pub fn with_row(alloc: Global, rows: &[Row], row: &Row) -> Result<Vec<Row>, AllocError>
+    ensures ok { IfOk result (λ made. made.items ≡ with_row_of rows.now row.now) }
+{
+    let mut made = Vec::with_capacity(alloc, rows.len() + 1)?;
+    for old in rows {
+        made.push(old.copy(alloc)?)?;
+    }
+    made.push(row.copy(alloc)?)?;
+    Ok(made)
 }
 
 /// The rows but that of this owner's table of this name.
