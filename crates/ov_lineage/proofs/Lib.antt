@@ -3,3 +3,4 @@ pub mod Rising
 pub mod Growing
 pub mod Listing
 pub mod Saying
+pub mod Graphs
