@@ -22,9 +22,9 @@ module _ (words : List (List ℕ)) (steps : ℕ) (w : World) (old new : Ends) (v
   ends (Damaged area at) cause plays = plays
   ends (Format found) cause plays = plays
   ends HostFault cause plays = none.host cause.1
-  ends InputFault cause plays = by cause.1.1
+  ends InputFault cause plays = by cause.2
     where
       by : Rose old.script.faults new.script.faults ⊎ Rose old.stage.faults new.stage.faults → ⊥
       by (inl rose) = none.script rose
       by (inr rose) = none.stage rose
-  ends ScriptTooLong cause plays = too_few (length old.script.left) (length new.script.left) valid.short (cause.1.1 valid.told.script)
+  ends ScriptTooLong cause plays = too_few (length old.script.left) (length new.script.left) valid.short (cause.2 valid.told.script)

@@ -25,7 +25,7 @@ ghost use Rattle.ov_top.specs.declared.status.Status.{Status as StatusValue};
 /// And where there is room for all that the course attempts, by what the store had at the entry, that course is the one in which
 /// nothing is refused for want of room.
 pub fn valid_input_is_served()
-    ensures served { (words : List (List ℕ)) (steps : ℕ) (w : World) (old new : Ends) (status : StatusValue) → IsValid words steps w old
+    ensures { (words : List (List ℕ)) (steps : ℕ) (w : World) (old new : Ends) (status : StatusValue) → IsValid words steps w old
         → NoFaults old new → Cause status words old new → Plays status steps w old new → IsComplete status steps w old new }
 {}
 
