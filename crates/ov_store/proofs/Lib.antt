@@ -23,3 +23,4 @@ pub mod Begun
 pub mod Unhurt
 pub mod Migrating
 pub mod Taken
+pub mod Chosen

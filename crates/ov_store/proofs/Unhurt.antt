@@ -16,7 +16,7 @@ use Rattle.law_reads.proofs.Served.{segments_stand}
 use Rattle.law_reads.proofs.Stored.{segments_once}
 use Rattle.law_reads.proofs.Undamaged.{beside, one_list}
 use Rattle.ov_targets.specs.declared.candidates.Partition.{Partition}
-use Rattle.ov_optimize.specs.Damages.{IsBadPart, RefusesPlan}
+use Rattle.ov_optimize.specs.Damages.{IsBadPart, IsListDamage, RefusesPlan}
 use Rattle.ov_optimize.specs.Planned.{IsPlanned}
 use Rattle.ov_optimize.specs.Reading.{IsListAt, IsPartitionAt, all_vids}
 
@@ -50,21 +50,27 @@ module _ (area : List ℕ) (s : Numbers) where
       let same : is.rids.contents ≡ off.contents = segments_once s.schema area part.segments is.rids.contents off.contents is.rids.read off.read
       in filled off.contents off.empty.0 (subst (λ (sets : List (List ℕ)). All (λ rids. 1 ≤ length rids) sets) (is.rids.sets_are ∙ ap (map rids_of) same) is.is.filled) off.empty.1 off.empty.2
 
-  module _ (p q : ℕ) (e : Event) (made : IsPlanned area s p q e) where
+  -- nor are lists that were read
+  module _ (lists : List (List ℕ)) (listed : AllZip (IsListAt area s) (all_vids s) lists) where
     list_there : (vid : ℕ) → IsThere s vid → (rids : List ℕ) × IsListAt area s vid rids
     list_there vid there =
         let low : vid - 1 < length s.versions = omega (arith, there.0, there.1)
         in let count : length (all_vids s) ≡ length s.versions = length-range_with_len 1 (length s.versions)
         in let at : get_or (all_vids s) (vid - 1) vid ≡ 1 + (vid - 1) = get_or-range_with_len 1 (length s.versions) (vid - 1) vid low
-        in beside (IsListAt area s) (all_vids s) made.lists (vid - 1) vid made.listed (omega (arith, low, count)) (omega (arith, at, there.0))
+        in beside (IsListAt area s) (all_vids s) lists (vid - 1) vid listed (omega (arith, low, count)) (omega (arith, at, there.0))
 
-    pub planned_whole : (page : ℕ) → RefusesPlan (fetch.Damaged page) area s → ⊥
-    planned_whole page (inl bad) =
-        let it = beside (IsListAt area s) (all_vids s) made.lists bad.among.0 bad.vid made.listed bad.among.1 bad.among.2
+    pub lists_whole : (page : ℕ) → IsListDamage area s page → ⊥
+    lists_whole page (inl bad) =
+        let it = beside (IsListAt area s) (all_vids s) lists bad.among.0 bad.vid listed bad.among.1 bad.among.2
         in good_list bad.vid it.0 it.1 bad.bad
-    planned_whole page (inr (inl high)) =
+    lists_whole page (inr high) =
         let it = list_there high.vid high.there
         in high.high (subst (λ (xs : List ℕ). All (λ rid. rid ≤ s.records) xs) (one_list _ it.0 high.rids it.1.list.spells high.list.spells) it.1.is.within)
+
+  module _ (p q : ℕ) (e : Event) (made : IsPlanned area s p q e) where
+    pub planned_whole : (page : ℕ) → RefusesPlan (fetch.Damaged page) area s → ⊥
+    planned_whole page (inl bad) = lists_whole made.lists made.listed page (inl bad)
+    planned_whole page (inr (inl high)) = lists_whole made.lists made.listed page (inr high)
     planned_whole page (inr (inr bad)) =
         let it = beside_in (IsPartitionAt area s) s.parts made.partitions bad.part made.parted bad.among
         in good_part bad.part it.0 page it.1 bad.bad

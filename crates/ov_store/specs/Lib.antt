@@ -12,3 +12,4 @@ pub mod Worlds
 pub mod Planning
 pub mod Stepping
 pub mod Checkpoints
+pub mod Thresholds

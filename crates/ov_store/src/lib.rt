@@ -17,12 +17,14 @@ mod recording;
 mod step_errors;
 mod stepping;
 mod store;
+mod thresholds;
 mod unready;
 
 pub use errors::StoreErr;
 pub use laws::{all_versions_are_there, refusals_are_the_worlds, what_a_commit_reads_is_whole};
 pub use ov_optimize::Report;
 pub use plan_errors::PlanErr;
+pub use planning::is_threshold;
 pub use step_errors::StepErr;
 pub use stepping::Stepped;
 pub use store::{Committed, Store};

@@ -42,14 +42,15 @@ const MOST_PARTS: u64 = 1_000_000;
 /// No plan begins where the next partition's number is greater, so that numbers are left for its targets and later versions.
 const MOST_NEXT: u32 = 4_294_000_000;
 
-fn is_threshold(p: u64, q: u64) -> bool
+/// Whether p / q is a threshold: 1 ≤ p ≤ q ≤ 1,000,000.
+pub fn is_threshold(p: u64, q: u64) -> bool
     ensures { result ≡ is_threshold_by p q }
 {
     1 <= p && p <= q && q <= MOST_PARTS
 }
 
 // Why no plan is recorded, for which no run is asked.
-fn unrecorded(off: ChangeErr) -> PlanErr
+pub(crate) fn unrecorded(off: ChangeErr) -> PlanErr
     requires { (pages : ℕ) → off ≡ change.Full pages → ⊥ }
     ensures { IsUnrecorded off result }
 {
@@ -63,7 +64,7 @@ fn unrecorded(off: ChangeErr) -> PlanErr
 
 impl Store {
     // The dataset with this name, where a plan at p / q may begin.
-    fn may_plan(&self, name: &str, p: u64, q: u64) -> Result<&Cvd, PlanErr>
+    pub(crate) fn may_plan(&self, name: &str, p: u64, q: u64) -> Result<&Cvd, PlanErr>
         ensures found { IfOk result (λ d. set_in self.now.held.numbers name.now ≡ Some (numbers_of d.now)) }
         ensures sound { IfOk result (λ d. IsSet d.now) }
         ensures idle { IfOk result (λ d. d.now.plan ≡ None) }
@@ -118,7 +119,7 @@ impl Store {
     }
 
     // Why no plan is ready. After a fault of the host the store isn't used again.
-    fn unplanned(&mut self, off: PlanErr) -> PlanErr
+    pub(crate) fn unplanned(&mut self, off: PlanErr) -> PlanErr
         ensures answer { result ≡ off }
         ensures same { (off ≡ why.Host → ⊥) → self.new ≡ self.old }
         ensures unusable { off ≡ why.Host → self.new.usable ≡ false }

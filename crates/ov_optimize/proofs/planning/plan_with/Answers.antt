@@ -1,5 +1,3 @@
-use Rattle.std.proofs.Common.{subst}
-use Rattle.ov_catalog.specs.Sets.{set_in}
 use Rattle.ov_optimize.proofs.planning.plan_with.Goals as goal
 
 pub returns-clause-says : goal.returns-clause-says
