@@ -28,7 +28,7 @@ FIXES = {
     "int": "ints are digits with a sign at most, from -2^63 to 2^63 - 1, without blanks, points or words; an empty field is NULL",
 }
 MISTAKES = [
-    (r"(?i)\bFROM\s+(?!VERSION\b|CVD\b)", "a source is `CVD name` or `VERSION 1, 2 OF CVD name`"),
+    (r"(?i)\bFROM\s+(?!VERSION\b|CVD\b|PARENTS\b|ANCESTORS\b|DESCENDANTS\b)", "a source is `CVD name`, `VERSION 1, 2 OF CVD name` or `ANCESTORS(2) OF CVD name`"),
     (r"(?i)\bVERSION\s+[\d,\s]+(?!\s*OF\b)[a-z_]", "behind the versions comes `OF CVD name`"),
     (r"==", "equality is one `=`"),
     (r"(?i)\bAS\b", "there are no aliases"),
@@ -37,7 +37,8 @@ MISTAKES = [
     (r"(?i)\bIN\s*\(", "there is no IN: write `a = 1 OR a = 2`"),
     (r"(?i)[=<>]\s*NULL\b", "NULL is asked for by `IS NULL`"),
     (r"\d\.\d", "numbers are whole"),
-    (r"(?i)\b(JOIN|PARENTS|ANCESTORS|DESCENDANTS)\b", "joins and lineages are read only by a program that has them"),
+    (r"(?i)\b(?!VID\b|NOT\b)\w+\s+IN\s+(PARENTS|ANCESTORS|DESCENDANTS)\b", "only `vid IN` takes a lineage"),
+    (r"(?i)\bJOIN\b", "joins are read only by a program that has them"),
     (r"^\s*\"", "the query itself stands in no quotes"),
     (r"(?i)^\s*(?!SELECT\b)", "a query begins with SELECT"),
     (r",\s*(FROM|WHERE|GROUP|ORDER|LIMIT)\b", "a comma is too many"),

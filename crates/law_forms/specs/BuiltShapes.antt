@@ -1,11 +1,9 @@
--- The shapes of queries that are built: a query over versions that it lists, or over all of a dataset, whose conditions name no
--- lineage. A text of another shape is taken for no query.
+-- The shapes of queries that are built: each query, and no join. A text of another shape is taken for no query.
 --     is_built_shape asked      what a text asks has such a shape, or is refused as it stands
 --     served_forms      the forms of the commands that the program serves
 --     served_line line      what a line says, of which a query of another shape is refused
 use Rattle.std.specs.Prelude.{Bool, true, false, if◌then◌else◌, List, map, Result, Ok, Err}
 use Rattle.law_forms.specs.Built.{built_forms}
-use Rattle.ov_model.specs.Asking.{is_none_named, lineages_of}
 use Rattle.ov_model.specs.Forms.{Form}
 use Rattle.ov_model.specs.Line.{Line, Comment, Asks, Refused, answer}
 use Rattle.ov_model.specs.QueryTexts.{Asked, BadByte, NoQuery, AsksQuery, AsksJoin, asked_of}
@@ -17,7 +15,7 @@ use Rattle.ov_model.specs.declared.refusal.Refusal.TheVariants as no
 abbrev pub is_built_shape : Asked → Bool
 is_built_shape (BadByte at) = true
 is_built_shape NoQuery = false
-is_built_shape (AsksQuery query) = is_none_named (lineages_of query)
+is_built_shape (AsksQuery query) = true
 is_built_shape (AsksJoin join) = false
 
 -- 41 in place of a query of a shape that isn't built; where there is no query at all, it comes here already

@@ -21,10 +21,12 @@ earlier : (n : ℕ) (vs : List graph.Version) → ((k : ℕ) → k < length vs �
 earlier n [] each = tt
 earlier n (v ∷ vs) each =
     let here : n + 0 ≡ n = omega arith
-    in (subst (λ (m : ℕ). AreBefore m (node_parents v)) here (each 0 (omega arith)),
-    earlier (n + 1) vs (λ k low.
-    let next : n + suc k ≡ n + 1 + k = omega arith
-    in subst (λ (m : ℕ). AreBefore m (node_parents (get_or vs k no_version))) next (each (suc k) (omega (arith, low)))))
+    in (
+      subst (λ (m : ℕ). AreBefore m (node_parents v)) here (each 0 (omega arith)),
+      earlier (n + 1) vs (λ k low.
+          let next : n + suc k ≡ n + 1 + k = omega arith
+          in subst (λ (m : ℕ). AreBefore m (node_parents (get_or vs k no_version))) next (each (suc k) (omega (arith, low)))),
+    )
 
 follows : (vs : List graph.Version) (k : ℕ) → k < length vs → MayFollow (take k vs) (get_or vs k no_version) → AreBefore (1 + k) (node_parents (get_or vs k no_version))
 follows vs k low may =

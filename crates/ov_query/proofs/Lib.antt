@@ -5,3 +5,5 @@ pub mod Permits
 pub mod Numbering
 pub mod Scans
 pub mod Answered
+pub mod Parents
+pub mod Listed

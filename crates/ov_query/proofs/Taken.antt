@@ -4,14 +4,13 @@ use Rattle.std.specs.Prelude.{Option, ◌&&◌, not, if◌then◌else◌}
 use Rattle.std.specs.List.{list_any}
 use Rattle.std.proofs.lemmas.Option.{same_Some}
 use Rattle.ov_model.specs.Act.{Session, refuses, unless}
-use Rattle.ov_model.specs.Asking.{is_none_named, lineages_of, name_read, query_by, run_deed}
+use Rattle.ov_model.specs.Asking.{is_none_named, name_read, query_by, run_deed}
 use Rattle.ov_model.specs.QueryTexts.{Asked, BadByte, NoQuery, AsksQuery, AsksJoin}
 use Rattle.ov_model.specs.Users.{is_admin, is_reserved, permit_names}
 use Rattle.ov_model.specs.World.{World, cvd_in, set_named}
 use Rattle.ov_model.specs.declared.query.Query.{Query}
 use Rattle.ov_model.specs.declared.refusal.Refusal.{Refusal}
 use Rattle.ov_model.specs.declared.refusal.Refusal.TheVariants as no
-use Rattle.ov_query.specs.Asking.{IsNoQuery}
 use Rattle.ov_query.specs.Queries.{taken, text_off}
 
 pub none_named : (vids : List ℕ) → is_none_named vids ≡ true → vids ≡ []
@@ -20,27 +19,11 @@ none_named (vid ∷ vids) is = absurd cc
 
 -- ---- what a text asks, as it is taken
 
-pub taken_query : (asked : Asked) (query : Query) → asked ≡ AsksQuery query → is_none_named (lineages_of query) ≡ true → taken asked ≡ AsksQuery query
-taken_query asked query is plain = ap taken is ∙ ap (λ (b : Bool). if b then AsksQuery query else NoQuery) plain
-
-pub taken_lineage : (asked : Asked) (query : Query) → asked ≡ AsksQuery query → is_none_named (lineages_of query) ≡ false → taken asked ≡ NoQuery
-taken_lineage asked query is named = ap taken is ∙ ap (λ (b : Bool). if b then AsksQuery query else NoQuery) named
-
-pub taken_none : (asked : Asked) → IsNoQuery asked → taken asked ≡ NoQuery
-taken_none (BadByte at) is = absurd is
-taken_none NoQuery is = refl
-taken_none (AsksQuery query) is = absurd is
-taken_none (AsksJoin join) is = refl
-
 -- no join is taken
 taken_by : (asked : Asked) (P : Asked → Type 0) → ((at : ℕ) → P (BadByte at)) → P NoQuery → ((query : Query) → P (AsksQuery query)) → P (taken asked)
 taken_by (BadByte at) P bad none one = bad at
 taken_by NoQuery P bad none one = none
-taken_by (AsksQuery query) P bad none one = by (is_none_named (lineages_of query))
-  where
-    by : (b : Bool) → P (if b then AsksQuery query else NoQuery)
-    by true = one query
-    by false = none
+taken_by (AsksQuery query) P bad none one = one query
 taken_by (AsksJoin join) P bad none one = none
 
 -- ---- a refusal whatever the store has

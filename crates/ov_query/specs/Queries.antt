@@ -1,10 +1,12 @@
 -- Why the text of a `run` by a user isn't answered, and what it reads: by the numbers of the store, the user and the text alone.
 --     taken asked      what is answered of what a text asks: a query of a shape that isn't built is none
---     query_off n user text      the first refusal: 40, 41, 71, 10, per version from the left 12 and 13, the first of 42 to 45
+--     known_in set      what the numbers know of a dataset: its schema, and the parents of its versions
+--     query_off n user text      the first refusal: 40, 41, 71, 10, the first lineage's 12, per version from the left 12 and 13, the first of
+--         42 to 45
 --     query_set n text, query_vids n text      the dataset that it reads, and which of its versions
 --     query_fetch n user text      how many bytes of pages it fetches at most; nothing where it is refused
 --     IsQueryDamaged n user text s page      what it reads is damaged, and nothing refuses it
-use Rattle.std.specs.Prelude.{◌≡◌, ℕ, if◌then◌else◌, List, [], ◌∷◌, length, Option, Some, None, Result, Ok, Err}
+use Rattle.std.specs.Prelude.{◌≡◌, ℕ, if◌then◌else◌, List, [], ◌∷◌, length, map, Option, Some, None, Result, Ok, Err}
 use Rattle.std.specs.Option.{option_or}
 use Rattle.law_forms.specs.BuiltShapes.{is_built_shape}
 use Rattle.ov_host.specs.declared.area.Area.TheVariants.{Pages}
@@ -13,6 +15,8 @@ use Rattle.ov_host.specs.Host.{Rose, State}
 use Rattle.ov_catalog.specs.Numbers.{Numbers, SetNumbers}
 use Rattle.ov_model.specs.Asking.{name_read, query_refusal}
 use Rattle.ov_model.specs.Kinds.{kinds}
+use Rattle.ov_model.specs.Known.{Known, cvd_like}
+use Rattle.ov_model.specs.Lineages.{relatives}
 use Rattle.ov_model.specs.QueryTexts.{Asked, BadByte, NoQuery, AsksQuery, AsksJoin, asked_of}
 use Rattle.ov_model.specs.Users.{permit_names}
 use Rattle.ov_model.specs.declared.query.Query.{Query}
@@ -46,7 +50,8 @@ text_off user NoQuery = Some no.NotAQuery
 text_off user (AsksQuery query) = permit_names user (name_read query.source ∷ [])
 text_off user (AsksJoin join) = Some no.NotAQuery
 
--- of a dataset with these numbers, where it is there: 10, then 12 and 13, then 42 to 45
+-- of a dataset with these numbers, where it is there: 10, then 12 of the first lineage from the left, per listed version 12 and 13, then
+-- 42 to 45
 abbrev pub set_off : Query → Option Set → Option Refusal
 set_off query None = Some (no.NoCvd (name_read query.source))
 set_off query (Some set) = option_or (query_refusal (length set.versions) query) (refusal_in (kinds query set.schema))
@@ -63,11 +68,15 @@ query_off n user text = asked_off n user (taken (asked_of text))
 
 -- ---- what it reads
 
--- the versions that it lists, or all that the dataset has; a lineage is no source of a query that is built
+abbrev pub known_in : Set → Known
+known_in set = record { schema = set.schema; parents = map (λ v. map (λ edge. edge.0) v.parents) set.versions }
+
+-- the versions that it lists, those of a lineage, or all that the dataset has
 abbrev pub vids_read : Src → Option Set → List ℕ
 vids_read (source.Listed vids name) set = vids
 vids_read (source.Whole name) set = all_vids set
-vids_read (source.Lineage kind vid name) set = []
+vids_read (source.Lineage kind vid name) None = []
+vids_read (source.Lineage kind vid name) (Some set) = relatives (cvd_like (known_in set)) kind vid
 
 abbrev pub asked_set : Numbers Extent Extent → Asked → Option Set
 asked_set n (AsksQuery query) = set_in n (name_read query.source)

@@ -20,6 +20,7 @@ ghost use Rattle.ov_typing.specs.Refusing.{refusal_of};
 ghost use Rattle.ov_query.specs.Answering.{HasSchema};
 ghost use Rattle.ov_query.specs.Queries.{IsDamagedRead, IsOfNoFile, IsQueryDamaged, IsReplyBy, IsUnanswered, IsUnread, bytes_read, query_fetch, query_off, set_off, taken, vids_read};
 
+use crate::listing::{Listed, lists_for};
 use crate::permitting::{Permitted, asked_by, name_of};
 use crate::scanning::{refused_version, scan_of};
 use ov_csv::write_answer;
@@ -28,7 +29,7 @@ use ov_host::Host;
 use ov_model::{Query, Refusal, Reply, Seq};
 use ov_qrun::run_typed;
 use ov_store::{Store, StoreErr};
-use ov_typing::{TypeErr, Typed, typed};
+use ov_typing::{TypeErr, Typed, names_lineage, typed};
 use std::alloc::{AllocError, Global};
 
 // The refusal of a query that doesn't fit its dataset's schema: 42 to 45.
@@ -93,8 +94,8 @@ fn read_and_answer<H: Host>(
     Ok(answer_over(alloc, typed, &scan)?)
 }
 
-// The reply to a query that its user may ask: by the numbers of its dataset it is refused, or it is answered.
-fn reply_to<H: Host>(
+// The same of a query that names no lineage.
+fn reply_to_lists<H: Host>(
     alloc: Global,
     store: &Store,
     host: &mut H,
@@ -133,11 +134,47 @@ fn reply_to<H: Host>(
     }
 }
 
+// The reply to a query that its user may ask: by the numbers of its dataset it is refused, or it is answered. Lists take the place of the
+// lineages that it names.
+fn reply_to<H: Host>(
+    alloc: Global,
+    store: &Store,
+    host: &mut H,
+    query: &Query,
+) -> Result<Reply, StoreErr>
+    requires usable { store.now.usable ≡ true }
+    ensures looked { Looked (H.state host.old) (H.state host.new) }
+    ensures fetched { let set = set_in store.now.held.numbers (name_read query.now.source)
+        in (H.state host.new).fetched ≤ (H.state host.old).fetched + bytes_read (set_off query.now set) set (vids_read query.now.source set) }
+    ensures unread { (refusal : RefusalValue) → set_off query.now (set_in store.now.held.numbers (name_read query.now.source)) ≡ Some refusal
+        → H.state host.new ≡ H.state host.old }
+    ensures reply { IfOk result (IsReplyBy (set_off query.now (set_in store.now.held.numbers (name_read query.now.source)))) }
+    ensures why { let set = set_in store.now.held.numbers (name_read query.now.source)
+        in IfErr result (IsUnread (set_off query.now set) set (vids_read query.now.source set) (H.state host.old) (H.state host.new)) }
+    ensures whole { (page : ℕ) → (H.state host.old).tells ≡ true
+        → let set = set_in store.now.held.numbers (name_read query.now.source)
+        in OnOk result (IsDamagedRead (set_off query.now set) set (vids_read query.now.source set) (H.state host.old) page → ⊥) }
+    ensures seen { IfOk result IsOfNoFile }
+    ensures world { (w : World) (s : Session) → IsAtWorld w store.now.held (H.state host.old)
+        → IfOk result (λ reply. query_by s query.now (cvd_in (set_named w (name_read query.now.source))) ≡ tells s reply) }
+    ensures undamaged { (w : World) → IsAtWorld w store.now.held (H.state host.old) → IfErr result IsUndamaged }
+{
+    if !names_lineage(query) {
+        return reply_to_lists(alloc, store, host, query);
+    }
+    match lists_for(alloc, store, query)? {
+        Listed::Query(resolved) => reply_to_lists(alloc, store, host, &resolved),
+        Listed::Refused(refusal) => Ok(Reply::Refused(refusal)),
+    }
+}
+
 /// The reply to the text of a `run` by a user, over a store.
 ///
-/// Refusals in their order: 40, 41 (a join or a query that names a lineage too: none is built yet), 71, 10, per version from
-/// the left 12 and 13, and the first of 42 to 45. What is refused reads nothing. Else the list of each version that the query
-/// names is read once, and once each partition that serves one of them. Nothing else is read, and nothing is changed.
+/// Refusals in their order: 40, 41 (a join too: none is built yet), 71, 10, 12 of the first lineage from the left, per version
+/// that is listed, from the left, 12 and 13, and the first of 42 to 45. What is refused reads nothing. Else the list of each
+/// version that the query names is read once, and once each partition that serves one of them. Nothing else is read, and
+/// nothing is changed. The relatives of versions are known without reading: they are looked up once for each lineage that the
+/// query names, in the time of all parents of the dataset's versions.
 ///
 /// `Memory`, `Host` and `Damaged` are the only errors, the last two only where nothing is refused.
 pub fn answer_to<H: Host>(

@@ -1,12 +1,14 @@
 //! `run`: from the text of a query to its reply.
 //!
 //! A text is read by its tokens and by the grammar. What the text, the user and the numbers of the store refuse is refused
-//! before anything is read. Else the versions that the query names are scanned once, and it is answered over their rows.
+//! before anything is read. Lists of versions take the place of lineages, by the parents that the store's numbers have. Then the
+//! versions that the query names are scanned once, and it is answered over their rows.
 #![tactic(auto)]
 
 mod answering;
 mod asking;
 mod laws;
+mod listing;
 mod permitting;
 mod scanning;
 

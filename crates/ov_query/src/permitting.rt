@@ -8,7 +8,6 @@ ghost use Rattle.ov_query.specs.Queries.{taken};
 
 use crate::asking::{Read, read_text};
 use ov_model::{Query, Refusal, Src};
-use ov_typing::names_lineage;
 use ov_users::permit_names;
 use ov_value::Txt;
 use std::alloc::{AllocError, Global};
@@ -17,7 +16,7 @@ use std::slice;
 /// What comes of a user's text before a dataset is looked at.
 #[derive(Drop)]
 pub(crate) enum Permitted {
-    /// It is this query, of a shape that is built, and the user may ask it.
+    /// It is this query, and the user may ask it.
     Query(Query),
     /// It is refused, whatever the store has.
     Refused(Refusal),
@@ -46,9 +45,6 @@ pub(crate) fn asked_by(alloc: Global, user: &str, text: &str) -> Result<Permitte
         }
         Read::NoQuery => return Ok(Permitted::Refused(Refusal::NotAQuery)),
     };
-    if names_lineage(&query) {
-        return Ok(Permitted::Refused(Refusal::NotAQuery));
-    }
     match permit_names(user, slice::from_ref(name_of(&query.source))) {
         Ok(()) => Ok(Permitted::Query(query)),
         Err(denied) => Ok(Permitted::Refused(Refusal::Denied {

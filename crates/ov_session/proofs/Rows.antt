@@ -8,7 +8,7 @@ use Rattle.ov_host.specs.Stage.{Staged}
 use Rattle.ov_catalog.specs.Numbers.{Numbers}
 use Rattle.ov_core.specs.Held.{Held}
 use Rattle.ov_model.specs.Act.{is_threshold}
-use Rattle.ov_model.specs.Asking.{is_none_named, lineages_of, name_read, source_lineages}
+use Rattle.ov_model.specs.Asking.{name_read}
 use Rattle.ov_model.specs.Book.{Row}
 use Rattle.law_forms.specs.BuiltShapes.{if_built, is_built_shape}
 use Rattle.ov_model.specs.QueryTexts.{Asked, BadByte, NoQuery, AsksQuery, AsksJoin, asked_of}
@@ -16,8 +16,6 @@ use Rattle.ov_model.specs.World.{is_one}
 use Rattle.ov_model.specs.declared.command.Command.{Command}
 use Rattle.ov_model.specs.declared.command.Command.TheVariants as asks
 use Rattle.ov_model.specs.declared.query.Query.{Query}
-use Rattle.ov_model.specs.declared.query.Src.{Src}
-use Rattle.ov_model.specs.declared.query.Src.TheVariants as source
 use Rattle.ov_model.specs.declared.refusal.Refusal.{Refusal}
 use Rattle.ov_model.specs.declared.refusal.Refusal.TheVariants as no
 use Rattle.ov_query.specs.Queries.{IsDamagedRead, IsQueryDamaged, asked_off, asked_set, asked_vids, bytes_read, query_fetch, query_off, taken, vids_read}
@@ -30,7 +28,7 @@ use Rattle.ov_session.specs.Standing.{IsIdle, IsIdleBy}
 use Rattle.ov_session.specs.declared.errors.EndErr.{EndErr}
 use Rattle.ov_session.specs.declared.errors.EndErr.TheVariants as ending
 use Rattle.ov_store.specs.Kept.{Kept}
-use Rattle.ov_session.specs.Reads.{columns_off, commit_row_off, plan_refused, run_off, run_sources, vids_asked}
+use Rattle.ov_session.specs.Reads.{columns_off, commit_row_off, plan_refused, run_off, run_sources}
 use Rattle.ov_store.specs.Committing.{Set, parents_off, parents_off_in, to_off}
 use Rattle.ov_store.specs.Planning.{optimize_off, plan_off}
 use Rattle.ov_store.specs.Planning as planning
@@ -176,12 +174,6 @@ plan_fetched n user cvd p q bytes a b within = by (optimize_off n cvd p q) (set_
 
 -- ---- a run
 
--- a query that names no lineage reads the same versions
-vids_same : (src : Src) (rest : List ℕ) (set : Option Set) → is_none_named (source_lineages src ++ rest) ≡ true → vids_read src set ≡ vids_asked src set
-vids_same (source.Listed vids name) rest set none = refl
-vids_same (source.Whole name) rest set none = refl
-vids_same (source.Lineage kind vid name) rest set none = absurd cc
-
 read_most : (o : Option Refusal) (set : Option Set) (vids : List ℕ) → bytes_read o set vids ≤ if_allowed o (bytes_in set vids)
 read_most (Some r) set vids = omega arith
 read_most None None vids = omega arith
@@ -194,34 +186,24 @@ module _ (n : Numbers Extent Extent) (user : List ℕ) where
   abbrev fetch_as : Asked → ℕ
   fetch_as asked = if_allowed (run_off n user asked) (bytes_of_all (run_sources n asked ++ []))
 
-  abbrev if_taken : Query → Bool → Asked
-  if_taken query t = if t then AsksQuery query else NoQuery
-
-  query_most : (query : Query) (t : Bool) → is_none_named (lineages_of query) ≡ t → fetch_by (if_taken query t) ≤ fetch_as (AsksQuery query)
-  query_most query false is = omega arith
-  query_most query true is =
+  query_most : (query : Query) → fetch_by (AsksQuery query) ≤ fetch_as (AsksQuery query)
+  query_most query =
       let set : Option Set = set_in n (name_read query.source)
-      in subst (λ (vids : List ℕ). fetch_by (AsksQuery query) ≤ if_allowed (asked_off n user (AsksQuery query)) (bytes_in set vids)) (vids_same query.source _ set is)
-      (read_most (asked_off n user (AsksQuery query)) set (vids_read query.source set))
+      in read_most (asked_off n user (AsksQuery query)) set (vids_read query.source set)
 
   run_most : (asked : Asked) → fetch_by (taken asked) ≤ fetch_as asked
   run_most (BadByte at) = omega arith
   run_most NoQuery = omega arith
-  run_most (AsksQuery query) = query_most query (is_none_named (lineages_of query)) refl
+  run_most (AsksQuery query) = query_most query
   run_most (AsksJoin join) = omega arith
 
   pub run_fetched : (text : List ℕ) (a b : ℕ) → b ≤ a + query_fetch n user text → b ≤ a + command_fetch n user (asks.Run text)
   run_fetched text a b within = omega (arith, within, run_most (asked_of text))
 
-  some_query : (query : Query) (t : Bool) → is_none_named (lineages_of query) ≡ t → is_some (asked_off n user (AsksQuery query)) ≡ true
-      → is_some (asked_off n user (if_taken query t)) ≡ true
-  some_query query true is some = some
-  some_query query false is some = refl
-
   some_run : (asked : Asked) → is_some (run_off n user asked) ≡ true → is_some (asked_off n user (taken asked)) ≡ true
   some_run (BadByte at) some = refl
   some_run NoQuery some = refl
-  some_run (AsksQuery query) some = some_query query (is_none_named (lineages_of query)) refl some
+  some_run (AsksQuery query) some = some
   some_run (AsksJoin join) some = refl
 
   pub run_refused : (text : List ℕ) → is_command_off n user (asks.Run text) ≡ true → is_some (query_off n user text) ≡ true
@@ -237,28 +219,16 @@ module _ (n : Numbers Extent Extent) (user : List ℕ) where
     some_none : (r : Refusal) → Some r ≡ None → ⊥
     some_none r e = cc
 
-    bad_query : (query : Query) (t : Bool) → is_none_named (lineages_of query) ≡ t → IsBadBy (if_taken query t) → IsBadAs (AsksQuery query)
-    bad_query query false is bad = absurd (some_none no.NotAQuery bad.0)
-    bad_query query true is bad =
-        let set : Option Set = set_in n (name_read query.source)
-        in (bad.0, subst (λ (vids : List ℕ). IsDamagedIn set vids s page) (vids_same query.source _ set is) bad.1)
-
     bad_run : (asked : Asked) → IsBadBy (taken asked) → IsBadAs asked
     bad_run (BadByte at) bad = absurd (some_none (no.BadByte at) bad.0)
     bad_run NoQuery bad = absurd (some_none no.NotAQuery bad.0)
-    bad_run (AsksQuery query) bad = bad_query query (is_none_named (lineages_of query)) refl bad
+    bad_run (AsksQuery query) bad = bad
     bad_run (AsksJoin join) bad = absurd (some_none no.NotAQuery bad.0)
-
-    met_query : (query : Query) (t : Bool) → is_none_named (lineages_of query) ≡ t → t ≡ true → IsBadAs (AsksQuery query) → IsBadBy (if_taken query t)
-    met_query query false is built bad = absurd cc
-    met_query query true is built bad =
-        let set : Option Set = set_in n (name_read query.source)
-        in (bad.0, subst (λ (vids : List ℕ). IsDamagedIn set vids s page) (sym (vids_same query.source _ set is)) bad.1)
 
     met_run : (asked : Asked) → is_built_shape asked ≡ true → (run_off n user asked ≡ None) × AreBad (run_sources n asked) stage held s page → IsBadBy (taken asked)
     met_run (BadByte at) built bad = absurd bad.1
     met_run NoQuery built bad = absurd bad.1
-    met_run (AsksQuery query) built bad = met_query query (is_none_named (lineages_of query)) refl built bad
+    met_run (AsksQuery query) built bad = bad
     met_run (AsksJoin join) built bad = absurd cc
 
 pub run_damaged : (user text : List ℕ) (stage : Staged) (held now : Held) (s : State) (page : ℕ) → IsQueryDamaged held.numbers user text s page

@@ -4,7 +4,7 @@
 --                user is then
 --     reads_of n user command      the row of a command; who may ask it is decided before, but for a `run`
 --     fetch row      how many bytes of pages it may fetch; nothing where the numbers refuse it
-use Rattle.std.specs.Prelude.{ℕ, ◌+◌, Bool, false, not, nat_lt, if◌then◌else◌, List, [], ◌∷◌, ◌++◌, length, map, Option, Some, None, Result, Ok, Err, is_some}
+use Rattle.std.specs.Prelude.{ℕ, ◌+◌, Bool, false, not, nat_lt, if◌then◌else◌, List, [], ◌∷◌, ◌++◌, length, Option, Some, None, Result, Ok, Err, is_some}
 use Rattle.std.specs.Option.{option_or, option_map, option_and_then}
 use Rattle.ov_host.specs.declared.area.Extent.{Extent}
 use Rattle.ov_value.specs.declared.column.Column.{Column}
@@ -19,18 +19,15 @@ use Rattle.ov_model.specs.Asking.{name_read}
 use Rattle.ov_model.specs.Book.{Row}
 use Rattle.ov_model.specs.Deed.{file_of_table}
 use Rattle.ov_model.specs.Forms.{schema_refusal}
-use Rattle.ov_model.specs.Known.{Known, cvd_like, join_off_by}
-use Rattle.ov_model.specs.Lineages.{relatives}
+use Rattle.ov_model.specs.Known.{join_off_by}
 use Rattle.ov_model.specs.QueryTexts.{Asked, BadByte, NoQuery, AsksQuery, AsksJoin, asked_of}
 use Rattle.ov_model.specs.Registry.{as_text, both, is_number, is_same_schema, stage_name, stage_schema, table_in, users_name, users_schema, vids_staged}
 use Rattle.ov_model.specs.Users.{is_reserved, permit_names}
 use Rattle.ov_model.specs.declared.command.Command.{Command}
 use Rattle.ov_model.specs.declared.command.Command.TheVariants as asks
-use Rattle.ov_model.specs.declared.query.Src.{Src}
-use Rattle.ov_model.specs.declared.query.Src.TheVariants as source
 use Rattle.ov_model.specs.declared.refusal.Refusal.{Refusal}
 use Rattle.ov_model.specs.declared.refusal.Refusal.TheVariants as no
-use Rattle.ov_query.specs.Queries.{asked_off}
+use Rattle.ov_query.specs.Queries.{asked_off, known_in, vids_read}
 use Rattle.ov_read.specs.Sizes.{bytes_for, list_bytes_for, segment_bytes_for}
 use Rattle.ov_session.specs.Errors.{plan_refusal}
 use Rattle.ov_store.specs.Committing.{Set, parents_off_in}
@@ -241,17 +238,6 @@ abbrev pub staged_read : Numbers Extent Extent → List ℕ → List ℕ → Lis
 staged_read n user table message rows =
     staged_parents n (file_of_table user table) message (option_and_then (staged_in n) (table_in rows user table))
 
--- what the numbers know of a dataset
-abbrev pub known_in : Set → Known
-known_in set = record { schema = set.schema; parents = map (λ v. map (λ edge. edge.0) v.parents) set.versions }
-
--- a query's versions: those that it lists, a lineage's, or all
-abbrev pub vids_asked : Src → Option Set → List ℕ
-vids_asked (source.Listed vids name) set = vids
-vids_asked (source.Whole name) set = all_vids set
-vids_asked (source.Lineage kind vid name) None = []
-vids_asked (source.Lineage kind vid name) (Some set) = relatives (cvd_like (known_in set)) kind vid
-
 -- 40 and 41; 71; 10; of a query the first lineage's 12, per listed version 12 and 13, and 42 to 45; of a join 12, the right side's, and
 -- 42 and 43
 abbrev pub run_off : Numbers Extent Extent → List ℕ → Asked → Option Refusal
@@ -266,7 +252,7 @@ run_off n user (AsksJoin join) =
 abbrev pub run_sources : Numbers Extent Extent → Asked → List Source
 run_sources n (BadByte at) = []
 run_sources n NoQuery = []
-run_sources n (AsksQuery query) = RowsOf (set_in n (name_read query.source)) (vids_asked query.source (set_in n (name_read query.source))) ∷ []
+run_sources n (AsksQuery query) = RowsOf (set_in n (name_read query.source)) (vids_read query.source (set_in n (name_read query.source))) ∷ []
 run_sources n (AsksJoin join) =
     RowsOf (set_in n join.left.cvd) (join.left.vid ∷ []) ∷ RowsOf (set_in n join.right.cvd) (join.right.vid ∷ []) ∷ []
 

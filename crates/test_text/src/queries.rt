@@ -1,4 +1,4 @@
-//! Queries of lineages, which the program doesn't answer yet: what their texts ask for.
+//! Queries of lineages: what their texts ask for.
 
 use ov_lex::tokens;
 use ov_model::{Cond, LineageKind, Query, Src};
