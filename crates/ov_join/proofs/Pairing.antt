@@ -216,5 +216,5 @@ pub count-pairs : (ls rs : List Row) (partners : ℕ → List Spot) (places : Li
 count-pairs ls rs partners [] = refl
 count-pairs ls rs partners (place ∷ places) =
     length-append (beside_each ls rs partners place) (flat_map (beside_each ls rs partners) places)
-    ∙ ap₂ (λ n m. n + m) (length-map (λ s. beside (row_in ls place) (row_in rs s.place)) (partners place)) (count-pairs ls rs partners places)
+    ∙ ap₂ (λ n m. n + m) (length-map (partners place) (λ (s : Spot). beside (row_in ls place) (row_in rs s.place))) (count-pairs ls rs partners places)
     ∙ sym (length-append (partners place) (flat_map partners places))

@@ -20,6 +20,9 @@ rises-at R t (x ∷ xs) up zero (suc j) d le lt = all-at (λ y. is_gt (R x y) �
 rises-at R t (x ∷ xs) up (suc i) zero d le lt = absurd (omega (arith, le))
 rises-at R t (x ∷ xs) up (suc i) (suc j) d le lt = rises-at R t xs up.1 i j d (omega (arith, le)) (omega (arith, lt))
 
+one-more : (n : ℕ) → suc n ≡ 1 + n
+one-more n = omega arith
+
 lt-less : (o : Ordering) → is_lt o ≡ true → o ≡ Less
 lt-less Less e = refl
 lt-less Equal e = absurd (true≢false (sym e))
@@ -55,11 +58,12 @@ module _ {K : Type 0} (Q : K → K → Ordering) (t : IsTotalOrder Q) (k : K) wh
     run-by x xs Equal e below all before =
         let p : X → Bool = λ y. is_eq (Q (key y) k) in
         ap (λ o. cond (is_eq o) (x ∷ filter p xs) (filter p xs)) e ∙ ap (λ l. x ∷ l) before
-        ∙ sym (ap (λ o. take (if is_eq o then suc (prefix_len p xs) else 0) (x ∷ xs)) e)
+        ∙ ap (λ n. take n (x ∷ xs)) (one-more (prefix_len p xs))
+        ∙ sym (ap (λ o. take (if is_eq o then 1 + prefix_len p xs else 0) (x ∷ xs)) e)
     run-by x xs Greater e below all before =
         let p : X → Bool = λ y. is_eq (Q (key y) k) in
         ap (λ o. cond (is_eq o) (x ∷ filter p xs) (filter p xs)) e ∙ later x xs e all
-        ∙ sym (ap (λ o. take (if is_eq o then suc (prefix_len p xs) else 0) (x ∷ xs)) e)
+        ∙ sym (ap (λ o. take (if is_eq o then 1 + prefix_len p xs else 0) (x ∷ xs)) e)
 
     -- those that are equal stand in front of those that aren't below
     run : (xs : List X) → Rises (on key Q) xs → ((j : ℕ) (d : X) → j < length xs → is_lt (Q (key (get_or xs j d)) k) ≡ false)
@@ -84,14 +88,14 @@ module _ {K : Type 0} (Q : K → K → Ordering) (t : IsTotalOrder Q) (k : K) wh
 pub prefix-stops : {X : Type 0} (p : X → Bool) (xs : List X) (i : ℕ) (d : X) → i < length xs → p (get_or xs i d) ≡ false → prefix_len p xs ≡ i + prefix_len p (drop i xs) → i ≡ prefix_len p xs
 prefix-stops p xs i d lt below before =
     let here : drop i xs ≡ get_or xs i d ∷ drop (i + 1) xs = rw (add-one i) (drop-cons xs i d lt) in
-    let none : prefix_len p (drop i xs) ≡ 0 = ap (prefix_len p) here ∙ ap (λ b. if b then suc (prefix_len p (drop (i + 1) xs)) else 0) below in
+    let none : prefix_len p (drop i xs) ≡ 0 = ap (prefix_len p) here ∙ ap (λ b. if b then 1 + prefix_len p (drop (i + 1) xs) else 0) below in
     omega (arith, before, none)
 
 pub prefix-more : {X : Type 0} (p : X → Bool) (xs : List X) (i : ℕ) (d : X) → i < length xs → p (get_or xs i d) ≡ true → prefix_len p xs ≡ i + prefix_len p (drop i xs)
     → prefix_len p xs ≡ (i + 1) + prefix_len p (drop (i + 1) xs)
 prefix-more p xs i d lt passes before =
     let here : drop i xs ≡ get_or xs i d ∷ drop (i + 1) xs = rw (add-one i) (drop-cons xs i d lt) in
-    let one : prefix_len p (drop i xs) ≡ suc (prefix_len p (drop (i + 1) xs)) = ap (prefix_len p) here ∙ ap (λ b. if b then suc (prefix_len p (drop (i + 1) xs)) else 0) passes in
+    let one : prefix_len p (drop i xs) ≡ 1 + prefix_len p (drop (i + 1) xs) = ap (prefix_len p) here ∙ ap (λ b. if b then 1 + prefix_len p (drop (i + 1) xs) else 0) passes in
     omega (arith, before, one)
 
 pub prefix-all : {X : Type 0} (p : X → Bool) (xs : List X) (i : ℕ) → length xs ≤ i → prefix_len p xs ≡ i + prefix_len p (drop i xs) → i ≡ prefix_len p xs

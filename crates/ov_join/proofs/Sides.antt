@@ -16,18 +16,23 @@ use Rattle.ov_terms.specs.Finding.{in_version}
 abbrev named : List ℕ → Column → Bool
 named name c = bytes_eq c.name name
 
+next : (v : Value) (l : List Value) (i : ℕ) → slice_index_or (v ∷ l) (1 + i) Null ≡ slice_index_or l i Null
+next v l i = ap (λ k. slice_index_or (v ∷ l) k Null) (more i) where
+  more : (n : ℕ) → 1 + n ≡ suc n
+  more n = omega arith
+
 -- no column of the right side has the name of one of the left side, and past the last column there is NULL
 left-past : (rs : List Column) (r : Row) (name : List ℕ) → length r ≡ length rs
     → slice_index_or r (position_or_len (named (left_name name)) (map (renamed right_name) rs)) Null ≡ Null
 left-past [] [] name e = refl
 left-past [] (v ∷ r) name e = absurd (omega (arith, e))
 left-past (c ∷ rs) [] name e = absurd (omega (arith, e))
-left-past (c ∷ rs) (v ∷ r) name e = left-past rs r name (omega (arith, e))
+left-past (c ∷ rs) (v ∷ r) name e = next v r (position_or_len (named (left_name name)) (map (renamed right_name) rs)) ∙ left-past rs r name (omega (arith, e))
 
 step : (b : Bool) (v : Value) (l m : List Value) (i j : ℕ) → slice_index_or l i Null ≡ slice_index_or m j Null
-    → slice_index_or (v ∷ l) (if not b then suc i else 0) Null ≡ slice_index_or (v ∷ m) (if not b then suc j else 0) Null
+    → slice_index_or (v ∷ l) (if not b then 1 + i else 0) Null ≡ slice_index_or (v ∷ m) (if not b then 1 + j else 0) Null
 step true v l m i j e = refl
-step false v l m i j e = e
+step false v l m i j e = next v l i ∙ e ∙ sym (next v m j)
 
 left-at : (ls rs : List Column) (l r : Row) (name : List ℕ) → length l ≡ length ls → length r ≡ length rs
     → slice_index_or (l ++ r) (position_or_len (named (left_name name)) (map (renamed left_name) ls ++ map (renamed right_name) rs)) Null
@@ -52,7 +57,8 @@ right-at : (ls rs : List Column) (l r : Row) (name : List ℕ) → length l ≡ 
 right-at [] rs [] r name el er = right-here rs r name er
 right-at [] rs (v ∷ l) r name el er = absurd (omega (arith, el))
 right-at (c ∷ ls) rs [] r name el er = absurd (omega (arith, el))
-right-at (c ∷ ls) rs (v ∷ l) r name el er = right-at ls rs l r name (omega (arith, el)) er
+right-at (c ∷ ls) rs (v ∷ l) r name el er =
+    next v (l ++ r) (position_or_len (named (right_name name)) (map (renamed left_name) ls ++ map (renamed right_name) rs)) ∙ right-at ls rs l r name (omega (arith, el)) er
 
 pub left-value : (left right : Shape) (l r : Row) (name : List ℕ) → length l ≡ length left.columns → length r ≡ length right.columns
     → value_in (side_by_side left right) (beside l r) (col.Name (left_name name)) ≡ value_in left (in_version 0 l) (col.Name name)

@@ -9,7 +9,7 @@ returns-then-matched-room-clause-err c = λ _.
     let f = partners_in c.args.left.now c.args.right.now c.args.sorted.now in
     let places = c.args.left.now.places.now in
     let i = c.loop-place.place-index in
-    let more = flat-count f places i _ c.loop-place-test.true in
+    let more = flat-count f places i 0 c.loop-place-test.true in
     let under = flat-under f (i + 1) places in
     let here = ap length c.partners_of-matched.ensures in
     omega (arith, more, under, here, c.if-matched-room.true, c.loop-place.invariant.1)

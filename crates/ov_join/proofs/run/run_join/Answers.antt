@@ -19,8 +19,8 @@ use Rattle.ov_join.proofs.run.run_join.Goals as goal
 pub partners-requires-clause-same : goal.partners-requires-clause-same
 partners-requires-clause-same c =
     let pair = in_version 0 [] in
-    sym (length-map _ c.in_ok-ls.ls.cols.items) ∙ ap length (c.in_ok-ls.ensures.cols pair) ∙ length-map _ c.args.typed.now.join.on
-    ∙ sym (length-map _ c.args.typed.now.join.on) ∙ sym (ap length (c.in_ok-rs.ensures.cols pair)) ∙ length-map _ c.in_ok-rs.rs.cols.items
+    sym (length-map c.in_ok-ls.ls.cols.items _) ∙ ap length (c.in_ok-ls.ensures.cols pair) ∙ length-map c.args.typed.now.join.on _
+    ∙ sym (length-map c.args.typed.now.join.on _) ∙ sym (ap length (c.in_ok-rs.ensures.cols pair)) ∙ length-map c.in_ok-rs.rs.cols.items _
 
 pub returns-in_err-found-clause-err : goal.returns-in_err-found-clause-err
 returns-in_err-found-clause-err c =
