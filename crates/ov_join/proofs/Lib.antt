@@ -1,3 +1,9 @@
+pub mod Answering
+pub mod Fitted
+pub mod Listing
+pub mod Pairing
 pub mod Refused
+pub mod Searching
+pub mod Sides
 pub mod Spelled
 pub mod Unrelated

@@ -1,2 +1,4 @@
 pub mod Fitting
+pub mod Meeting
+pub mod Partnering
 pub mod Widening
