@@ -104,7 +104,9 @@ lines_roomy entry before forms n w s (line ∷ lines) space have licensed =
   where
     done : Served
     done = served forms n w s line space
+
     same : spent done ≡ served forms n w s line []
     same = line_roomy n entry before w s space (line_of forms line) have.0 licensed.0
+
     Behind : Served → Type 0
     Behind it = LinesHaveRoom entry (before ++ made_by w it.items) forms n it.world it.session lines
