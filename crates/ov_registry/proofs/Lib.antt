@@ -1,3 +1,4 @@
+pub mod Deeds
 pub mod Once
 pub mod Rising
 pub mod Versions
