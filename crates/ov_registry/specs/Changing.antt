@@ -18,7 +18,7 @@ use Rattle.ov_model.specs.declared.reply.Reply.{Reply}
 use Rattle.ov_model.specs.declared.reply.Reply.TheVariants as says
 use Rattle.ov_store.specs.Beginning.{first_of, init_off}
 use Rattle.ov_store.specs.Changes.{IsDone, IsWhy}
-use Rattle.ov_store.specs.Committing.{IsCommitted, IsUncommitted, Set, Wish}
+use Rattle.ov_store.specs.Committing.{IsCommitted, IsUncommitted, Set, Wish, commit_off}
 use Rattle.ov_store.specs.Refusals.{refusal_of}
 use Rattle.ov_store.specs.declared.errors.StoreErr.{StoreErr}
 use Rattle.ov_store.specs.declared.errors.StoreErr.TheVariants as why
@@ -40,9 +40,11 @@ pub record IsOrdered (schema : Shape) (rows made : List Row) : Type 0 where
 abbrev pub wish_of : Set → List Row → Wish
 wish_of set rows = record { vids = length set.versions ∷ []; message = codes "stage"; rows = rows }
 
+-- nothing refused it
 abbrev pub IsMade : Option Set → List ℕ → Shape → List Row → State → Held → Held → Type 0
-IsMade None name schema rows old before now = IsDone (first_of name schema rows) before now
-IsMade (Some set) name schema rows old before now = (made : Committed) × IsCommitted set (wish_of set rows) old before now made
+IsMade None name schema rows old before now = (init_off before name schema rows ≡ None) × IsDone (first_of name schema rows) before now
+IsMade (Some set) name schema rows old before now =
+    (commit_off before name (length set.versions ∷ []) rows ≡ None) × ((made : Committed) × IsCommitted set (wish_of set rows) old before now made)
 
 abbrev pub IsUnmade : Option Set → List ℕ → Shape → List Row → State → State → Held → StoreErr → Type 0
 IsUnmade None name schema rows old new held off = IsWhy (init_off held name schema rows) (first_of name schema rows) held old new off

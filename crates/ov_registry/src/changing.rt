@@ -98,6 +98,7 @@ fn begin<H: Host>(
     ensures why { IfErr result (IsUnmade None name.now schema rows (H.state host.old) (H.state host.new) store.old.held) }
     ensures stays { IfErr result (λ off. Stays off store.old store.new (H.state host.old) (H.state host.new)) }
     ensures usable { OnOk result (MayCall store.new (H.state host.new)) }
+    ensures unusable { IsErrOf result StoreErr.Host → store.new.usable ≡ false }
     ensures by_journal { IsByJournal store.old.held (H.state host.old) → OnOk result (IsByJournal store.new.held (H.state host.new)) }
     ensures undamaged { (w : World) → IsAtWorld w store.old.held (H.state host.old) → IfErr result IsUndamaged }
     ensures acts { (w : World) (s t : Session) (reply : Reply) → IsAtWorld w store.old.held (H.state host.old) → MatchResult result
@@ -138,6 +139,7 @@ fn add_version<H: Host>(
         → IfErr result (IsUnmade (Some set) name.now set.schema rows (H.state host.old) (H.state host.new) store.old.held) }
     ensures stays { IfErr result (λ off. Stays off store.old store.new (H.state host.old) (H.state host.new)) }
     ensures usable { OnOk result (MayCall store.new (H.state host.new)) }
+    ensures unusable { IsErrOf result StoreErr.Host → store.new.usable ≡ false }
     ensures by_journal { IsByJournal store.old.held (H.state host.old) → OnOk result (IsByJournal store.new.held (H.state host.new)) }
     ensures undamaged { (w : World) → IsAtWorld w store.old.held (H.state host.old) → IfErr result IsUndamaged }
     ensures acts { (w : World) (s t : Session) (schema : Shape) (reply : Reply) → IsAtWorld w store.old.held (H.state host.old) → MatchResult result
@@ -179,6 +181,7 @@ pub fn change<H: Host>(
         (H.state host.old) (H.state host.new) store.old.held) }
     ensures stays { IfErr result (λ off. Stays off store.old store.new (H.state host.old) (H.state host.new)) }
     ensures usable { OnOk result (MayCall store.new (H.state host.new)) }
+    ensures unusable { IsErrOf result StoreErr.Host → store.new.usable ≡ false }
     ensures by_journal { IsByJournal store.old.held (H.state host.old) → OnOk result (IsByJournal store.new.held (H.state host.new)) }
     ensures undamaged { (w : World) → IsAtWorld w store.old.held (H.state host.old) → IfErr result IsUndamaged }
     ensures acts { (w : World) (s t : Session) (reply : Reply) → IsAtWorld w store.old.held (H.state host.old) → MatchResult result

@@ -9,7 +9,7 @@ use Rattle.ov_model.specs.Merge.{in_key_order}
 use Rattle.ov_model.specs.Registry.{last_alone}
 use Rattle.ov_model.specs.World.{Dataset, World, set_named}
 use Rattle.ov_read.specs.Sizes.{bytes_for}
-use Rattle.ov_store.specs.Committing.{IsCommitted, IsUncommitted, Set, Wish}
+use Rattle.ov_store.specs.Committing.{IsCommitted, IsUncommitted, Set, Wish, commit_off}
 use Rattle.ov_store.specs.Scanning.{set_in}
 use Rattle.ov_store.specs.Worlds.{version_refusal}
 use Rattle.ov_store.proofs.Deciding.{counts, world_named}
@@ -52,7 +52,8 @@ pub returns-in-Ok-clause-done : goal.returns-in-Ok-clause-done
 returns-in-Ok-clause-done g c = λ set is.
     let live = c.requires.live
     in let last = last_of_set live.set set c.args.last (same_set live.set set (set_in c.args.store.now.held.numbers c.args.name.now) live.named is) live.last_is
-    in (
+    in (subst (λ v. commit_off c.args.store.now.held c.args.name.now (v ∷ []) c.args.rows ≡ None) last
+    (subst (λ (n : List ℕ). commit_off c.args.store.now.held n (c.args.last ∷ []) c.args.rows ≡ None) c.as_str.ensures.text c.in-Ok.ensures.allowed),
       c.in-Ok._made,
       subst (λ (x : Wish). IsCommitted set x (g.H.Host.state c.args.host.now) c.args.store.now.held c.commit.new.self.held c.in-Ok._made)
           (wish_is c.args.last c.args.message.now c.args.rows set last c.requires.message)

@@ -113,7 +113,8 @@ returns-in-Some-clause-done g c =
     (λ made. record {
       made = p.rows;
       ordered = c.in_ok-name.ensures.ordered;
-      is = subst (λ (o : Option Set). IsMade o (name_of c.args.which) (schema_of c.args.which) p.rows old c.args.store.now.held c.add_version.new.store.held) is made;
+      is = subst (λ (o : Option Set). IsMade o (name_of c.args.which) (schema_of c.args.which) p.rows old c.args.store.now.held c.add_version.new.store.held) is
+          (subst (λ (m : List ℕ). IsMade (Some live.set) m (schema_of c.args.which) p.rows old c.args.store.now.held c.add_version.new.store.held) c.in_ok-name.ensures.name made);
     })
     (c.add_version.ensures.done live.set live.named)
   where
