@@ -159,6 +159,9 @@ fn add_version<H: Host>(
 /// Refusals in their order: `TooManyCvds`, `NoNumbers`, `TooManyVersions`, `TooManyRows`, `FormatOne`, `TooManyRecords`, `Full`,
 /// `JournalFull`. A Commit reads the last version once more, and is `Damaged` where that is. All memory is taken before the first
 /// write.
+///
+/// The rows may come in any order, no key twice. A row that no segment can have, as it doesn't fit the schema or has more than 65,536
+/// bytes, is answered with `Memory`; `last_rows` gives none such where the host tells its bytes.
 pub fn change<H: Host>(
     alloc: Global,
     store: &mut Store,

@@ -52,12 +52,15 @@ pub returns-in-Ok-clause-done : goal.returns-in-Ok-clause-done
 returns-in-Ok-clause-done g c = λ set is.
     let live = c.requires.live
     in let last = last_of_set live.set set c.args.last (same_set live.set set (set_in c.args.store.now.held.numbers c.args.name.now) live.named is) live.last_is
-    in (subst (λ v. commit_off c.args.store.now.held c.args.name.now (v ∷ []) c.args.rows ≡ None) last
-    (subst (λ (n : List ℕ). commit_off c.args.store.now.held n (c.args.last ∷ []) c.args.rows ≡ None) c.as_str.ensures.text c.in-Ok.ensures.allowed),
-      c.in-Ok._made,
-      subst (λ (x : Wish). IsCommitted set x (g.H.Host.state c.args.host.now) c.args.store.now.held c.commit.new.self.held c.in-Ok._made)
-          (wish_is c.args.last c.args.message.now c.args.rows set last c.requires.message)
-          (c.in-Ok.ensures.done set (ap (set_in c.args.store.now.held.numbers) c.as_str.ensures.text ∙ is)),
+    in (
+      subst (λ v. commit_off c.args.store.now.held c.args.name.now (v ∷ []) c.args.rows ≡ None) last
+          (subst (λ (n : List ℕ). commit_off c.args.store.now.held n (c.args.last ∷ []) c.args.rows ≡ None) c.as_str.ensures.text c.in-Ok.ensures.allowed),
+      (
+        c.in-Ok._made,
+        subst (λ (x : Wish). IsCommitted set x (g.H.Host.state c.args.host.now) c.args.store.now.held c.commit.new.self.held c.in-Ok._made)
+            (wish_is c.args.last c.args.message.now c.args.rows set last c.requires.message)
+            (c.in-Ok.ensures.done set (ap (set_in c.args.store.now.held.numbers) c.as_str.ensures.text ∙ is)),
+      ),
     )
 
 pub returns-in-Err-clause-why : goal.returns-in-Err-clause-why

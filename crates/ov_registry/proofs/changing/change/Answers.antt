@@ -31,6 +31,7 @@ use Rattle.ov_registry.proofs.Versions.{if_err, match_err, own_schema}
 use Rattle.ov_registry.proofs.changing.change.Goals as goal
 
 names_are : (which : Registry) → IsTrue (is_name (name_of which))
+unfolding is_name
 names_are registry.Users = refl
 names_are registry.Stage = refl
 
@@ -184,11 +185,11 @@ begin-requires-clause-ordered g c = λ few.
 none_named : (n : Numbers Extent Extent) (name own : List ℕ) → name ≡ own → set_in n name ≡ None → set_in n own ≡ None
 none_named n name own same none = ap (set_in n) (sym same) ∙ none
 
-pub returns-in-None-clause-fetched : goal.returns-in-None-clause-fetched
-returns-in-None-clause-fetched g c = omega (arith, c.begin.ensures.fetched)
+pub returns-clause-fetched : goal.returns-clause-fetched
+returns-clause-fetched g c = omega (arith, c.begin.ensures.fetched)
 
-pub returns-in-None-clause-done : goal.returns-in-None-clause-done
-returns-in-None-clause-done g c =
+pub returns-clause-done : goal.returns-clause-done
+returns-clause-done g c =
     let n = c.args.store.now.held.numbers
     in let p = c.in_ok-name.field-0
     in let old = g.H.Host.state c.args.host.now
@@ -211,8 +212,8 @@ returns-in-None-clause-done g c =
     map_ok P Q (Ok a) to p = to p
     map_ok P Q (Err e) to p = tt
 
-pub returns-in-None-clause-why : goal.returns-in-None-clause-why
-returns-in-None-clause-why g c =
+pub returns-clause-why : goal.returns-clause-why
+returns-clause-why g c =
     let n = c.args.store.now.held.numbers
     in let p = c.in_ok-name.field-0
     in let old = g.H.Host.state c.args.host.now
@@ -235,8 +236,8 @@ returns-in-None-clause-why g c =
     map_err P Q (Ok a) to p = tt
     map_err P Q (Err e) to p = to e p
 
-pub returns-in-None-clause-acts : goal.returns-in-None-clause-acts
-returns-in-None-clause-acts g c = λ w s t reply at.
+pub returns-clause-acts : goal.returns-clause-acts
+returns-clause-acts g c = λ w s t reply at.
     let p = c.in_ok-name.field-0
     in let name = name_of c.args.which
     in let schema = schema_of c.args.which

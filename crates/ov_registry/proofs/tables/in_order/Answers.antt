@@ -3,10 +3,10 @@ use Rattle.std.proofs.lemmas.List.Sorted.{IsPermutation-refl}
 use Rattle.law_users.proofs.Ordering.{rising_once}
 use Rattle.ov_registry.proofs.tables.in_order.Goals as goal
 
-pub returns-then-len : goal.returns-then-len
-returns-then-len c = record {
+pub returns-then-len-gt-MOST_ROWS : goal.returns-then-len-gt-MOST_ROWS
+returns-then-len-gt-MOST_ROWS c = record {
   kept = IsPermutation-refl c.args.rows;
-  once = c.requires;
+  once = c.requires.once;
   ordered = λ few. absurd (omega arith);
   rises = λ few. absurd (omega arith);
   many = λ high. refl;
