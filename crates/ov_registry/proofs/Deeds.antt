@@ -1,6 +1,6 @@
 -- A call of the store as a change: done, refused, or broken off.
 use Rattle.std.proofs.Common.{◌≡◌, ◌∙◌, ◌<◌, ◌≤◌, ◌⊎◌, inl, inr, ℕ, Bool, true, false, List, [], ◌∷◌, ◌==◌, length, refl, sym, ap, subst, arith}
-use Rattle.std.specs.Prelude.{◌||◌, nat_le, nat_lt, if◌then◌else◌, Some, None, Option, Ok, Err, Result, is_some, codes, IfErr, OnOk, MatchResult}
+use Rattle.std.specs.Prelude.{◌||◌, nat_le, nat_lt, if◌then◌else◌, Some, None, Option, is_some, codes}
 use Rattle.std.specs.Option.{option_or}
 use Rattle.std.specs.Str.{bytes_eq}
 use Rattle.std.proofs.lemmas.Bool.{le-ltb, lt-ltb, ne_eqb}
@@ -9,9 +9,8 @@ use Rattle.std.proofs.lemmas.Slice.Eq.{bytes_eq-Decides}
 use Rattle.ov_host.specs.Host.{State}
 use Rattle.ov_host.specs.Stops.{Only}
 use Rattle.ov_core.specs.AtWorld.{IsAtNext, IsAtWorld, IsEither}
-use Rattle.ov_core.specs.Held.{Held}
 use Rattle.ov_fetch.specs.Extents.{Looked}
-use Rattle.ov_model.specs.Act.{Deed, Session, commit_refusal, does, format_one, fresh_of, if_so, init_refusal, more_refusal, records_refusal, refuses, repeated_key, rows_refusal, unless, vids_refusal}
+use Rattle.ov_model.specs.Act.{Deed, Session, does, format_one, fresh_of, if_so, more_refusal, records_refusal, refuses, repeated_key, unless, vids_refusal}
 use Rattle.ov_model.specs.Book.{Row}
 use Rattle.ov_model.specs.Merge.{in_key_order}
 use Rattle.ov_model.specs.Moves.{Commit, Init, Move, moved}
@@ -27,10 +26,10 @@ use Rattle.law_runs.specs.Serving.{Breaks, Does}
 use Rattle.law_runs.specs.Stops.{printed_of}
 use Rattle.law_runs.proofs.Doing.{breaks_looked, breaks_move, breaks_where, does_full, does_move, does_no_run, does_told}
 use Rattle.ov_store.specs.Beginning.{first_move}
-use Rattle.ov_store.specs.Committing.{Wish, commit_move, committed, fresh_in_world, with_commit}
+use Rattle.ov_store.specs.Committing.{Wish, commit_move, committed, with_commit}
 use Rattle.ov_store.specs.Kept.{Kept, Stays}
 use Rattle.ov_store.specs.Scanning.{IsUndamaged}
-use Rattle.ov_store.specs.Worlds.{IsLack, IsRefusedAs, and_made, begin_refusal, content_refusal, version_refusal}
+use Rattle.ov_store.specs.Worlds.{IsLack, IsRefusedAs, and_made, begin_refusal, version_refusal}
 use Rattle.ov_store.specs.declared.errors.StoreErr.{StoreErr}
 use Rattle.ov_store.specs.declared.errors.StoreErr.TheVariants as why
 use Rattle.ov_value.specs.Shapes.{Shape}

@@ -1,4 +1,4 @@
-use Rattle.std.proofs.Common.{rules, ◌≡◌, ◌≤◌, ◌<◌, ◌+◌, ◌∙◌, ℕ, List, [], ◌∷◌, length, inl, inr, refl, sym, ap, subst, arith}
+use Rattle.std.proofs.Common.{◌≡◌, ◌≤◌, ◌+◌, ◌∙◌, ℕ, List, [], length, inl, inr, refl, sym, ap, subst, arith}
 use Rattle.std.specs.Prelude.{Some, None, Option, Ok, Err, Result, IsTrue, IfErr, OnOk, MatchResult}
 use Rattle.std.specs.List.{All}
 use Rattle.std.specs.Option.{option_map}
@@ -8,22 +8,20 @@ use Rattle.law_runs.proofs.Doing.{breaks_looked}
 use Rattle.law_users.proofs.Ordering.{rising_ordered}
 use Rattle.ov_catalog.specs.Numbers.{Numbers}
 use Rattle.ov_host.specs.declared.area.Extent.{Extent}
-use Rattle.ov_host.specs.Host.{State}
 use Rattle.ov_model.specs.Act.{Deed, repeated_key}
 use Rattle.ov_model.specs.Book.{Row}
 use Rattle.ov_model.specs.Deed.{changes}
 use Rattle.ov_model.specs.Merge.{in_key_order}
 use Rattle.ov_model.specs.World.{set_named}
 use Rattle.ov_store.specs.Committing.{Set}
-use Rattle.ov_store.specs.Kept.{Stays}
 use Rattle.ov_store.specs.Scanning.{IsUndamaged, set_in}
 use Rattle.ov_store.specs.declared.errors.StoreErr.{StoreErr}
 use Rattle.ov_store.specs.declared.errors.StoreErr.TheVariants as why
 use Rattle.ov_value.specs.Naming.{is_name}
 use Rattle.ov_value.specs.Shapes.{Shape}
 use Rattle.ov_value.specs.Spelling.{IsRow}
-use Rattle.ov_registry.specs.Changing.{Ends, IsChanged, IsMade, IsOrdered, IsUnchanged, IsUnmade, changes_to}
-use Rattle.ov_registry.specs.Last.{IsLiveTo, bytes_in, is_foreign_in, last_vid, name_of, schema_of}
+use Rattle.ov_registry.specs.Changing.{Ends, IsMade, IsOrdered, IsUnmade, changes_to}
+use Rattle.ov_registry.specs.Last.{IsLiveTo, bytes_in, last_vid, name_of, schema_of}
 use Rattle.ov_registry.specs.declared.registry.Registry.{Registry}
 use Rattle.ov_registry.specs.declared.registry.Registry.TheVariants as registry
 use Rattle.ov_registry.proofs.Deeds.{deeds_alike}
