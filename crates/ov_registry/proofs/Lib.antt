@@ -1,3 +1,5 @@
+pub mod Deeds
 pub mod Once
 pub mod Rising
+pub mod Stored
 pub mod Versions

@@ -5,7 +5,7 @@
 --     AreLast set s rows      these are the rows of that version, as they are read
 --     IsLastDamaged set s page      a scan of it is damaged, or a key stands in it twice
 --     IsUnread set old new why      why its rows aren't given
-use Rattle.std.specs.Prelude.{◌≡◌, ◌≢◌, ◌⊎◌, ℕ, Bool, true, false, not, List, [], ◌∷◌, length, Option, Some, None}
+use Rattle.std.specs.Prelude.{◌≡◌, ◌≢◌, ◌⊎◌, ◌≤◌, ℕ, Bool, true, false, not, List, [], ◌∷◌, length, Option, Some, None}
 use Rattle.ov_catalog.specs.Numbers.{Numbers}
 use Rattle.ov_fetch.specs.Extents.{page_bytes}
 use Rattle.ov_fetch.specs.Scans.{rows_at}
@@ -43,6 +43,13 @@ is_foreign_in schema (Some set) = not (is_same_schema set.schema schema)
 pub record IsLive (n : Numbers Extent Extent) (name : List ℕ) : Type 0 where
   pub set : Set
   pub named : set_in n name ≡ Some set
+
+-- and this is its last version
+pub record IsLiveTo (n : Numbers Extent Extent) (name : List ℕ) (last : ℕ) : Type 0 where
+  pub set : Set
+  pub named : set_in n name ≡ Some set
+  pub last_is : last ≡ length set.versions
+  pub some : 1 ≤ last
 
 -- ---- the last version
 

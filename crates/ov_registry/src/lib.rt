@@ -4,10 +4,13 @@
 //! two datasets are stands in `ov_model`'s `specs/Registry.antt`.
 #![tactic(auto)]
 
+mod changing;
 mod columns;
 mod reading;
 mod registry;
 mod rows;
+mod tables;
 
+pub use changing::change;
 pub use reading::last_rows;
 pub use registry::{Registry, is_foreign};

@@ -1,6 +1,7 @@
 // The rows of the last version.
 
 ghost use Rattle.std.specs.Prelude.{◌≡◌, ◌≤◌, ◌+◌, ℕ, [], ◌∷◌, true, false, None, Some, IfOk, IfErr, OnOk, MatchResult, length};
+ghost use Rattle.std.specs.List.{All};
 ghost use Rattle.ov_catalog.specs.Ready.{IsSet};
 ghost use Rattle.ov_catalog.specs.Sets.{set_in as numbers_of};
 ghost use Rattle.ov_core.specs.AtWorld.{IsAtWorld};
@@ -16,6 +17,7 @@ ghost use Rattle.ov_store.specs.Committing.{Set};
 ghost use Rattle.ov_store.specs.Scanning.{IsDamagedIn, IsUndamaged, IsUnscanned, scan_off, set_in};
 ghost use Rattle.ov_value.specs.Rows.{key_cmp};
 ghost use Rattle.ov_registry.specs.Last.{AreLast, IsLast, IsLastDamaged, IsLive, IsUnread, bytes_in, is_foreign_in, last_vid, name_of, schema_of};
+ghost use Rattle.ov_registry.specs.Storable.{CanStore};
 
 use crate::registry::Registry;
 use crate::rows::{are_rising, copied_rows};
@@ -85,6 +87,7 @@ fn rows_of_live<H: Host>(
     ensures fetched { (H.state host.new).fetched ≤ (H.state host.old).fetched + bytes_in (Some (numbers_of d.now)) (last_vid (Some (numbers_of d.now))) }
     ensures rise { IfOk result (λ rows. Rises (key_cmp d.now.schema) rows.items) }
     ensures last { IfOk result (λ rows. AreLast (Some (numbers_of d.now)) (H.state host.old) rows.items) }
+    ensures stored { (H.state host.old).tells ≡ true → IfOk result (λ rows. All (CanStore d.now.schema) rows.items) }
     ensures why { IfErr result (IsUnread (Some (numbers_of d.now)) (H.state host.old) (H.state host.new)) }
     ensures whole { (page : ℕ) → (H.state host.old).tells ≡ true
         → OnOk result (IsLastDamaged (Some (numbers_of d.now)) (H.state host.old) page → ⊥) }
@@ -106,7 +109,7 @@ fn rows_of_live<H: Host>(
 ///
 /// `Damaged` where a scan of that version is damaged, or else where a key stands twice in it; then the page is the first one of the
 /// version's list. `Host` and `Memory` are the only other errors. The list of the version is read once, and so is the partition
-/// that serves it; nothing is changed.
+/// that serves it; nothing is changed. Where the host tells its bytes, a segment can have each of the rows.
 pub fn last_rows<H: Host>(
     alloc: Global,
     store: &Store,
@@ -120,6 +123,7 @@ pub fn last_rows<H: Host>(
         in (H.state host.new).fetched ≤ (H.state host.old).fetched + bytes_in set (last_vid set) }
     ensures rise { IfOk result (λ rows. Rises (key_cmp (schema_of which)) rows.items) }
     ensures last { IfOk result (λ rows. AreLast (set_in store.now.held.numbers (name_of which)) (H.state host.old) rows.items) }
+    ensures stored { (H.state host.old).tells ≡ true → IfOk result (λ rows. All (CanStore (schema_of which)) rows.items) }
     ensures why { IfErr result (IsUnread (set_in store.now.held.numbers (name_of which)) (H.state host.old) (H.state host.new)) }
     ensures whole { (page : ℕ) → (H.state host.old).tells ≡ true
         → OnOk result (IsLastDamaged (set_in store.now.held.numbers (name_of which)) (H.state host.old) page → ⊥) }

@@ -1,5 +1,7 @@
 use Rattle.std.proofs.Common.{rules, ◌≡◌, ◌≤◌, ◌+◌, ◌∙◌, ◌⊎◌, inl, inr, ℕ, List, [], sym, ap, subst, arith}
 use Rattle.std.specs.Prelude.{Some, None, Option, IfOk, IfErr, OnOk, MatchResult}
+use Rattle.std.specs.List.{All}
+use Rattle.std.proofs.lemmas.List.Elements.{All-nil}
 use Rattle.ov_host.specs.declared.area.Extent.{Extent}
 use Rattle.ov_catalog.specs.Numbers.{Numbers}
 use Rattle.ov_catalog.specs.Sets as sets
@@ -12,6 +14,7 @@ use Rattle.ov_store.proofs.Deciding.{none_named, world_named}
 use Rattle.ov_value.specs.Rows.{key_cmp}
 use Rattle.ov_value.specs.Shapes.{Shape}
 use Rattle.ov_registry.specs.Last.{AreLast, IsLastDamaged, IsUnread, bytes_in, last_vid, name_of, schema_of}
+use Rattle.ov_registry.specs.Storable.{CanStore}
 use Rattle.ov_registry.proofs.Versions.{own_schema}
 use Rattle.ov_registry.proofs.reading.last_rows.Goals as goal
 
@@ -42,6 +45,15 @@ returns-in-Some-clause-last g c =
     = subst (λ (name : List ℕ). set_in c.args.store.now.held.numbers name ≡ Some (sets.set_in c.in-Some.d.now)) c.name-name.ensures
     (subst (λ (n : Numbers Extent Extent). set_in n c.name-name.result.now ≡ Some (sets.set_in c.in-Some.d.now)) c.catalog.ensures (sym c.in-Some.ensures.found))
     in subst (λ (o : Option Set). IfOk c.rows_of_live.result (λ rows. AreLast o (g.H.Host.state c.args.host.now) rows.items)) (sym named) c.rows_of_live.ensures.last
+
+pub returns-in-Some-clause-stored : goal.returns-in-Some-clause-stored
+returns-in-Some-clause-stored g c = λ told.
+    let named : set_in c.args.store.now.held.numbers (name_of c.args.which) ≡ Some (sets.set_in c.in-Some.d.now)
+    = subst (λ (name : List ℕ). set_in c.args.store.now.held.numbers name ≡ Some (sets.set_in c.in-Some.d.now)) c.name-name.ensures
+    (subst (λ (n : Numbers Extent Extent). set_in n c.name-name.result.now ≡ Some (sets.set_in c.in-Some.d.now)) c.catalog.ensures (sym c.in-Some.ensures.found))
+    in subst (λ (schema : Shape). IfOk c.rows_of_live.result (λ rows. All (CanStore schema) rows.items))
+    (own_schema (schema_of c.args.which) (set_in c.args.store.now.held.numbers (name_of c.args.which)) (sets.set_in c.in-Some.d.now) named c.requires.own)
+    (c.rows_of_live.ensures.stored told)
 
 pub returns-in-Some-clause-why : goal.returns-in-Some-clause-why
 returns-in-Some-clause-why g c =
@@ -79,6 +91,11 @@ returns-in-None-clause-last g c =
     (subst (λ (n : Numbers Extent Extent). set_in n c.name-name.result.now ≡ None) c.catalog.ensures (sym c.in-None.ensures.found))
     in let empty : c.new.result.items ≡ [] = search rules
     in subst (λ (o : Option Set). AreLast o (g.H.Host.state c.args.host.now) c.new.result.items) (sym none) empty
+
+pub returns-in-None-clause-stored : goal.returns-in-None-clause-stored
+returns-in-None-clause-stored g c = λ told.
+    let empty : c.new.result.items ≡ [] = search rules
+    in subst (All (CanStore (schema_of c.args.which))) (sym empty) (All-nil (CanStore (schema_of c.args.which)))
 
 pub returns-in-None-clause-whole : goal.returns-in-None-clause-whole
 returns-in-None-clause-whole g c = λ page told damaged.

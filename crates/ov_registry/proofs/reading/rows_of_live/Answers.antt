@@ -17,6 +17,7 @@ use Rattle.ov_registry.specs.Last.{IsLast, IsUnread}
 use Rattle.ov_registry.proofs.Once.{last_moved}
 use Rattle.ov_registry.proofs.Versions.{count_is, if_err, last_passes, match_err, unscanned_unread, world_rises}
 use Rattle.ov_registry.proofs.Rising.{sorted_rises}
+use Rattle.ov_registry.proofs.Stored.{can_store}
 use Rattle.ov_registry.proofs.reading.rows_of_live.Goals as goal
 
 pub rows_of_version-requires-clause-live : goal.rows_of_version-requires-clause-live
@@ -65,6 +66,11 @@ returns-then-are_rising-clause-rise g c =
 
 pub returns-then-are_rising-clause-last : goal.returns-then-are_rising-clause-last
 returns-then-are_rising-clause-last g c = λ told. c.in_ok-rows.ensures.read (sets.set_in c.args.d.now) c.requires.named c.last_version.ensures told
+
+pub returns-then-are_rising-clause-stored : goal.returns-then-are_rising-clause-stored
+returns-then-are_rising-clause-stored g c = λ told.
+    let set = sets.set_in c.args.d.now
+    in can_store set (g.H.Host.state c.args.host.now) c.in_ok-rows.rows.items (c.in_ok-rows.ensures.read set c.requires.named c.last_version.ensures told)
 
 pub returns-then-are_rising-clause-whole : goal.returns-then-are_rising-clause-whole
 returns-then-are_rising-clause-whole g c = λ page told damaged. elim damaged [ inl scan ↦ unscanned page told scan | inr twice ↦ once told (twice told) ]
