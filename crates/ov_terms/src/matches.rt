@@ -72,6 +72,9 @@ impl<'a> SideBySide<'a> {
     }
 
     /// The value at a position of a row; NULL where there is none.
+    // (kept out of the loops over the rows of one scan, which are longer and slower with it)
+    #[cold]
+    #[inline(never)]
     pub(crate) fn cell(&self, at: usize, place: usize) -> CellRef<'a>
         ensures { value_of result ≡ slice_index_or (row_in self.now at) place Null }
     {

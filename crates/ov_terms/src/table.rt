@@ -132,6 +132,7 @@ impl<'a> Table<'a> {
 }
 
 // The value at a position of a record; NULL where there is none.
+#[inline(always)]
 fn cell_in<'a>(records: &'a RecordTable, at: usize, place: usize) -> CellRef<'a>
     ensures { value_of result ≡ slice_index_or (row_at records.now at) place Null }
 {
