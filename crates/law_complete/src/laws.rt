@@ -21,9 +21,6 @@ ghost use Rattle.ov_top.specs.declared.status.Status.{Status as StatusValue};
 /// Where the words are of the form, the ends tell their bytes, nothing is pending, the store's bytes stand for a World, the source
 /// has fewer than 2^32 bytes and no count of faults rose, what `run` says of its status (`cause`, `plays`) leaves `Done` and
 /// `Refused`, each with the whole course played, and want of memory.
-///
-/// And where there is room for all that the course attempts, by what the store had at the entry, that course is the one in which
-/// nothing is refused for want of room.
 pub fn valid_input_is_served()
     ensures { (words : List (List ℕ)) (steps : ℕ) (w : World) (old new : Ends) (status : StatusValue) → IsValid words steps w old
         → NoFaults old new → Cause status words old new → Plays status steps w old new → IsComplete status steps w old new }
