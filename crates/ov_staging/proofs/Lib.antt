@@ -1,0 +1,4 @@
+pub mod Looks
+pub mod Ended
+pub mod Acted
+pub mod Keys
