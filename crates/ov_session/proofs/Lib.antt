@@ -8,6 +8,7 @@ pub mod Saying
 pub mod Standing
 pub mod Bounds
 pub mod Rows
+pub mod Registered
 pub mod Replying
 pub mod Numbering
 pub mod Meeting

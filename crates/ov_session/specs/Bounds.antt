@@ -16,7 +16,7 @@ use Rattle.ov_model.specs.Line.{Line, Asks}
 use Rattle.ov_model.specs.declared.command.Command.{Command}
 use Rattle.ov_store.specs.Planning.{optimize_off}
 use Rattle.ov_store.specs.Scanning.{all_vids, set_in}
-use Rattle.ov_session.specs.Commands.{AreLast}
+use Rattle.ov_registry.specs.Last.{AreLast}
 pub use Rattle.ov_session.specs.Reads.{Changes, Nothing, Once, Several, Own, Nought, Versions, Steps, Later, Reads, Source, bytes_in, bytes_of_all, changes_of, fetch, if_allowed, reads_of}
 
 -- the lists of all versions and the segments of all partitions, where nothing refuses the plan

@@ -1,15 +1,18 @@
 -- What an error of a part comes to.
+--     by_staging made      that of a command of the registry
 --     reply_of name off      the reply to a command that the store refused
 --     end_of off      why the run ends, where it is no refusal
 --     is_nameless off      it is of the host, of memory or of the journal's room, and so of no dataset: a checkpoint's
 --     plan_refusal name off, plan_reply name off, plan_end off      these of a plan that didn't begin
-use Rattle.std.specs.Prelude.{ℕ, Bool, true, false, List, Option, Some, None, option_map}
+use Rattle.std.specs.Prelude.{ℕ, Bool, true, false, List, Option, Some, None, Result, Ok, Err, option_map}
 use Rattle.ov_files.specs.declared.errors.FileErr.{FileErr}
 use Rattle.ov_files.specs.declared.errors.FileErr.TheVariants as file
 use Rattle.ov_model.specs.declared.refusal.Refusal.{Refusal}
 use Rattle.ov_model.specs.declared.refusal.Refusal.TheVariants as no
 use Rattle.ov_model.specs.declared.reply.Reply.{Reply}
 use Rattle.ov_model.specs.declared.reply.Reply.TheVariants as says
+use Rattle.ov_staging.specs.declared.errors.StagingErr.{StagingErr}
+use Rattle.ov_staging.specs.declared.errors.StagingErr.TheVariants as staging
 use Rattle.ov_store.specs.Refusals.{refusal_of}
 use Rattle.ov_store.specs.declared.errors.StoreErr.{StoreErr}
 use Rattle.ov_store.specs.declared.errors.StoreErr.TheVariants as why
@@ -21,6 +24,12 @@ use Rattle.ov_session.specs.declared.errors.EndErr.TheVariants as ending
 abbrev pub by_file : FileErr → EndErr
 by_file file.Stage = ending.Stage
 by_file file.Memory = ending.Memory
+
+abbrev pub by_staging : Result Reply StagingErr → Result Reply EndErr
+by_staging (Ok reply) = Ok reply
+by_staging (Err staging.Host) = Err ending.Host
+by_staging (Err staging.Memory) = Err ending.Memory
+by_staging (Err (staging.Damaged area at)) = Err (ending.Damaged area at)
 
 abbrev pub reply_of : List ℕ → StoreErr → Option Reply
 reply_of name off = option_map says.Refused (refusal_of name off)

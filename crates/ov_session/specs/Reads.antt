@@ -21,7 +21,7 @@ use Rattle.ov_model.specs.Deed.{file_of_table}
 use Rattle.ov_model.specs.Forms.{schema_refusal}
 use Rattle.ov_model.specs.Known.{join_off_by}
 use Rattle.ov_model.specs.QueryTexts.{Asked, BadByte, NoQuery, AsksQuery, AsksJoin, asked_of}
-use Rattle.ov_model.specs.Registry.{as_text, both, is_number, is_same_schema, stage_name, stage_schema, table_in, users_name, users_schema, vids_staged}
+use Rattle.ov_model.specs.Registry.{as_text, both, is_number, stage_name, stage_schema, table_in, table_row, users_name, vids_staged, with_row}
 use Rattle.ov_model.specs.Users.{is_reserved, permit_names}
 use Rattle.ov_model.specs.declared.command.Command.{Command}
 use Rattle.ov_model.specs.declared.command.Command.TheVariants as asks
@@ -29,6 +29,11 @@ use Rattle.ov_model.specs.declared.refusal.Refusal.{Refusal}
 use Rattle.ov_model.specs.declared.refusal.Refusal.TheVariants as no
 use Rattle.ov_query.specs.Queries.{asked_off, known_in, vids_read}
 use Rattle.ov_read.specs.Sizes.{bytes_for, list_bytes_for, segment_bytes_for}
+use Rattle.ov_registry.specs.declared.registry.Registry.{Registry}
+use Rattle.ov_registry.specs.declared.registry.Registry.TheVariants as registry
+use Rattle.ov_staging.specs.Reading.{foreign_off}
+use Rattle.ov_staging.specs.Tables.{table_rows}
+use Rattle.ov_staging.specs.Users.{config_off, create_off, user_rows}
 use Rattle.ov_session.specs.Errors.{plan_refusal}
 use Rattle.ov_store.specs.Committing.{Set, parents_off_in}
 use Rattle.ov_store.specs.Planning.{optimize_off}
@@ -59,6 +64,9 @@ pub data Source : Type 0 where
   SegmentsOf : (set : Option Set) → Source
   -- the rows of the last version of a dataset of the registry, in which no key may stand twice
   LastOf : (set : Option Set) → Source
+  -- what the one Commit of that dataset reads, where it is there: the last version, as the parent of these rows of it, and the
+  -- partition that they join
+  ChangeOf : (which : Registry) (set : Option Set) (rows : List Row → List Row) → Source
 
 -- what it reads of what it makes itself: nothing, its versions' parents, or what so many steps read
 pub data Own : Type 0 where
@@ -129,6 +137,7 @@ source_bytes (PlanOf set) = bytes_in set (all_vids set)
 source_bytes (ListsOf set) = lists_in set (all_vids set)
 source_bytes (SegmentsOf set) = segments_in set (all_vids set)
 source_bytes (LastOf set) = bytes_in set (last_vid set)
+source_bytes (ChangeOf which set rows) = bytes_in set (last_vid set)
 
 abbrev pub bytes_of_all : List Source → ℕ
 bytes_of_all [] = 0
@@ -149,11 +158,6 @@ fetch row = if_allowed row.off (bytes_of_all (row.always ++ row.if_done))
 abbrev pub there_off : List ℕ → Option Set → Option Refusal
 there_off cvd None = Some (no.NoCvd cvd)
 there_off cvd (Some set) = None
-
--- 76
-abbrev pub registry_off : Shape → Option Set → Option Refusal
-registry_off schema None = None
-registry_off schema (Some set) = if_so (not (is_same_schema set.schema schema)) no.ForeignRegistry
 
 -- 18 and 22 of a plan within a budget
 abbrev pub within_set_off : List ℕ → Option Set → Option Refusal
@@ -187,7 +191,7 @@ commit_row_off n cvd vids added = option_or (refused cvd (parents_off_in (set_in
 abbrev pub stage_off : Numbers Extent Extent → List ℕ → List ℕ → List ℕ → Option Refusal
 stage_off n cvd vids table =
     option_or (if_so (not (is_name table)) (no.BadName table))
-    (option_or (registry_off stage_schema (set_in n stage_name))
+    (option_or (foreign_off stage_schema (set_in n stage_name))
     (option_or (if_so (nat_lt 1000 (length vids)) no.TooManyListed) (refused cvd (scan_off n cvd vids))))
 
 -- ---- rows
@@ -204,13 +208,21 @@ abbrev pub given_in : Option (List ℕ) → File
 given_in None = Unused
 given_in (Some file) = Given
 
-abbrev pub checkout_reads : Numbers Extent Extent → List ℕ → List ℕ → Option (List ℕ) → Option (List ℕ) → Reads
-checkout_reads n cvd vids file None =
+-- the row of a table that is staged
+abbrev pub number_in : Option Set → ℕ
+number_in None = 0
+number_in (Some set) = set.number
+
+abbrev pub staged_rows : Numbers Extent Extent → List ℕ → List ℕ → List ℕ → List ℕ → List Row → List Row
+staged_rows n user cvd vids table rows = with_row rows (table_row user table cvd (number_in (set_in n cvd)) vids)
+
+abbrev pub checkout_reads : Numbers Extent Extent → List ℕ → List ℕ → List ℕ → Option (List ℕ) → Option (List ℕ) → Reads
+checkout_reads n user cvd vids file None =
     record (refusing (refused cvd (scan_off n cvd vids))) { always = RowsOf (set_in n cvd) vids ∷ []; file = given_in file }
-checkout_reads n cvd vids file (Some table) =
+checkout_reads n user cvd vids file (Some table) =
     record (refusing (stage_off n cvd vids table)) {
       always = LastOf (set_in n stage_name) ∷ [];
-      if_done = RowsOf (set_in n cvd) vids ∷ [];
+      if_done = RowsOf (set_in n cvd) vids ∷ ChangeOf registry.Stage (set_in n stage_name) (staged_rows n user cvd vids table) ∷ [];
       changes = Once;
       file = GivenBehind;
     }
@@ -258,7 +270,7 @@ run_sources n (AsksJoin join) =
 
 abbrev pub reads_of : Numbers Extent Extent → List ℕ → Command → Reads
 reads_of n user (asks.Init cvd schema file) = record (refusing (refused cvd (new_off n cvd))) { changes = Once; file = Taken }
-reads_of n user (asks.Checkout cvd vids file table) = checkout_reads n cvd vids file table
+reads_of n user (asks.Checkout cvd vids file table) = checkout_reads n user cvd vids file table
 reads_of n user (asks.Commit cvd vids file message added) =
     record (refusing (commit_row_off n cvd vids (columns_of added))) {
       if_done = parents_read n (record { cvd = cvd; vids = vids; file = file; message = message; added = columns_of added });
@@ -266,7 +278,7 @@ reads_of n user (asks.Commit cvd vids file message added) =
       file = Taken;
     }
 reads_of n user (asks.CommitStaged owner table message) =
-    record (refusing (registry_off stage_schema (set_in n stage_name))) {
+    record (refusing (foreign_off stage_schema (set_in n stage_name))) {
       always = LastOf (set_in n stage_name) ∷ [];
       later = Some (record { registry = set_in n stage_name; sources = staged_read n owner table message });
       changes = Once;
@@ -296,19 +308,24 @@ reads_of n user asks.Checkpoint = record none { changes = Once }
 reads_of n user (asks.Generate cvd seed rows versions) =
     record (refusing (refused cvd (new_off n cvd))) { own = Versions cvd seed rows versions; changes = Several }
 reads_of n user (asks.CreateUser name) =
-    record (refusing (option_or (if_so (not (is_name name)) (no.BadName name)) (registry_off users_schema (set_in n users_name)))) {
+    record (refusing (create_off name (set_in n users_name))) {
       always = LastOf (set_in n users_name) ∷ [];
+      if_done = ChangeOf registry.Users (set_in n users_name) (user_rows name) ∷ [];
       changes = Once;
     }
 reads_of n user (asks.Config name) =
-    record (refusing (option_or (registry_off users_schema (set_in n users_name)) (if_so (not (is_name name)) (no.NoUser name)))) {
+    record (refusing (config_off name (set_in n users_name))) {
       always = LastOf (set_in n users_name) ∷ [];
       becomes = Some name;
     }
 reads_of n user asks.Whoami = none
 reads_of n user (asks.Unstage owner table) =
-    record (refusing (registry_off stage_schema (set_in n stage_name))) { always = LastOf (set_in n stage_name) ∷ []; changes = Once }
-reads_of n user asks.Tables = record (refusing (registry_off stage_schema (set_in n stage_name))) { always = LastOf (set_in n stage_name) ∷ [] }
+    record (refusing (foreign_off stage_schema (set_in n stage_name))) {
+      always = LastOf (set_in n stage_name) ∷ [];
+      if_done = ChangeOf registry.Stage (set_in n stage_name) (table_rows owner table) ∷ [];
+      changes = Once;
+    }
+reads_of n user asks.Tables = record (refusing (foreign_off stage_schema (set_in n stage_name))) { always = LastOf (set_in n stage_name) ∷ [] }
 
 -- What it changes, and what it does with a file, hangs on no numbers and no user.
 abbrev pub changes_of : Command → Changes

@@ -1,11 +1,12 @@
 // Why a line ends the run, and what an error of the store comes to.
 ghost use Rattle.std.specs.Prelude.{◌≡◌, true, [], Some, IfOk, IfErr, is_some};
 ghost use Rattle.ov_session.specs.declared.errors.EndErr.TheVariants as ending;
-ghost use Rattle.ov_session.specs.Errors.{by_file, end_of, is_nameless, plan_end, plan_reply, reply_of};
+ghost use Rattle.ov_session.specs.Errors.{by_file, by_staging, end_of, is_nameless, plan_end, plan_reply, reply_of};
 
 use ov_files::FileErr;
 use ov_host::Area;
 use ov_model::{Refusal, Reply};
+use ov_staging::StagingErr;
 use ov_store::{PlanErr, StoreErr};
 use ov_value::Txt;
 use std::alloc::AllocError;
@@ -40,6 +41,18 @@ impl From<FileErr> for EndErr {
             FileErr::Stage => EndErr::Stage,
             FileErr::Memory => EndErr::Memory,
         }
+    }
+}
+
+/// The reply to a command of the registry, or why the run ends there.
+pub fn ended(made: Result<Reply, StagingErr>) -> Result<Reply, EndErr>
+    ensures { result ≡ by_staging made }
+{
+    match made {
+        Ok(reply) => Ok(reply),
+        Err(StagingErr::Host) => Err(EndErr::Host),
+        Err(StagingErr::Memory) => Err(EndErr::Memory),
+        Err(StagingErr::Damaged { area, at }) => Err(EndErr::Damaged { area, at }),
     }
 }
 

@@ -11,6 +11,7 @@ mod generating;
 mod lines;
 mod planning;
 mod reading;
+mod registering;
 mod serving;
 mod stepping;
 mod users;

@@ -33,6 +33,7 @@ use crate::generating::make_versions;
 use crate::lines::{asked, refusal};
 use crate::planning::{migrate, optimize};
 use crate::reading::{checkout, layout, log, ls, run_query};
+use crate::registering::{create_user, tables, unstage, whoami};
 use crate::stepping::take_steps;
 use ov_generate::Wanted;
 use ov_host::{Host, Stage};
@@ -134,6 +135,10 @@ fn answer<H: Host, T: Stage>(
             };
             make_versions(alloc, store, host, wanted)
         }
+        Command::CreateUser { name } => create_user(alloc, store, host, name),
+        Command::Whoami => whoami(alloc, user),
+        Command::Unstage { user: owner, table } => unstage(alloc, store, host, owner, table),
+        Command::Tables => tables(alloc, store, host, user),
         _ => unreachable!(),
     }
 }

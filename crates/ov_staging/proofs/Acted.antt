@@ -8,7 +8,7 @@ use Rattle.ov_fetch.specs.Extents.{Looked}
 use Rattle.ov_host.specs.Host.{State}
 use Rattle.ov_host.specs.Stops.{Only}
 use Rattle.ov_host.specs.Tape.{Tape}
-use Rattle.ov_model.specs.Act.{Deed, Session, if_so, unless}
+use Rattle.ov_model.specs.Act.{Deed, Session, if_so, refuses, unless}
 use Rattle.ov_model.specs.Book.{Row}
 use Rattle.ov_model.specs.Course.{Makes, attempts}
 use Rattle.ov_model.specs.Deed.{changes, create_user_deed}
@@ -70,3 +70,9 @@ pub create_is : (w : World) (s : Session) (name : List ℕ) (d : Option Dataset)
 create_is w s name d named =
     sym (ap (λ (t : Bool). unless s (option_or (if_so (not t) (no.BadName name)) (change_off users_schema (user_change name) d))
     (changes w s s users_name users_schema ((user_change name).rows (last_rows d)) (says.User name) d)) named)
+
+-- of what is none
+pub unnamed_is : (w : World) (s : Session) (name : List ℕ) (d : Option Dataset) → is_name name ≡ false → create_user_deed w s name d ≡ refuses s (no.BadName name)
+unnamed_is w s name d bad =
+    ap (λ (t : Bool). unless s (option_or (if_so (not t) (no.BadName name)) (change_off users_schema (user_change name) d))
+    (changes w s s users_name users_schema ((user_change name).rows (last_rows d)) (says.User name) d)) bad

@@ -8,32 +8,32 @@ use Rattle.ov_catalog.specs.Applying.{is_named}
 use Rattle.ov_core.specs.Held.{Held, IsByJournal}
 use Rattle.ov_fetch.specs.Extents.{Looked}
 use Rattle.ov_host.specs.declared.area.Area.{Area}
-use Rattle.ov_host.specs.Host.{State}
+use Rattle.ov_host.specs.Host.{Rose, State}
 use Rattle.ov_model.specs.Act.{Deed, Session}
 use Rattle.ov_model.specs.Book.{Row}
 use Rattle.ov_model.specs.World.{World}
 use Rattle.ov_model.specs.declared.refusal.Refusal.{Refusal}
 use Rattle.ov_model.specs.declared.reply.Reply.{Reply}
 use Rattle.ov_model.specs.declared.reply.Reply.TheVariants as says
-use Rattle.ov_registry.specs.Changing.{Ends, EndsBy, IsUnchanged, IsUnmade}
+use Rattle.ov_registry.specs.Changing.{Ends, EndsBy, IsUnchanged, IsUnmade, wish_of}
 use Rattle.ov_registry.specs.Last.{IsUnread, IsLastDamaged, name_of, schema_of}
 use Rattle.ov_registry.specs.declared.registry.Registry.{Registry}
 use Rattle.ov_rows.specs.Refusing.{rows_off}
 use Rattle.ov_rows.specs.declared.rows_err.RowsErr.{RowsErr}
 use Rattle.ov_rows.specs.declared.rows_err.RowsErr.TheVariants as rows
 use Rattle.ov_store.specs.Beginning.{init_off}
-use Rattle.ov_store.specs.Committing.{Set}
+use Rattle.ov_store.specs.Committing.{IfSet, IsDamagedAt, Set}
 use Rattle.ov_store.specs.Errors.{of_rows}
 use Rattle.ov_store.specs.Kept as store
 use Rattle.ov_store.specs.Kept.{Kept, MayCall}
 use Rattle.ov_store.specs.Refusals.{new_off, off_if, refusal_of}
-use Rattle.ov_store.specs.Scanning.{IsUndamaged}
+use Rattle.ov_store.specs.Scanning.{IsUndamaged, set_in}
 use Rattle.ov_store.specs.declared.errors.StoreErr.{StoreErr}
 use Rattle.ov_store.specs.declared.errors.StoreErr.TheVariants as why
 use Rattle.ov_store.proofs.Finishing.{may_call_later}
 use Rattle.ov_store.proofs.Journals.{looked_by}
 use Rattle.law_runs.specs.Serving.{Does}
-use Rattle.ov_staging.specs.Changing.{AreRowsDamaged}
+use Rattle.ov_staging.specs.Changing.{AreRowsDamaged, IsChangedAs}
 use Rattle.ov_staging.specs.Errors.{Acts, IsEnd, IsNoDamage, Stays, end_of, reply_of}
 use Rattle.ov_staging.specs.declared.errors.StagingErr.{StagingErr}
 use Rattle.ov_staging.specs.declared.errors.StagingErr.TheVariants as ending
@@ -110,11 +110,6 @@ result_undamaged off (Err e) is fine = undamaged_end off e is fine
 -- ---- the change wasn't made
 
 -- no refusal by the numbers is damage
-off_is : (t : Bool) (x : StoreErr) (more : Option StoreErr) (area : Area) (at : ℕ) → (x ≡ why.Damaged area at → ⊥) → (more ≡ Some (why.Damaged area at) → ⊥)
-    → option_or (off_if t x) more ≡ Some (why.Damaged area at) → ⊥
-off_is true x more area at no rest is = no (same_Some x (why.Damaged area at) is)
-off_is false x more area at no rest is = rest is
-
 rows_fine : (o : Option RowsErr) (area : Area) (at : ℕ) → option_map of_rows o ≡ Some (why.Damaged area at) → ⊥
 rows_fine None area at is = cc
 rows_fine (Some rows.TooManyRows) area at is = cc
@@ -134,25 +129,31 @@ init_fine held which made area at is =
     off_fine (list_any (is_named (name_of which)) held.numbers.sets) (nat_le 1024 (length held.numbers.sets)) (held.numbers.next == 4294967295)
     (rows_off held.journal.format (schema_of which) _ made) area at is
 
-module _ (which : Registry) (set : Option Set) (made : List Row) (held : Held) (old new : State) where
+module _ (which : Registry) (made : List Row) (held : Held) (old new : State) where
+  abbrev its_set : Option Set
+  its_set = set_in held.numbers (name_of which)
+
   abbrev Q : ℕ → Type 0
-  Q page = AreRowsDamaged which set made held old page
+  Q page = AreRowsDamaged which its_set made held old page
 
-  damaged_of : (set_ : Option Set) (area : Area) (at : ℕ) → IsUnchanged set_ (name_of which) (schema_of which) made old new held (why.Damaged area at)
-      → IsEnd (λ page. AreRowsDamaged which set_ made held old page) old new (ending.Damaged area at)
-  damaged_of set_ area at (inl memory) = absurd cc
-  damaged_of None area at (inr is) = absurd (init_fine held which is.made area at is.is)
-  damaged_of (Some d) area at (inr is) = (is.is.0, (is.made, is.ordered, is.is.1, is.is.2))
+  damaged_of : (set : Option Set) (area : Area) (at : ℕ) → set ≡ its_set → IsUnchanged set (name_of which) (schema_of which) made old new held (why.Damaged area at)
+      → IsEnd (λ page. AreRowsDamaged which set made held old page) old new (ending.Damaged area at)
+  damaged_of set area at same (inl memory) = absurd cc
+  damaged_of None area at same (inr is) = absurd (init_fine held which is.made area at is.is)
+  damaged_of (Some d) area at same (inr is) = (
+    is.is.0,
+    (is.made, is.ordered, is.is.1, subst (λ (o : Option Set). IfSet (λ x. IsDamagedAt x (wish_of d is.made) old at) o) (sym same) is.is.2),
+  )
 
-  host_of : (set_ : Option Set) → IsUnchanged set_ (name_of which) (schema_of which) made old new held why.Host → IsEnd (λ page. AreRowsDamaged which set_ made held old page) old new ending.Host
-  host_of set_ (inl memory) = absurd cc
+  host_of : (set : Option Set) → IsUnchanged set (name_of which) (schema_of which) made old new held why.Host → Rose old.faults new.faults
+  host_of set (inl memory) = absurd cc
   host_of None (inr is) = is.is
   host_of (Some d) (inr is) = is.is
 
-  pub unchanged_end : (off : StoreErr) (e : StagingErr) → end_of off ≡ Some e → IsUnchanged set (name_of which) (schema_of which) made old new held off → IsEnd Q old new e
-  unchanged_end why.Host e is un = subst (IsEnd Q old new) (the_end ending.Host e is) (host_of set un)
+  pub unchanged_end : (off : StoreErr) (e : StagingErr) → end_of off ≡ Some e → IsUnchanged its_set (name_of which) (schema_of which) made old new held off → IsEnd Q old new e
+  unchanged_end why.Host e is un = subst (IsEnd Q old new) (the_end ending.Host e is) (host_of its_set un)
   unchanged_end why.Memory e is un = subst (IsEnd Q old new) (the_end ending.Memory e is) tt
-  unchanged_end (why.Damaged area at) e is un = subst (IsEnd Q old new) (the_end (ending.Damaged area at) e is) (damaged_of set area at un)
+  unchanged_end (why.Damaged area at) e is un = subst (IsEnd Q old new) (the_end (ending.Damaged area at) e is) (damaged_of its_set area at refl un)
   unchanged_end (why.Full pages) e is un = absurd cc
   unchanged_end why.JournalFull e is un = absurd cc
   unchanged_end why.NoCvd e is un = absurd cc
@@ -167,7 +168,7 @@ module _ (which : Registry) (set : Option Set) (made : List Row) (held : Held) (
   unchanged_end why.NoNumbers e is un = absurd cc
   unchanged_end (why.FormatOne row) e is un = absurd cc
 
-  pub result_end : (off : StoreErr) (r : Result Reply StagingErr) → IfErr r (λ e. end_of off ≡ Some e) → IsUnchanged set (name_of which) (schema_of which) made old new held off
+  pub result_end : (off : StoreErr) (r : Result Reply StagingErr) → IfErr r (λ e. end_of off ≡ Some e) → IsUnchanged its_set (name_of which) (schema_of which) made old new held off
       → IfErr r (IsEnd Q old new)
   result_end off (Ok reply) is un = tt
   result_end off (Err e) is un = unchanged_end off e is un
@@ -226,6 +227,16 @@ module _ (before now : Kept) (old new : State) where
   result_journal name off (Err e) said stays by = tt
   result_journal name off (Ok reply) said stays by =
       let still = still_of name off reply said stays in subst (λ (k : Kept). IsByJournal k.held new) (sym still.0) (looked_by before.held old new still.1 by)
+
+-- the store refused it
+module _ (which : Registry) (set : Option Set) (made : List Row) (said : Reply) (before now : Kept) (old new : State) (name : List ℕ) (named : name ≡ name_of which) where
+  pub refused_as : (off : StoreErr) (r : Result Reply StagingErr) → IfOk r (λ reply. reply_of name off ≡ Some reply)
+      → IsUnchanged set (name_of which) (schema_of which) made old new before.held off → store.Stays off before now old new
+      → IfOk r (λ reply. IsChangedAs which set made said reply before now old new)
+  refused_as off (Err e) is un stays = tt
+  refused_as off (Ok reply) is un stays =
+      let still = still_of before now old new name off reply is stays
+      in inr (off, subst (λ (n : List ℕ). reply_of n off ≡ Some reply) named is, un, still.0, still.1)
 
 -- ---- what that means
 

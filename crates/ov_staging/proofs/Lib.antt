@@ -2,3 +2,5 @@ pub mod Looks
 pub mod Ended
 pub mod Acted
 pub mod Keys
+pub mod Behind
+pub mod Told

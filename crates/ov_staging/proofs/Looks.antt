@@ -1,6 +1,6 @@
 -- What is read of a host is the same after a look at it.
 use Rattle.std.proofs.Common.{◌≡◌, ◌≤◌, ◌+◌, ◌⊎◌, ◌∙◌, inl, inr, ℕ, Bool, true, false, List, [], ◌∷◌, length, refl, sym, ap, subst, arith}
-use Rattle.std.specs.Prelude.{Some, None, Option, Ok, Err, Result, IfErr, OnOk}
+use Rattle.std.specs.Prelude.{Some, None, Option, Ok, Err, Result, IfErr, IfOk, OnOk}
 use Rattle.std.specs.List.{AllZip}
 use Rattle.ov_core.specs.Held.{Held}
 use Rattle.ov_fetch.specs.declared.errors.FetchErr.TheVariants as fetch
@@ -115,6 +115,10 @@ looked_stays (ending.Damaged area at) k s t looked = (refl, looked)
 pub map_err : {A E : Type 0} (P Q : E → Type 0) (r : Result A E) → ((e : E) → P e → Q e) → IfErr r P → IfErr r Q
 map_err P Q (Ok a) to p = tt
 map_err P Q (Err e) to p = to e p
+
+pub map_if : {A E : Type 0} (P Q : A → Type 0) (r : Result A E) → ((a : A) → P a → Q a) → IfOk r P → IfOk r Q
+map_if P Q (Ok a) to p = to a p
+map_if P Q (Err e) to p = tt
 
 pub map_ok : {A B : Type 0} (P Q : Type 0) (r : Result A B) → (P → Q) → OnOk r P → OnOk r Q
 map_ok P Q (Ok a) to p = to p

@@ -14,7 +14,7 @@ ghost use Rattle.ov_store.specs.Kept.{MayCall};
 ghost use Rattle.ov_store.specs.Scanning.{set_in};
 ghost use Rattle.ov_staging.specs.Changing.{AreRowsDamaged, IfNext, IsChangedAs, IsKeptBy, IsNextDamaged, next_deed};
 ghost use Rattle.ov_staging.specs.Errors.{Acts, IsEnd, IsNoDamage, Stays};
-ghost use Rattle.ov_staging.specs.declared.changing.Next.TheVariants as next;
+ghost use Rattle.ov_staging.specs.declared.changing.Next.TheVariants as comes;
 
 use crate::errors::{StagingErr, refused};
 use ov_host::Host;
@@ -99,7 +99,7 @@ pub(crate) fn keep<H: Host>(
     ensures counted { min (H.state host.old).fetched (2 ^ 64 - 1) ≤ (H.state host.new).fetched }
     ensures fetched { (H.state host.new).fetched ≤ (H.state host.old).fetched
         + bytes_in (set_in store.old.held.numbers (name_of which)) (last_vid (set_in store.old.held.numbers (name_of which))) }
-    ensures unread { (refusal : RefusalValue) → next ≡ next.Refused refusal → (H.state host.new ≡ H.state host.old) × (result ≡ Ok (says.Refused refusal)) }
+    ensures unread { (refusal : RefusalValue) → next ≡ comes.Refused refusal → (H.state host.new ≡ H.state host.old) × (result ≡ Ok (says.Refused refusal)) }
     ensures done { IfOk result (λ reply. IsKeptBy which (set_in store.old.held.numbers (name_of which)) next said reply
         store.old store.new (H.state host.old) (H.state host.new)) }
     ensures why { IfErr result (IsEnd (IsNextDamaged which (set_in store.old.held.numbers (name_of which)) next store.old.held (H.state host.old))

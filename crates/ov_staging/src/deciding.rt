@@ -18,12 +18,11 @@ ghost use Rattle.ov_staging.specs.Errors.{IsEnd, IsNoDamage};
 ghost use Rattle.ov_staging.specs.Reading.{IfRows, foreign_off};
 ghost use Rattle.ov_staging.specs.Tables.{table_change};
 ghost use Rattle.ov_staging.specs.Users.{user_change};
-ghost use Rattle.ov_staging.specs.declared.changing.Next.TheVariants as next;
-ghost use Rattle.ov_staging.specs.declared.reading.Found.TheVariants as found;
+ghost use Rattle.ov_staging.specs.declared.changing.Next.TheVariants as comes;
 
 use crate::changing::Next;
 use crate::errors::StagingErr;
-use crate::reading::{Found, found};
+use crate::reading::{Found, read};
 use ov_host::Host;
 use ov_model::{Refusal, Reply};
 use ov_registry::Registry;
@@ -154,7 +153,7 @@ pub(crate) fn next_of<H: Host>(
     ensures fetched { (H.state host.new).fetched ≤ (H.state host.old).fetched
         + bytes_in (set_in store.now.held.numbers (name_of which)) (last_vid (set_in store.now.held.numbers (name_of which))) }
     ensures unread { (refusal : RefusalValue) → foreign_off (schema_of which) (set_in store.now.held.numbers (name_of which)) ≡ Some refusal
-        → (H.state host.new ≡ H.state host.old) × IfOk result (λ next. next ≡ next.Refused refusal) }
+        → (H.state host.new ≡ H.state host.old) × IfOk result (λ next. next ≡ comes.Refused refusal) }
     ensures own { IfOk result (IfNext (λ rows. is_foreign_in (schema_of which) (set_in store.now.held.numbers (name_of which)) ≡ false)) }
     ensures once { IfOk result (IfNext (λ rows. repeated_key (schema_of which) [] 1 rows ≡ None)) }
     ensures next { IfOk result (IsNextBy (schema_of which) (change_of asked.now)
@@ -167,7 +166,7 @@ pub(crate) fn next_of<H: Host>(
     ensures world { (w : World) → IsAtWorld w store.now.held (H.state host.old)
         → MatchResult result (IsNextIn (schema_of which) (change_of asked.now) (set_named w (name_of which))) IsNoDamage }
 {
-    match found(alloc, store, host, which) {
+    match read(alloc, store, host, which) {
         Ok(found) => match decided(alloc, found, asked) {
             Ok(next) => Ok(next),
             Err(_) => Err(StagingErr::Memory),

@@ -9,9 +9,9 @@ mod changing;
 mod deciding;
 mod errors;
 mod reading;
-mod tables;
+mod staged;
 mod users;
 
 pub use errors::StagingErr;
-pub use tables::{tables, unstage};
+pub use staged::{tables, unstage};
 pub use users::{config, create_user};

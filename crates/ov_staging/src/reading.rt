@@ -55,7 +55,7 @@ fn rows_of<H: Host>(
 }
 
 /// What stands in a dataset of the registry: that it is foreign, of which nothing is read, or its last rows.
-pub(crate) fn found<H: Host>(
+pub(crate) fn read<H: Host>(
     alloc: Global,
     store: &Store,
     host: &mut H,

@@ -24,7 +24,7 @@ ghost use Rattle.ov_staging.specs.Users.{IsConfigured, IsConfiguredBy, IsCreated
 use crate::answering::changed;
 use crate::deciding::Asked;
 use crate::errors::StagingErr;
-use crate::reading::{Found, found};
+use crate::reading::{Found, read};
 use ov_host::Host;
 use ov_model::{Refusal, Reply};
 use ov_registry::{Registry, is_foreign};
@@ -137,7 +137,7 @@ pub fn config<H: Host>(
     if !is_name(name.as_str()) {
         return unnamed(alloc, store, name);
     }
-    match found(alloc, store, host, Registry::Users) {
+    match read(alloc, store, host, Registry::Users) {
         Ok(found) => Ok(configured(found, name)),
         Err(off) => Err(off),
     }

@@ -23,7 +23,7 @@ ghost use Rattle.ov_staging.specs.Tables.{AreShown, AreShownBy, table_change, ta
 use crate::answering::changed;
 use crate::deciding::Asked;
 use crate::errors::StagingErr;
-use crate::reading::{Found, found};
+use crate::reading::{Found, read};
 use ov_host::Host;
 use ov_model::{Refusal, Reply, Seq, TableLine};
 use ov_registry::Registry;
@@ -159,7 +159,7 @@ pub fn tables<H: Host>(
         → MatchResult result (λ reply. reply ≡ answer_or (if_so (is_foreign_of stage_schema (set_named w stage_name)) no.ForeignRegistry)
         (tables_reply user.now (last_rows_of (set_named w stage_name)))) IsNoDamage }
 {
-    match found(alloc, store, host, Registry::Stage) {
+    match read(alloc, store, host, Registry::Stage) {
         Ok(found) => match shown(alloc, found, user) {
             Ok(reply) => Ok(reply),
             Err(_) => Err(StagingErr::Memory),
