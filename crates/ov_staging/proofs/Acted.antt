@@ -1,10 +1,8 @@
 -- What a command means that looked at the host first.
-use Rattle.std.proofs.Common.{◌≡◌, ◌∙◌, ℕ, Bool, true, false, List, [], refl, sym, ap, subst}
-use Rattle.std.specs.Prelude.{Some, None, Option, Ok, Err, Result, not}
+use Rattle.std.proofs.Common.{◌≡◌, ◌∙◌, ℕ, Bool, true, false, List, [], sym, ap, subst}
+use Rattle.std.specs.Prelude.{Option, Ok, Err, Result, not}
 use Rattle.std.specs.Option.{option_or}
-use Rattle.ov_core.specs.AtWorld.{IsAtWorld}
 use Rattle.ov_core.specs.Held.{Held}
-use Rattle.ov_fetch.specs.Extents.{Looked}
 use Rattle.ov_host.specs.Host.{State}
 use Rattle.ov_host.specs.Stops.{Only}
 use Rattle.ov_host.specs.Tape.{Tape}
@@ -12,7 +10,7 @@ use Rattle.ov_model.specs.Act.{Deed, Session, if_so, refuses, unless}
 use Rattle.ov_model.specs.Book.{Row}
 use Rattle.ov_model.specs.Course.{Makes, attempts}
 use Rattle.ov_model.specs.Deed.{changes, create_user_deed}
-use Rattle.ov_model.specs.Registry.{is_foreign, last_rows, users_name, users_schema}
+use Rattle.ov_model.specs.Registry.{last_rows, users_name, users_schema}
 use Rattle.ov_model.specs.World.{Dataset, World, set_named}
 use Rattle.ov_model.specs.declared.refusal.Refusal.{Refusal}
 use Rattle.ov_model.specs.declared.refusal.Refusal.TheVariants as no
@@ -22,7 +20,7 @@ use Rattle.ov_registry.specs.Last.{name_of, schema_of}
 use Rattle.ov_registry.specs.declared.registry.Registry.{Registry}
 use Rattle.ov_registry.specs.declared.registry.Registry.TheVariants as registry
 use Rattle.ov_value.specs.Naming.{is_name}
-use Rattle.law_runs.specs.Serving.{Breaks, Does}
+use Rattle.law_runs.specs.Serving.{Does}
 use Rattle.law_runs.specs.Stops.{IsFound}
 use Rattle.std.specs.Prelude.{map}
 use Rattle.ov_staging.specs.Changing.{Change, IsNextIn, change_deed, change_off, next_deed}

@@ -1,7 +1,6 @@
 -- What came next, behind the read of the last rows.
 use Rattle.std.proofs.Common.{◌≡◌, ◌∙◌, ℕ, true, List, sym, subst}
 use Rattle.std.specs.Prelude.{Some, None, Option, Ok, Err, Result, IfErr, IfOk}
-use Rattle.ov_core.specs.Held.{Held}
 use Rattle.ov_fetch.specs.Extents.{Looked}
 use Rattle.ov_host.specs.Host.{State}
 use Rattle.ov_model.specs.Book.{Row}

@@ -1,6 +1,6 @@
 -- What an answer of the store comes to.
-use Rattle.std.proofs.Common.{◌≡◌, ◌≤◌, ◌⊎◌, ◌∙◌, inl, inr, ℕ, Bool, true, false, List, [], ◌∷◌, length, refl, sym, ap, subst}
-use Rattle.std.specs.Prelude.{Some, None, Option, Ok, Err, Result, IfErr, IfOk, OnOk, is_some, option_map, nat_le, nat_lt, ◌==◌}
+use Rattle.std.proofs.Common.{◌≡◌, inl, inr, ℕ, Bool, true, false, List, length, refl, sym, subst}
+use Rattle.std.specs.Prelude.{Some, None, Option, Ok, Err, Result, IfErr, IfOk, OnOk, is_some, option_map, nat_le, ◌==◌}
 use Rattle.std.specs.List.{list_any}
 use Rattle.std.specs.Option.{option_or}
 use Rattle.std.proofs.lemmas.Option.{same_Some}
@@ -15,7 +15,7 @@ use Rattle.ov_model.specs.World.{World}
 use Rattle.ov_model.specs.declared.refusal.Refusal.{Refusal}
 use Rattle.ov_model.specs.declared.reply.Reply.{Reply}
 use Rattle.ov_model.specs.declared.reply.Reply.TheVariants as says
-use Rattle.ov_registry.specs.Changing.{Ends, EndsBy, IsUnchanged, IsUnmade, wish_of}
+use Rattle.ov_registry.specs.Changing.{Ends, EndsBy, IsUnchanged, wish_of}
 use Rattle.ov_registry.specs.Last.{IsUnread, IsLastDamaged, name_of, schema_of}
 use Rattle.ov_registry.specs.declared.registry.Registry.{Registry}
 use Rattle.ov_rows.specs.Refusing.{rows_off}
@@ -26,7 +26,7 @@ use Rattle.ov_store.specs.Committing.{IfSet, IsDamagedAt, Set}
 use Rattle.ov_store.specs.Errors.{of_rows}
 use Rattle.ov_store.specs.Kept as store
 use Rattle.ov_store.specs.Kept.{Kept, MayCall}
-use Rattle.ov_store.specs.Refusals.{new_off, off_if, refusal_of}
+use Rattle.ov_store.specs.Refusals.{off_if, refusal_of}
 use Rattle.ov_store.specs.Scanning.{IsUndamaged, set_in}
 use Rattle.ov_store.specs.declared.errors.StoreErr.{StoreErr}
 use Rattle.ov_store.specs.declared.errors.StoreErr.TheVariants as why
@@ -37,7 +37,7 @@ use Rattle.ov_staging.specs.Changing.{AreRowsDamaged, IsChangedAs}
 use Rattle.ov_staging.specs.Errors.{Acts, IsEnd, IsNoDamage, Stays, end_of, reply_of}
 use Rattle.ov_staging.specs.declared.errors.StagingErr.{StagingErr}
 use Rattle.ov_staging.specs.declared.errors.StagingErr.TheVariants as ending
-use Rattle.ov_staging.proofs.Looks.{AreAlike, alike, damaged_again}
+use Rattle.ov_staging.proofs.Looks.{alike, damaged_again}
 
 the_end : (a b : StagingErr) → Some a ≡ Some b → a ≡ b
 the_end a b is = same_Some a b is

@@ -1,11 +1,11 @@
 -- What is read of a host is the same after a look at it.
-use Rattle.std.proofs.Common.{◌≡◌, ◌≤◌, ◌+◌, ◌⊎◌, ◌∙◌, inl, inr, ℕ, Bool, true, false, List, [], ◌∷◌, length, refl, sym, ap, subst, arith}
+use Rattle.std.proofs.Common.{◌≡◌, ◌≤◌, ◌∙◌, inl, inr, ℕ, Bool, true, false, List, [], ◌∷◌, length, refl, sym, ap, subst, arith}
 use Rattle.std.specs.Prelude.{Some, None, Option, Ok, Err, Result, IfErr, IfOk, OnOk}
 use Rattle.std.specs.List.{AllZip}
 use Rattle.ov_core.specs.Held.{Held}
 use Rattle.ov_fetch.specs.declared.errors.FetchErr.TheVariants as fetch
 use Rattle.ov_fetch.specs.Extents.{Looked, page_bytes}
-use Rattle.ov_fetch.proofs.Looks.{looked_again, looked_at_all}
+use Rattle.ov_fetch.proofs.Looks.{looked_again}
 use Rattle.ov_host.specs.Host.{Rose, State}
 use Rattle.ov_host.specs.Tape.{Tape}
 use Rattle.ov_model.specs.Book.{Row}

@@ -1,5 +1,5 @@
 -- What is found, decided and told, by the numbers and in a World.
-use Rattle.std.proofs.Common.{◌≡◌, ◌⊎◌, ◌∙◌, inl, inr, ℕ, Bool, true, false, List, refl, sym, ap, subst}
+use Rattle.std.proofs.Common.{◌≡◌, ◌∙◌, inl, inr, ℕ, Bool, true, false, List, refl, sym, ap, subst}
 use Rattle.std.specs.Prelude.{Some, None, Option, Ok, Err, Result, IfErr, IfOk, MatchResult, not, ◌&&◌}
 use Rattle.std.specs.Option.{option_or}
 use Rattle.std.proofs.lemmas.Option.{same_Some}
@@ -22,7 +22,7 @@ use Rattle.ov_staging.specs.Deciding.{IsDecided}
 use Rattle.ov_staging.specs.Errors.{IsNoDamage}
 use Rattle.ov_staging.specs.Reading.{IfRows, IsFoundIn, answer_or, foreign_off, is_foreign_found}
 use Rattle.ov_staging.specs.Tables.{AreShownBy, tables_reply}
-use Rattle.ov_staging.specs.Users.{IsConfigured, IsConfiguredBy, config_off, config_reply, create_off}
+use Rattle.ov_staging.specs.Users.{IsConfigured, IsConfiguredBy, config_reply, create_off}
 use Rattle.ov_staging.specs.declared.changing.Next.{Next}
 use Rattle.ov_staging.specs.declared.changing.Next.TheVariants as next
 use Rattle.ov_staging.specs.declared.errors.StagingErr.{StagingErr}

@@ -95,12 +95,7 @@ fn has_table(rows: &[Row], owner: &str, table: &str) -> Result<bool, AllocError>
 }
 
 // A staged table less, which is there.
-fn without_table(
-    alloc: Global,
-    rows: &[Row],
-    owner: &str,
-    table: &str,
-) -> Result<Next, AllocError>
+fn without_table(alloc: Global, rows: &[Row], owner: &str, table: &str) -> Result<Next, AllocError>
     requires rise { Rises (key_cmp stage_schema) rows.now }
     ensures decided { IfOk result (IsDecidedBy (table_change owner.now table.now) rows.now) }
     ensures once { IfOk result (IfNext (λ made. repeated_key stage_schema [] 1 made ≡ None)) }

@@ -1,18 +1,15 @@
-use Rattle.std.proofs.Common.{◌≡◌, ◌≤◌, ◌+◌, ◌∙◌, inl, ℕ, true, sym, ap, subst, arith}
-use Rattle.std.specs.Prelude.{IfErr, IfOk}
+use Rattle.std.proofs.Common.{◌∙◌, inl, subst}
 use Rattle.law_runs.proofs.Doing.{breaks_looked}
-use Rattle.ov_model.specs.Deed.{changes}
 use Rattle.ov_model.specs.World.{set_named}
 use Rattle.ov_model.specs.declared.reply.Reply.{Reply}
-use Rattle.ov_registry.specs.Last.{name_of, schema_of}
+use Rattle.ov_registry.specs.Last.{name_of}
 use Rattle.ov_store.proofs.Finishing.{may_call_later}
 use Rattle.ov_store.proofs.Journals.{looked_by}
 use Rattle.ov_store.proofs.Looking.{looked_at}
 use Rattle.ov_store.specs.Scanning.{set_in}
-use Rattle.ov_staging.specs.Changing.{IsAnswered, IsDamagedBy, IsKeptBy, change_deed, next_deed}
+use Rattle.ov_staging.specs.Changing.{IsKeptBy, change_deed, next_deed}
 use Rattle.ov_staging.specs.Deciding.{change_of, said_of}
-use Rattle.ov_staging.specs.Errors.{Acts, Stays}
-use Rattle.ov_staging.specs.declared.errors.StagingErr.{StagingErr}
+use Rattle.ov_staging.specs.Errors.{Acts}
 use Rattle.ov_staging.proofs.Acted.{acts_behind, next_is}
 use Rattle.ov_staging.proofs.Behind.{is_said, kept_ends}
 use Rattle.ov_staging.proofs.Looks.{end_wider, looked_stays, map_err, map_if, on_any, stays_later}

@@ -1,5 +1,5 @@
 use Rattle.std.proofs.Common.{◌≡◌, ℕ, List, inl, refl, subst}
-use Rattle.std.specs.Prelude.{IfErr, IfOk, Some}
+use Rattle.std.specs.Prelude.{IfOk, Some}
 use Rattle.ov_model.specs.Deed.{changes}
 use Rattle.ov_model.specs.World.{set_named}
 use Rattle.ov_registry.specs.Last.{name_of, schema_of}

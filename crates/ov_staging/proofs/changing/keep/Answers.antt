@@ -1,5 +1,4 @@
 use Rattle.std.proofs.Common.{refl, sym, subst}
-use Rattle.std.specs.Prelude.{Ok}
 use Rattle.law_runs.proofs.Doing.{breaks_looked, does_told}
 use Rattle.law_runs.specs.Serving.{Does}
 use Rattle.ov_model.specs.Act.{refuses}
