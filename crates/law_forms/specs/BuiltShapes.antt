@@ -13,10 +13,7 @@ use Rattle.ov_model.specs.declared.refusal.Refusal.{Refusal}
 use Rattle.ov_model.specs.declared.refusal.Refusal.TheVariants as no
 
 abbrev pub is_built_shape : Asked → Bool
-is_built_shape (BadByte at) = true
-is_built_shape NoQuery = false
-is_built_shape (AsksQuery query) = true
-is_built_shape (AsksJoin join) = false
+is_built_shape asked = true
 
 -- 41 in place of a query of a shape that isn't built; where there is no query at all, it comes here already
 abbrev pub if_built : Command → Result Command Refusal

@@ -1,0 +1,80 @@
+-- The rows of a scan of one version.
+use Rattle.std.proofs.Common.{◌≡◌, ◌∙◌, ℕ, zero, suc, true, List, [], ◌∷◌, Some, None, length, map, refl, sym, ap, subst}
+use Rattle.std.specs.Prelude.{IfOk, Result, Ok, Err, slice_get}
+use Rattle.std.specs.List.{AllZip}
+use Rattle.std.proofs.lemmas.List.{length-map}
+use Rattle.ov_fetch.specs.Scans.{row_at, rows_at, rows_of}
+use Rattle.ov_fetch.specs.declared.scan.Scan.{Scan}
+use Rattle.ov_join.proofs.Fitted.{one-shown}
+use Rattle.ov_join.specs.Meeting.{first_pick, rows_shown}
+use Rattle.ov_model.specs.Book.{Row, Version}
+use Rattle.ov_model.specs.Records.{rows_at as version_rows}
+use Rattle.ov_read.specs.Found.{IsScanned}
+use Rattle.ov_segment.specs.declared.numbered.Record.{Record}
+use Rattle.ov_store.specs.declared.errors.StoreErr.{StoreErr}
+use Rattle.ov_query.specs.Joining.{IsVersionRead}
+use Rattle.ov_query.specs.Queries.{Set}
+
+-- ---- rows at positions
+
+row_is : (records : List Record) (place : ℕ) (r : Record) → slice_get records place ≡ Some r → row_at records place ≡ r.row
+row_is [] place r e = cc
+row_is (x ∷ records) zero r e = cc
+row_is (x ∷ records) (suc place) r e = row_is records place r e
+
+heads : {X : Type 0} (x y : X) (xs ys : List X) → x ∷ xs ≡ y ∷ ys → x ≡ y
+heads x y xs ys e = cc
+
+tails : {X : Type 0} (x y : X) (xs ys : List X) → x ∷ xs ≡ y ∷ ys → xs ≡ ys
+tails x y xs ys e = cc
+
+rows_found : (records : List Record) (pick : List ℕ) (found : List Record) → map (slice_get records) pick ≡ map Some found → rows_at records pick ≡ rows_of found
+rows_found records [] [] e = refl
+rows_found records [] (r ∷ found) e = cc
+rows_found records (p ∷ pick) [] e = cc
+rows_found records (p ∷ pick) (r ∷ found) e =
+    ap (λ (row : Row). row ∷ rows_at records pick) (row_is records p r (heads (slice_get records p) (Some r) (map (slice_get records) pick) (map Some found) e))
+    ∙ ap (λ (rows : List Row). r.row ∷ rows) (rows_found records pick found (tails (slice_get records p) (Some r) (map (slice_get records) pick) (map Some found) e))
+
+-- ---- the one version's
+
+module _ (scan : Scan) (vid : ℕ) (are : scan.vids ≡ vid ∷ []) where
+  pub scanned_once : length scan.vids ≡ 1
+  scanned_once = ap (λ (vids : List ℕ). length vids) are
+
+  shown_first : length scan.picks ≡ 1 → rows_shown scan ≡ rows_at scan.records (first_pick scan.picks)
+  shown_first one = one-shown (rows_of scan.records) scan.vids scan.picks scanned_once (scanned_once ∙ sym one)
+
+  -- as they are read
+  zip_first : (area : List ℕ) (set : Set) (picks : List (List ℕ)) → AllZip (IsScanned area set scan.records) (vid ∷ []) picks
+      → (length picks ≡ 1) × IsScanned area set scan.records vid (first_pick picks)
+  zip_first area set [] all = absurd all
+  zip_first area set (pick ∷ []) all = (refl, all.0)
+  zip_first area set (pick ∷ other ∷ picks) all = absurd all.1
+
+  pub version_read : (area : List ℕ) (set : Set) → AllZip (IsScanned area set scan.records) (vid ∷ []) scan.picks → IsVersionRead set vid area (rows_shown scan)
+  version_read area set all =
+      let it = zip_first area set scan.picks all
+      in record {
+        records = scan.records;
+        pick = first_pick scan.picks;
+        scanned = it.1;
+        rows_are = shown_first it.0 ∙ rows_found scan.records (first_pick scan.picks) it.1.found it.1.picked.at;
+      }
+
+  -- those of a dataset
+  first_is : (f : List ℕ → List Row) (picks : List (List ℕ)) (rows : List Row) → map f picks ≡ rows ∷ [] → (length picks ≡ 1) × (f (first_pick picks) ≡ rows)
+  first_is f [] rows e = absurd cc
+  first_is f (pick ∷ picks) rows e =
+      (sym (length-map (pick ∷ picks) f) ∙ ap (λ (l : List (List Row)). length l) e, heads (f pick) rows (map f picks) [] e)
+
+  pub version_shown : (versions : List Version) → map (rows_at scan.records) scan.picks ≡ map (version_rows versions) (vid ∷ []) → rows_shown scan ≡ version_rows versions vid
+  version_shown versions are_ =
+      let it = first_is (rows_at scan.records) scan.picks (version_rows versions vid) are_
+      in shown_first it.0 ∙ it.1
+
+-- ---- where there is a scan
+
+pub if_scanned : (P Q R : Scan → Type 0) (result : Result Scan StoreErr) → ((scan : Scan) → P scan → Q scan → R scan) → IfOk result P → IfOk result Q → IfOk result R
+if_scanned P Q R (Ok scan) then first second = then scan first second
+if_scanned P Q R (Err e) then first second = tt
