@@ -1,6 +1,6 @@
 -- A join that the numbers don't refuse, and its reply.
 use Rattle.std.proofs.Common.{◌≡◌, ◌∙◌, ◌<◌, ◌≤◌, ℕ, Bool, true, false, List, [], ◌∷◌, Some, None, length, refl, sym, ap, ap₂, subst, arith}
-use Rattle.std.specs.Prelude.{IfOk, Option, Result, Ok, Err, IsOk, nat_lt, if◌then◌else◌}
+use Rattle.std.specs.Prelude.{IfOk, OnOk, Option, Result, Ok, Err, IsOk, nat_lt, if◌then◌else◌}
 use Rattle.std.proofs.lemmas.Bool.Decides.{nat_tests}
 use Rattle.std.specs.Option.{option_map}
 use Rattle.ov_host.specs.Host.{State}
@@ -25,10 +25,11 @@ use Rattle.ov_model.specs.declared.reply.Reply.{Reply}
 use Rattle.ov_model.specs.declared.reply.Reply.TheVariants as says
 use Rattle.ov_store.proofs.Deciding.{counts, none_named, world_named}
 use Rattle.ov_store.specs.Scanning.{set_in}
+use Rattle.ov_store.specs.declared.errors.StoreErr.{StoreErr}
 use Rattle.ov_value.specs.Shapes.{Shape}
 use Rattle.ov_value.specs.declared.column.Kind.{Kind}
 use Rattle.ov_query.specs.Joining.{AreJoined, IsAnswerOr46, IsJoinReply, IsJoined, IsSideThere, IsVersionRead, answered_in, is_missing, join_reply, pairs_reply, reply_by}
-use Rattle.ov_query.specs.Queries.{Set, join_off, known_in}
+use Rattle.ov_query.specs.Queries.{AreDamaged, IsDamagedRead, IsOfNoFile, Reading, Set, join_off, known_in}
 use Rattle.ov_query.proofs.Parents.{known_is}
 
 -- ---- its reply over rows
@@ -70,6 +71,20 @@ module _ (join : JoinQuery) (left right : Shape) (ls rs : List Row) where
   pub either : (reply : Reply) → IsOk (join_kinds join left right) → reply ≡ join_reply join left right ls rs → IsAnswerOr46 reply
   either reply fits is = subst IsAnswerOr46 (sym is) (either_by (join_kinds join left right) fits)
 
+-- and none that says that there is no file
+seen_by : (reply : Reply) → IsAnswerOr46 reply → (name : List ℕ) → reply ≡ says.Refused (no.NoFile name) → ⊥
+seen_by reply is name file = let it : no.NoFile name ≡ no.TooManyJoined = subst IsAnswerOr46 file is in cc
+
+pub joined_seen : (result : Result Reply StoreErr) (join : JoinQuery) (left right : Option Set) (s : State) → IfOk result (IsJoinReply join left right s) → IfOk result IsOfNoFile
+joined_seen (Ok reply) join left right s is = λ name file. seen_by reply is.either name file
+joined_seen (Err e) join left right s is = tt
+
+-- an answer of what isn't damaged
+pub whole_join : (result : Result Reply StoreErr) (off : Option Refusal) (reads : List Reading) (old : State) (page : ℕ) → OnOk result (AreDamaged reads old page → ⊥)
+    → OnOk result (IsDamagedRead off reads old page → ⊥)
+whole_join (Ok reply) off reads old page whole = λ met. whole met.1
+whole_join (Err e) off reads old page whole = tt
+
 -- by the rows that are read
 read_before : (old mid : State) → Looked old mid → old.tells ≡ true → (set : Set) (vid : ℕ) (rows : List Row) → IsVersionRead set vid (page_bytes mid) rows
     → IsVersionRead set vid (page_bytes old) rows
@@ -98,15 +113,16 @@ join_replied join left right l r ls rs lrows rrows old mid reply of_left of_righ
 
 -- ---- at a World
 
+abbrev deed_if : Session → List Kind → List (List Cell) → Bool → Deed
+deed_if s kinds rows t = if t then refuses s no.TooManyJoined else told s kinds rows
+
 by_rows : (s : Session) (join : JoinQuery) (left right : Cvd) (of : Result (List Kind) Refusal)
     → join_by s join left right of ≡ tells s (reply_by join left.schema right.schema (rows_at left.versions join.left.vid) (rows_at right.versions join.right.vid) of)
 by_rows s join left right (Err refusal) = refl
 by_rows s join left right (Ok kinds) = by (nat_lt 1000000 (length (joined_rows join left right)))
   where
-    abbrev rows : List (List Cell)
-    rows = join_answer join left.schema right.schema (joined_rows join left right)
-
-    by : (t : Bool) → (let d : Deed = (if t then refuses s no.TooManyJoined else told s kinds rows) in d) ≡ tells s (if t then says.Refused no.TooManyJoined else answered_in kinds rows)
+    by : (t : Bool) → deed_if s kinds (join_answer join left.schema right.schema (joined_rows join left right)) t
+        ≡ tells s (if t then says.Refused no.TooManyJoined else answered_in kinds (join_answer join left.schema right.schema (joined_rows join left right)))
     by true = refl
     by false = refl
 

@@ -1,6 +1,6 @@
 -- The rows of a scan of one version.
 use Rattle.std.proofs.Common.{◌≡◌, ◌∙◌, ℕ, zero, suc, true, List, [], ◌∷◌, Some, None, length, map, refl, sym, ap, subst}
-use Rattle.std.specs.Prelude.{IfOk, Result, Ok, Err, slice_get}
+use Rattle.std.specs.Prelude.{IfOk, MatchResult, Option, Result, Ok, Err, slice_get}
 use Rattle.std.specs.List.{AllZip}
 use Rattle.std.proofs.lemmas.List.{length-map}
 use Rattle.ov_fetch.specs.Scans.{row_at, rows_at, rows_of}
@@ -11,6 +11,7 @@ use Rattle.ov_model.specs.Book.{Row, Version}
 use Rattle.ov_model.specs.Records.{rows_at as version_rows}
 use Rattle.ov_read.specs.Found.{IsScanned}
 use Rattle.ov_segment.specs.declared.numbered.Record.{Record}
+use Rattle.ov_store.specs.Scanning.{IsUndamaged, versions_off}
 use Rattle.ov_store.specs.declared.errors.StoreErr.{StoreErr}
 use Rattle.ov_query.specs.Joining.{IsVersionRead}
 use Rattle.ov_query.specs.Queries.{Set}
@@ -73,8 +74,30 @@ module _ (scan : Scan) (vid : ℕ) (are : scan.vids ≡ vid ∷ []) where
       let it = first_is (rows_at scan.records) scan.picks (version_rows versions vid) are_
       in shown_first it.0 ∙ it.1
 
--- ---- where there is a scan
+-- ---- as the store gives it
 
-pub if_scanned : (P Q R : Scan → Type 0) (result : Result Scan StoreErr) → ((scan : Scan) → P scan → Q scan → R scan) → IfOk result P → IfOk result Q → IfOk result R
-if_scanned P Q R (Ok scan) then first second = then scan first second
-if_scanned P Q R (Err e) then first second = tt
+module _ (result : Result Scan StoreErr) (vid : ℕ) (vids : List ℕ) (same : vids ≡ vid ∷ []) where
+  pub read_so : IfOk result (λ scan. scan.vids ≡ vids) → (area : List ℕ) (set : Set) → IfOk result (λ scan. AllZip (IsScanned area set scan.records) vids scan.picks)
+      → IfOk result (λ scan. IsVersionRead set vid area (rows_shown scan))
+  read_so are area set all = by result are all
+    where
+      by : (r : Result Scan StoreErr) → IfOk r (λ scan. scan.vids ≡ vids) → IfOk r (λ scan. AllZip (IsScanned area set scan.records) vids scan.picks)
+          → IfOk r (λ scan. IsVersionRead set vid area (rows_shown scan))
+      by (Ok scan) are all = version_read scan vid (are ∙ same) area set (subst (λ (vs : List ℕ). AllZip (IsScanned area set scan.records) vs scan.picks) same all)
+      by (Err e) are all = tt
+
+  pub shown_so : IfOk result (λ scan. scan.vids ≡ vids) → (versions : List Version)
+      → MatchResult result (λ scan. map (rows_at scan.records) scan.picks ≡ map (version_rows versions) vids) IsUndamaged
+      → IfOk result (λ scan. rows_shown scan ≡ version_rows versions vid)
+  shown_so are versions is = by result are is
+    where
+      by : (r : Result Scan StoreErr) → IfOk r (λ scan. scan.vids ≡ vids)
+          → MatchResult r (λ scan. map (rows_at scan.records) scan.picks ≡ map (version_rows versions) vids) IsUndamaged
+          → IfOk r (λ scan. rows_shown scan ≡ version_rows versions vid)
+      by (Ok scan) are is = version_shown scan vid (are ∙ same) versions (is ∙ ap (map (version_rows versions)) same)
+      by (Err e) are is = tt
+
+-- what may be scanned is there
+pub there_of : (o : Option Set) (vids : List ℕ) → versions_off o vids ≡ None → (set : Set) × (o ≡ Some set)
+there_of None vids none = absurd cc
+there_of (Some set) vids none = (set, refl)
