@@ -1,10 +1,10 @@
 -- What a text asks, by its tokens.
-use Rattle.std.proofs.Common.{◌≡◌, ℕ, List, sym, subst, arith}
+use Rattle.std.proofs.Common.{◌≡◌, ℕ, List, subst}
 use Rattle.ov_lex.specs.declared.token.Token.{Token}
 use Rattle.ov_lex.specs.Texts.{AreTokens, IsBad}
 use Rattle.ov_model.specs.Grammar.{Spells}
 use Rattle.ov_model.specs.JoinGrammar.{SpellsJoin, TokensSpellJoin}
-use Rattle.ov_model.specs.QueryTexts.{Asked, BadByte, NoQuery, AsksQuery, AsksJoin, Asks, asked_of}
+use Rattle.ov_model.specs.QueryTexts.{BadByte, NoQuery, AsksQuery, AsksJoin, Asks, asked_of}
 use Rattle.ov_model.specs.declared.query.JoinQuery.{JoinQuery}
 use Rattle.ov_model.specs.declared.query.Query.{Query}
 use Rattle.ov_model.specs.declared.query.Symbol.{Symbol}

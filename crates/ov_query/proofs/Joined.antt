@@ -1,7 +1,6 @@
 -- A join that the numbers don't refuse, and its reply.
-use Rattle.std.proofs.Common.{◌≡◌, ◌∙◌, ◌<◌, ◌≤◌, ℕ, Bool, true, false, List, [], ◌∷◌, Some, None, length, refl, sym, ap, ap₂, subst, arith}
+use Rattle.std.proofs.Common.{◌≡◌, ◌∙◌, ℕ, Bool, true, false, List, Some, None, length, refl, sym, ap, ap₂, subst}
 use Rattle.std.specs.Prelude.{IfOk, OnOk, Option, Result, Ok, Err, IsOk, nat_lt, if◌then◌else◌}
-use Rattle.std.proofs.lemmas.Bool.Decides.{nat_tests}
 use Rattle.std.specs.Option.{option_map}
 use Rattle.ov_host.specs.Host.{State}
 use Rattle.ov_core.specs.AtWorld.{IsAtWorld}
@@ -10,7 +9,7 @@ use Rattle.ov_fetch.proofs.Looks.{same_pages}
 use Rattle.ov_fetch.specs.Extents.{Looked, page_bytes}
 use Rattle.ov_model.proofs.KnownBy.{join-refused}
 use Rattle.ov_model.specs.Act.{Session, Deed, refuses, tells}
-use Rattle.ov_model.specs.Answers.{Pair, answer_text}
+use Rattle.ov_model.specs.Answers.{Pair}
 use Rattle.ov_model.specs.Book.{Cvd, Row}
 use Rattle.ov_model.specs.Joins.{join_answer, join_by, join_deed, join_kinds, join_over, joined_rows, matches, side_in, side_of, told}
 use Rattle.ov_model.specs.Known.{join_off_by, known_of}
@@ -28,7 +27,7 @@ use Rattle.ov_store.specs.Scanning.{set_in}
 use Rattle.ov_store.specs.declared.errors.StoreErr.{StoreErr}
 use Rattle.ov_value.specs.Shapes.{Shape}
 use Rattle.ov_value.specs.declared.column.Kind.{Kind}
-use Rattle.ov_query.specs.Joining.{AreJoined, IsAnswerOr46, IsJoinReply, IsJoined, IsSideThere, IsVersionRead, answered_in, is_missing, join_reply, pairs_reply, reply_by}
+use Rattle.ov_query.specs.Joining.{AreJoined, IsAnswerOr46, IsJoinReply, IsJoined, IsSideThere, IsVersionRead, answered_in, is_missing, join_reply, reply_by}
 use Rattle.ov_query.specs.Queries.{AreDamaged, IsDamagedRead, IsOfNoFile, Reading, Set, join_off, known_in}
 use Rattle.ov_query.proofs.Parents.{known_is}
 
@@ -37,27 +36,6 @@ use Rattle.ov_query.proofs.Parents.{known_is}
 module _ (join : JoinQuery) (left right : Shape) (ls rs : List Row) where
   abbrev pairs : List Pair
   pairs = matches join left right ls rs
-
-  -- not too many pairs match
-  pub answers : (kinds : List Kind) (rows : List (List Cell)) (reply : Reply) → join_kinds join left right ≡ Ok kinds → length pairs ≤ 1000000
-      → rows ≡ join_answer join left right pairs → reply ≡ says.Answer (answer_text kinds rows) (length rows) → reply ≡ join_reply join left right ls rs
-  answers kinds rows reply fits few are is =
-      let under : nat_lt 1000000 (length pairs) ≡ false = grind (arith, nat_tests)
-      in is ∙ ap (answered_in kinds) are
-      ∙ sym (ap (reply_by join left right ls rs) fits
-      ∙ ap (λ (t : Bool). if t then says.Refused no.TooManyJoined else answered_in kinds (join_answer join left right pairs)) under)
-
-  -- too many
-  pub is_46 : 1000000 < length pairs → IsOk (join_kinds join left right) → says.Refused no.TooManyJoined ≡ join_reply join left right ls rs
-  is_46 many fits = by (join_kinds join left right) fits
-    where
-      over : nat_lt 1000000 (length pairs) ≡ true
-      over = grind (arith, nat_tests)
-
-      by : (of : Result (List Kind) Refusal) → IsOk of → says.Refused no.TooManyJoined ≡ reply_by join left right ls rs of
-      by (Err refusal) fits = absurd cc
-      by (Ok kinds) fits =
-          sym (ap (λ (t : Bool). if t then says.Refused no.TooManyJoined else answered_in kinds (join_answer join left right pairs)) over)
 
   -- so it is an answer or 46
   either_by : (of : Result (List Kind) Refusal) → IsOk of → IsAnswerOr46 (reply_by join left right ls rs of)
@@ -68,7 +46,7 @@ module _ (join : JoinQuery) (left right : Shape) (ls rs : List Row) where
       by true = refl
       by false = tt
 
-  pub either : (reply : Reply) → IsOk (join_kinds join left right) → reply ≡ join_reply join left right ls rs → IsAnswerOr46 reply
+  either : (reply : Reply) → IsOk (join_kinds join left right) → reply ≡ join_reply join left right ls rs → IsAnswerOr46 reply
   either reply fits is = subst IsAnswerOr46 (sym is) (either_by (join_kinds join left right) fits)
 
 -- and none that says that there is no file

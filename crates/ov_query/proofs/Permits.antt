@@ -18,7 +18,7 @@ use Rattle.ov_model.specs.declared.reply.Reply.{Reply}
 use Rattle.ov_store.specs.Scanning.{set_in}
 use Rattle.ov_store.specs.declared.errors.StoreErr.{StoreErr}
 use Rattle.ov_query.specs.Answering.{IsPermittedJoin, IsPermittedQuery}
-use Rattle.ov_query.specs.Joining.{IsJoinReplyBy, IsReplyFor}
+use Rattle.ov_query.specs.Joining.{IsReplyFor}
 use Rattle.ov_query.specs.Queries.{IsReplyBy, Reading, Set, asked_off, asked_reads, join_off, join_reads, one_read, set_off, vids_read}
 
 module _ (n : Numbers Extent Extent) (user : List ℕ) (asked : Asked) (query : Query) (it : IsPermittedQuery user asked query) where
@@ -69,16 +69,6 @@ module _ (n : Numbers Extent Extent) (user : List ℕ) (asked : Asked) (join : J
   by_join P holds =
       subst (λ (a : Asked). P (asked_off n user a) (asked_reads n a)) (sym it.is)
       (subst (λ (o : Option Refusal). P o (join_reads join left right)) (sym sides_are) holds)
-
-  join_replied : (s : State) (reply : Reply) → IsJoinReplyBy (join_off join left right) join left right s reply → IsReplyFor n user asked s reply
-  join_replied s reply is =
-      subst (λ (a : Asked). IsReplyFor n user a s reply) (sym it.is)
-      (subst (λ (o : Option Refusal). IsJoinReplyBy o join left right s reply) (sym sides_are) is)
-
-  pub join_replies : (s : State) (result : Result Reply StoreErr) → IfOk result (IsJoinReplyBy (join_off join left right) join left right s)
-      → IfOk result (IsReplyFor n user asked s)
-  join_replies s (Ok reply) is = join_replied s reply is
-  join_replies s (Err e) is = tt
 
   join_is : (w : World) (s : Session) → s.user ≡ user → run_deed w s asked ≡ join_deed w s join
   join_is w s same =

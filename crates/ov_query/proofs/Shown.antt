@@ -1,5 +1,5 @@
 -- The rows of a scan of one version.
-use Rattle.std.proofs.Common.{◌≡◌, ◌∙◌, ℕ, zero, suc, true, List, [], ◌∷◌, Some, None, length, map, refl, sym, ap, subst}
+use Rattle.std.proofs.Common.{◌≡◌, ◌∙◌, ℕ, zero, suc, List, [], ◌∷◌, Some, None, length, map, refl, sym, ap, subst}
 use Rattle.std.specs.Prelude.{IfOk, MatchResult, Option, Result, Ok, Err, slice_get}
 use Rattle.std.specs.List.{AllZip}
 use Rattle.std.proofs.lemmas.List.{length-map}
@@ -40,7 +40,7 @@ rows_found records (p ∷ pick) (r ∷ found) e =
 -- ---- the one version's
 
 module _ (scan : Scan) (vid : ℕ) (are : scan.vids ≡ vid ∷ []) where
-  pub scanned_once : length scan.vids ≡ 1
+  scanned_once : length scan.vids ≡ 1
   scanned_once = ap (λ (vids : List ℕ). length vids) are
 
   shown_first : length scan.picks ≡ 1 → rows_shown scan ≡ rows_at scan.records (first_pick scan.picks)
@@ -53,7 +53,7 @@ module _ (scan : Scan) (vid : ℕ) (are : scan.vids ≡ vid ∷ []) where
   zip_first area set (pick ∷ []) all = (refl, all.0)
   zip_first area set (pick ∷ other ∷ picks) all = absurd all.1
 
-  pub version_read : (area : List ℕ) (set : Set) → AllZip (IsScanned area set scan.records) (vid ∷ []) scan.picks → IsVersionRead set vid area (rows_shown scan)
+  version_read : (area : List ℕ) (set : Set) → AllZip (IsScanned area set scan.records) (vid ∷ []) scan.picks → IsVersionRead set vid area (rows_shown scan)
   version_read area set all =
       let it = zip_first area set scan.picks all
       in record {
@@ -69,7 +69,7 @@ module _ (scan : Scan) (vid : ℕ) (are : scan.vids ≡ vid ∷ []) where
   first_is f (pick ∷ picks) rows e =
       (sym (length-map (pick ∷ picks) f) ∙ ap (λ (l : List (List Row)). length l) e, heads (f pick) rows (map f picks) [] e)
 
-  pub version_shown : (versions : List Version) → map (rows_at scan.records) scan.picks ≡ map (version_rows versions) (vid ∷ []) → rows_shown scan ≡ version_rows versions vid
+  version_shown : (versions : List Version) → map (rows_at scan.records) scan.picks ≡ map (version_rows versions) (vid ∷ []) → rows_shown scan ≡ version_rows versions vid
   version_shown versions are_ =
       let it = first_is (rows_at scan.records) scan.picks (version_rows versions vid) are_
       in shown_first it.0 ∙ it.1

@@ -49,11 +49,7 @@ pub(crate) fn found_side<'a>(
 }
 
 /// The rows of a side's version, which is there.
-pub(crate) fn scan_side<H: Host>(
-    store: &Store,
-    host: &mut H,
-    side: &Side,
-) -> Result<Scan, StoreErr>
+pub(crate) fn scan_side<H: Host>(store: &Store, host: &mut H, side: &Side) -> Result<Scan, StoreErr>
     requires usable { store.now.usable ≡ true }
     requires allowed { scan_off store.now.held.numbers side.now.cvd (side.now.vid ∷ []) ≡ None }
     ensures looked { Looked (H.state host.old) (H.state host.new) }

@@ -1,8 +1,7 @@
-use Rattle.std.proofs.Common.{rules, ◌≡◌, ◌∙◌, ℕ, true, Some, ap, sym, subst}
+use Rattle.std.proofs.Common.{rules, ◌≡◌, ◌∙◌, Some, ap, sym, subst}
 use Rattle.std.proofs.lemmas.Result.{err_from_is_err_and}
 use Rattle.ov_fetch.specs.Extents.{page_bytes}
 use Rattle.ov_fetch.specs.Scans.{IsSound}
-use Rattle.ov_host.specs.Host.{State}
 use Rattle.ov_join.specs.Meeting.{rows_shown}
 use Rattle.ov_model.specs.Records.{rows_at}
 use Rattle.ov_model.specs.World.{Dataset, set_named}

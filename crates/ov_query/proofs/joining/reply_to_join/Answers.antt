@@ -8,7 +8,7 @@ use Rattle.ov_store.specs.Scanning.{set_in}
 use Rattle.ov_query.proofs.Joined.{join_refuses, joined_seen, whole_join}
 use Rattle.ov_query.proofs.Known.{off_none}
 use Rattle.ov_query.specs.Joining.{IsFitted, IsJoinReply, IsJoinReplyBy}
-use Rattle.ov_query.specs.Queries.{AreDamaged, IsDamagedRead, IsUnread, bytes_of_all, bytes_read, join_off, join_reads}
+use Rattle.ov_query.specs.Queries.{AreDamaged, IsUnread, bytes_of_all, bytes_read, join_off, join_reads}
 use Rattle.ov_query.proofs.joining.reply_to_join.Goals as goal
 
 -- ---- a join that fits: what is said of it is said of the join, which nothing refuses
