@@ -4,8 +4,8 @@
 --                user is then
 --     reads_of n user command      the row of a command; who may ask it is decided before, but for a `run`
 --     fetch row      how many bytes of pages it may fetch; nothing where the numbers refuse it
-use Rattle.std.specs.Prelude.{ℕ, ◌+◌, Bool, false, not, nat_lt, if◌then◌else◌, List, [], ◌∷◌, ◌++◌, length, Option, Some, None, Result, Ok, Err, is_some}
-use Rattle.std.specs.Option.{option_or, option_map, option_and_then}
+use Rattle.std.specs.Prelude.{ℕ, ◌+◌, Bool, false, not, nat_lt, if◌then◌else◌, List, [], ◌∷◌, ◌++◌, length, map, Option, Some, None, Result, Ok, Err, is_some}
+use Rattle.std.specs.Option.{option_or, option_and_then}
 use Rattle.ov_host.specs.declared.area.Extent.{Extent}
 use Rattle.ov_value.specs.declared.column.Column.{Column}
 use Rattle.ov_value.specs.declared.schema_err.SchemaErr.{SchemaErr}
@@ -15,20 +15,18 @@ use Rattle.ov_value.specs.Rows.{value_at}
 use Rattle.ov_value.specs.Shapes.{Shape}
 use Rattle.ov_catalog.specs.Numbers.{Numbers, nothing_yet}
 use Rattle.ov_model.specs.Act.{columns_of, if_so, is_threshold, schema_with}
-use Rattle.ov_model.specs.Asking.{name_read}
 use Rattle.ov_model.specs.Book.{Row}
 use Rattle.ov_model.specs.Deed.{file_of_table}
 use Rattle.ov_model.specs.Forms.{schema_refusal}
-use Rattle.ov_model.specs.Known.{join_off_by}
-use Rattle.ov_model.specs.QueryTexts.{Asked, BadByte, NoQuery, AsksQuery, AsksJoin, asked_of}
 use Rattle.ov_model.specs.Registry.{as_text, both, is_number, stage_name, stage_schema, table_in, table_row, users_name, vids_staged, with_row}
-use Rattle.ov_model.specs.Users.{is_reserved, permit_names}
+use Rattle.ov_model.specs.Users.{is_reserved}
 use Rattle.ov_model.specs.declared.command.Command.{Command}
 use Rattle.ov_model.specs.declared.command.Command.TheVariants as asks
 use Rattle.ov_model.specs.declared.refusal.Refusal.{Refusal}
 use Rattle.ov_model.specs.declared.refusal.Refusal.TheVariants as no
-use Rattle.ov_query.specs.Queries.{asked_off, known_in, vids_read}
-use Rattle.ov_read.specs.Sizes.{bytes_for, list_bytes_for, segment_bytes_for}
+use Rattle.ov_query.specs.Queries.{Reading, query_off, query_reads}
+pub use Rattle.ov_query.specs.Queries.{bytes_in}
+use Rattle.ov_read.specs.Sizes.{list_bytes_for, segment_bytes_for}
 use Rattle.ov_registry.specs.declared.registry.Registry.{Registry}
 use Rattle.ov_registry.specs.declared.registry.Registry.TheVariants as registry
 use Rattle.ov_staging.specs.Reading.{foreign_off}
@@ -112,11 +110,7 @@ pub record Reads : Type 0 where
 
 -- ---- how many bytes that is
 
--- the pages of the lists of these versions, and of the partitions that serve them
-abbrev pub bytes_in : Option Set → List ℕ → ℕ
-bytes_in None vids = 0
-bytes_in (Some set) vids = bytes_for set vids
-
+-- of their lists alone, and of the partitions alone
 abbrev pub lists_in : Option Set → List ℕ → ℕ
 lists_in None vids = 0
 lists_in (Some set) vids = list_bytes_for set vids
@@ -250,23 +244,9 @@ abbrev pub staged_read : Numbers Extent Extent → List ℕ → List ℕ → Lis
 staged_read n user table message rows =
     staged_parents n (file_of_table user table) message (option_and_then (staged_in n) (table_in rows user table))
 
--- 40 and 41; 71; 10; of a query the first lineage's 12, per listed version 12 and 13, and 42 to 45; of a join 12, the right side's, and
--- 42 and 43
-abbrev pub run_off : Numbers Extent Extent → List ℕ → Asked → Option Refusal
-run_off n user (BadByte at) = asked_off n user (BadByte at)
-run_off n user NoQuery = asked_off n user NoQuery
-run_off n user (AsksQuery query) = asked_off n user (AsksQuery query)
-run_off n user (AsksJoin join) =
-    option_or (permit_names user (join.left.cvd ∷ join.right.cvd ∷ []))
-    (join_off_by join (option_map known_in (set_in n join.left.cvd)) (option_map known_in (set_in n join.right.cvd)))
-
--- of a join the left side, and then the right one, each with its own bytes
-abbrev pub run_sources : Numbers Extent Extent → Asked → List Source
-run_sources n (BadByte at) = []
-run_sources n NoQuery = []
-run_sources n (AsksQuery query) = RowsOf (set_in n (name_read query.source)) (vids_read query.source (set_in n (name_read query.source))) ∷ []
-run_sources n (AsksJoin join) =
-    RowsOf (set_in n join.left.cvd) (join.left.vid ∷ []) ∷ RowsOf (set_in n join.right.cvd) (join.right.vid ∷ []) ∷ []
+-- of a `run`: the versions of a query; of a join those of the left side, and then those of the right one, each with its own bytes
+abbrev pub rows_read : List Reading → List Source
+rows_read reads = map (λ r. RowsOf r.set r.vids) reads
 
 abbrev pub reads_of : Numbers Extent Extent → List ℕ → Command → Reads
 reads_of n user (asks.Init cvd schema file) = record (refusing (refused cvd (new_off n cvd))) { changes = Once; file = Taken }
@@ -284,7 +264,7 @@ reads_of n user (asks.CommitStaged owner table message) =
       changes = Once;
       file = Taken;
     }
-reads_of n user (asks.Run text) = record (refusing (run_off n user (asked_of text))) { always = run_sources n (asked_of text) }
+reads_of n user (asks.Run text) = record (refusing (query_off n user text)) { always = rows_read (query_reads n text) }
 reads_of n user (asks.Optimize cvd p q) =
     record (refusing (plan_refused cvd (optimize_off n cvd p q))) {
       always = PlanOf (set_in n cvd) ∷ [];

@@ -7,3 +7,4 @@ pub mod FoundTruths
 pub mod Among
 pub mod OfRows
 pub mod Joined
+pub mod AtVersion

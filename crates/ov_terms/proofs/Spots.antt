@@ -1,11 +1,12 @@
 -- Spots, and the pairs that stand there.
-use Rattle.std.proofs.Common.{◌≡◌, ◌<◌, ◌≤◌, ◌+◌, ◌++◌, ◌∷◌, ◌∙◌, [], ℕ, List, Bool, true, false, ap, refl, sym, suc, add-one, length, map, drop, drop-cons, get_or, append_assoc, append-nil, cond}
+use Rattle.std.proofs.Common.{◌≡◌, ◌<◌, ◌≤◌, ◌+◌, ◌++◌, ◌∷◌, ◌∙◌, [], ℕ, List, Bool, true, false, ap, ap₂, refl, sym, suc, add-one, length, map, drop, drop-cons, get_or, append_assoc, append-nil, cond}
 use Rattle.std.proofs.Math.Seq.{append_snoc}
 use Rattle.std.proofs.lemmas.List.{drop_all, map-append}
-use Rattle.std.specs.Prelude.{filter, if◌then◌else◌}
+use Rattle.std.specs.Prelude.{filter, if◌then◌else◌, Option}
 use Rattle.ov_model.specs.Book.{Row}
 use Rattle.ov_model.specs.Answers.{Pair}
-use Rattle.ov_terms.specs.Finding.{in_version}
+use Rattle.ov_terms.specs.Finding.{in_version, is_taken, TakesSame}
+use Rattle.ov_terms.specs.declared.found_cond.FoundCond.{FoundCond}
 use Rattle.ov_terms.specs.declared.spot.Spot.{Spot}
 use Rattle.ov_terms.specs.Standing.{pair_at, pairs_among, pairs_at, row_in, spots_in}
 
@@ -92,3 +93,10 @@ versions-all p rows vids picks i kept all end h =
       none : (vids : List ℕ) → pairs_among rows vids [] ≡ []
       none [] = refl
       none (vid ∷ vids) = refl
+
+-- what is made of WHERE for a version takes the same of its spots
+pub same-kept : (guard made : Option FoundCond) (rows : List Row) (vid : ℕ) (places : List ℕ) → TakesSame vid guard made
+    → filter (is_taken made) (pairs_at rows (spots_in vid places)) ≡ filter (is_taken guard) (pairs_at rows (spots_in vid places))
+same-kept guard made rows vid [] same = refl
+same-kept guard made rows vid (place ∷ places) same =
+    ap₂ (λ t l. cond t (pair_at rows (record { vid = vid; place = place }) ∷ l) l) (same (row_in rows place)) (same-kept guard made rows vid places same)

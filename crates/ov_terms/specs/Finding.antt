@@ -4,6 +4,7 @@
 --     found_truth group condition      what a condition says of a group; found_holds, of WHERE or HAVING
 --     shown_by items group      the row of an answer that a group gives
 --     IsOfRow condition      it says the same of a row in every version
+--     SaysSame vid condition made      what is made of a condition says the same of each row in this version; TakesSame, of WHERE
 --     IsLookup, IsFoundTerm, IsFoundOperand, IsFound, IsFoundGuard, IsFoundItems      it is found of what a query names, in a schema: they say the
 --         same of all groups of pairs
 use Rattle.std.specs.Prelude.{◌≡◌, ℕ, pos, Bool, true, List, [], ◌∷◌, length, map, filter, slice_index_or, Option, Some, None}
@@ -104,6 +105,13 @@ IsOfRow found = (v w : ℕ) (row : Row) → found_truth (in_version v row ∷ []
 
 abbrev pub IsGuardOfRow : Option FoundCond → Type 0
 IsGuardOfRow guard = (v w : ℕ) (row : Row) → is_taken guard (in_version v row) ≡ is_taken guard (in_version w row)
+
+-- what is made of a condition or a WHERE says the same of the rows of this version
+abbrev pub SaysSame : ℕ → FoundCond → FoundCond → Type 0
+SaysSame vid found made = (row : Row) → found_truth (in_version vid row ∷ []) made ≡ found_truth (in_version vid row ∷ []) found
+
+abbrev pub TakesSame : ℕ → Option FoundCond → Option FoundCond → Type 0
+TakesSame vid guard made = (row : Row) → is_taken made (in_version vid row) ≡ is_taken guard (in_version vid row)
 
 abbrev pub IsLookup : Shape → Col → Lookup → Type 0
 IsLookup schema col found = (pair : Pair) → value_at found pair ≡ value_in schema pair col

@@ -1,6 +1,6 @@
 //! A side of a comparison whose column was found.
 
-ghost use Rattle.std.specs.Prelude.{IfOk, IsTrue};
+ghost use Rattle.std.specs.Prelude.{◌≡◌, IfOk, IsTrue};
 ghost use Rattle.ov_terms.specs.Finding.{IsFoundOperand, IsOperandOfRow};
 
 use crate::found_term::FoundTerm;
@@ -28,6 +28,16 @@ impl FoundOperand {
         Ok(match operand {
             Operand::Term(term) => FoundOperand::Term(FoundTerm::of(shape, term)),
             Operand::Literal(value) => FoundOperand::Literal(value.copy(alloc)?),
+        })
+    }
+
+    /// The same side, of its own.
+    pub(crate) fn copy(&self, alloc: Global) -> Result<FoundOperand, AllocError>
+        ensures { IfOk result (λ copy. copy ≡ self.now) }
+    {
+        Ok(match self {
+            FoundOperand::Term(term) => FoundOperand::Term(*term),
+            FoundOperand::Literal(value) => FoundOperand::Literal(value.copy(alloc)?),
         })
     }
 

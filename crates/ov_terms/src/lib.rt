@@ -7,6 +7,7 @@
 #![tactic(auto)]
 
 mod aggregates;
+mod at_version;
 mod found_cond;
 mod found_items;
 mod found_operand;

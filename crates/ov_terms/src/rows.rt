@@ -5,6 +5,7 @@ ghost use Rattle.ov_model.specs.Answers.{row_of};
 ghost use Rattle.ov_terms.specs.Finding.{IsGuardOfRow, found_term, in_version, is_taken, shown_by, verdicts};
 ghost use Rattle.ov_terms.specs.Standing.{pair_at, pairs_at, pairs_among, spots_in};
 
+use crate::at_version::guard_at;
 use crate::found_cond::FoundCond;
 use crate::found_items::FoundItems;
 use crate::found_term::FoundTerm;
@@ -27,7 +28,7 @@ fn push_if(taken: bool, spot: Spot, kept: &mut Vec<Spot>) -> Result<(), AllocErr
 
 impl<'a> Table<'a> {
     // Whether WHERE takes each record, where it says the same of it in every version.
-    fn verdicts(&self, alloc: Global, guard: &'a Option<FoundCond>) -> Result<Vec<bool>, AllocError>
+    fn verdicts(&self, alloc: Global, guard: &Option<FoundCond>) -> Result<Vec<bool>, AllocError>
         ensures { IfOk result (λ made. made.items ≡ verdicts guard.now self.now) }
     {
         let mut made = Vec::with_capacity(alloc, self.len())?;
@@ -41,13 +42,14 @@ impl<'a> Table<'a> {
     /// The spots that WHERE takes, of versions whose rows stand at these positions: version by version, in this order. What
     /// WHERE drops takes no memory.
     ///
-    /// Where WHERE doesn't name the version, it is asked once for each record, which takes a byte.
+    /// Where WHERE doesn't name the version, it is asked once for each record, which takes a byte. Where it does, its lists of
+    /// versions are gone through once for each version.
     pub fn kept(
         &self,
         alloc: Global,
         vids: &[u32],
         picks: &[Pick],
-        guard: &'a Option<FoundCond>,
+        guard: &Option<FoundCond>,
     ) -> Result<Vec<Spot>, AllocError>
         requires { length vids.now ≡ length picks.now }
         ensures { IfOk result (λ kept. pairs_at self.now kept.items
@@ -64,7 +66,7 @@ impl<'a> Table<'a> {
     pub fn kept_rows(
         &self,
         alloc: Global,
-        guard: &'a Option<FoundCond>,
+        guard: &Option<FoundCond>,
     ) -> Result<Vec<Spot>, AllocError>
         ensures { IfOk result (λ kept. pairs_at self.now kept.items ≡ filter (is_taken guard.now) (map (in_version 0) self.now)) }
     {
@@ -82,7 +84,7 @@ impl<'a> Table<'a> {
         alloc: Global,
         vids: &[u32],
         picks: &[Pick],
-        guard: &'a Option<FoundCond>,
+        guard: &Option<FoundCond>,
     ) -> Result<Vec<Spot>, AllocError>
         requires paired { length vids.now ≡ length picks.now }
         requires same { IsGuardOfRow guard.now }
@@ -109,7 +111,7 @@ impl<'a> Table<'a> {
         alloc: Global,
         vids: &[u32],
         picks: &[Pick],
-        guard: &'a Option<FoundCond>,
+        guard: &Option<FoundCond>,
     ) -> Result<Vec<Spot>, AllocError>
         requires { length vids.now ≡ length picks.now }
         ensures { IfOk result (λ kept. pairs_at self.now kept.items
@@ -117,13 +119,13 @@ impl<'a> Table<'a> {
     {
         let mut kept = Vec::new(alloc);
         for (i, pick) in picks.iter().enumerate() {
-            self.keep_by_spot(vids[i], pick.as_slice(), guard, &mut kept)?;
+            self.keep_at_version(alloc, vids[i], pick.as_slice(), guard, &mut kept)?;
         }
         Ok(kept)
     }
 
     // Whether WHERE takes a spot, by what it says of the records.
-    fn is_taken(&self, spot: Spot, guard: &'a Option<FoundCond>, said: &[bool]) -> bool
+    fn is_taken(&self, spot: Spot, guard: &Option<FoundCond>, said: &[bool]) -> bool
         requires same { IsGuardOfRow guard.now }
         requires said { said.now ≡ verdicts guard.now self.now }
         ensures { result ≡ is_taken guard.now (pair_at self.now spot) }
@@ -139,7 +141,7 @@ impl<'a> Table<'a> {
         &self,
         vid: u32,
         places: &[usize],
-        guard: &'a Option<FoundCond>,
+        guard: &Option<FoundCond>,
         said: &[bool],
         kept: &mut Vec<Spot>,
     ) -> Result<(), AllocError>
@@ -156,12 +158,28 @@ impl<'a> Table<'a> {
         Ok(())
     }
 
+    // Adds a version's spots that WHERE takes, which is read as it stands in this version.
+    fn keep_at_version(
+        &self,
+        alloc: Global,
+        vid: u32,
+        places: &[usize],
+        guard: &Option<FoundCond>,
+        kept: &mut Vec<Spot>,
+    ) -> Result<(), AllocError>
+        ensures { OnOk result (pairs_at self.now kept.new.items
+            ≡ pairs_at self.now kept.old.items ++ filter (is_taken guard.now) (pairs_at self.now (spots_in vid places.now))) }
+    {
+        let here = guard_at(alloc, vid, guard)?;
+        self.keep_by_spot(vid, places, &here, kept)
+    }
+
     // Adds a version's spots that WHERE takes.
     fn keep_by_spot(
         &self,
         vid: u32,
         places: &[usize],
-        guard: &'a Option<FoundCond>,
+        guard: &Option<FoundCond>,
         kept: &mut Vec<Spot>,
     ) -> Result<(), AllocError>
         ensures { OnOk result (pairs_at self.now kept.new.items

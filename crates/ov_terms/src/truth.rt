@@ -2,7 +2,7 @@
 
 ghost use Rattle.std.specs.Prelude.{◌≡◌, ◌↔◌, IsTrue, Some, map, nat_eq};
 ghost use Rattle.std.specs.List.{list_any};
-ghost use Rattle.ov_model.specs.Answers.{compared, cell_order, truth_every, truth_any};
+ghost use Rattle.ov_model.specs.Answers.{cell_order, is_null_cell, truth_every, truth_any};
 ghost use Rattle.ov_terms.specs.Finding.{found_holds, found_operand, found_truth, is_among};
 ghost use Rattle.ov_terms.specs.Seeing.{cell_of};
 ghost use Rattle.ov_terms.specs.Standing.{pairs_at};
@@ -14,31 +14,43 @@ use crate::seen::Seen;
 use crate::spot::Spot;
 use crate::table::Table;
 use crate::truths::{compared, truth_and, truth_not, truth_or, turned_if};
-use ov_model::Sign;
+use std::cmp::Ordering;
 
 impl<'a> Table<'a> {
-    fn operand(&self, group: &[Spot], operand: &'a FoundOperand) -> Seen<'a>
-        ensures { cell_of result ≡ found_operand (pairs_at self.now group.now) operand.now }
+    // How the two sides of a comparison compare.
+    fn order_of(
+        &self,
+        group: &[Spot],
+        left: &FoundOperand,
+        right: &FoundOperand,
+    ) -> Option<Ordering>
+        ensures { result ≡ cell_order (found_operand (pairs_at self.now group.now) left.now)
+            (found_operand (pairs_at self.now group.now) right.now) }
     {
-        match operand {
-            FoundOperand::Term(term) => self.term(group, *term),
-            FoundOperand::Literal(value) => Seen::of(value),
+        match (left, right) {
+            (FoundOperand::Term(x), FoundOperand::Term(y)) => {
+                cell_order(self.term(group, *x), self.term(group, *y))
+            }
+            (FoundOperand::Term(x), FoundOperand::Literal(y)) => {
+                cell_order(self.term(group, *x), Seen::of(y))
+            }
+            (FoundOperand::Literal(x), FoundOperand::Term(y)) => {
+                cell_order(Seen::of(x), self.term(group, *y))
+            }
+            (FoundOperand::Literal(x), FoundOperand::Literal(y)) => {
+                cell_order(Seen::of(x), Seen::of(y))
+            }
         }
     }
 
-    fn compares(
-        &self,
-        group: &[Spot],
-        left: &'a FoundOperand,
-        sign: Sign,
-        right: &'a FoundOperand,
-    ) -> Option<bool>
-        ensures { result ≡ compared sign (cell_order (found_operand (pairs_at self.now group.now) left.now)
-            (found_operand (pairs_at self.now group.now) right.now)) }
+    // Whether a side of a comparison is NULL or nothing.
+    fn is_null(&self, group: &[Spot], tested: &FoundOperand) -> bool
+        ensures { result ≡ is_null_cell (found_operand (pairs_at self.now group.now) tested.now) }
     {
-        let left = self.operand(group, left);
-        let right = self.operand(group, right);
-        compared(sign, cell_order(left, right))
+        match tested {
+            FoundOperand::Term(term) => self.term(group, *term).is_null(),
+            FoundOperand::Literal(value) => Seen::of(value).is_null(),
+        }
     }
 
     // Whether the version of a group is one of these.
@@ -53,15 +65,16 @@ impl<'a> Table<'a> {
 
     /// What a condition says of a group: true, false, or none where it is unknown.
     #[cycle(truth)]
-    pub fn truth(&self, group: &[Spot], cond: &'a FoundCond) -> Option<bool>
+    pub fn truth(&self, group: &[Spot], cond: &FoundCond) -> Option<bool>
         ensures { result ≡ found_truth (pairs_at self.now group.now) cond.now }
     {
         found_by_cases();
         match cond {
-            FoundCond::Compare(left, sign, right) => self.compares(group, left, *sign, right),
+            FoundCond::Compare(left, sign, right) => {
+                compared(*sign, self.order_of(group, left, right))
+            }
             FoundCond::IsNull(tested, negated) => {
-                let null = self.operand(group, tested).is_null();
-                Some(turned_if(*negated, null))
+                Some(turned_if(*negated, self.is_null(group, tested)))
             }
             FoundCond::InList(vids, negated) => {
                 Some(turned_if(*negated, self.is_among(group, vids.as_slice())))
@@ -73,7 +86,7 @@ impl<'a> Table<'a> {
     }
 
     #[cycle(truth)]
-    fn every(&self, group: &[Spot], conds: &'a [FoundCond]) -> Option<bool>
+    fn every(&self, group: &[Spot], conds: &[FoundCond]) -> Option<bool>
         ensures { result ≡ truth_every (map (found_truth (pairs_at self.now group.now)) conds.now) }
     {
         let mut truth = Some(true);
@@ -87,7 +100,7 @@ impl<'a> Table<'a> {
     }
 
     #[cycle(truth)]
-    fn any(&self, group: &[Spot], conds: &'a [FoundCond]) -> Option<bool>
+    fn any(&self, group: &[Spot], conds: &[FoundCond]) -> Option<bool>
         ensures { result ≡ truth_any (map (found_truth (pairs_at self.now group.now)) conds.now) }
     {
         let mut truth = Some(false);
@@ -101,7 +114,7 @@ impl<'a> Table<'a> {
     }
 
     /// Whether WHERE or HAVING takes a group: it isn't there, or it is true.
-    pub fn holds(&self, group: &[Spot], guard: &'a Option<FoundCond>) -> bool
+    pub fn holds(&self, group: &[Spot], guard: &Option<FoundCond>) -> bool
         ensures { result ≡ found_holds guard.now (pairs_at self.now group.now) }
     {
         match guard {
@@ -114,7 +127,8 @@ impl<'a> Table<'a> {
     }
 }
 
-fn is_one_of(vid: u32, vids: &[u32]) -> bool
+/// Whether a version is one of these.
+pub(crate) fn is_one_of(vid: u32, vids: &[u32]) -> bool
     ensures { result ≡ list_any (nat_eq vid) vids.now }
 {
     vids.iter().any(|other| vid == *other)

@@ -30,10 +30,10 @@ use Rattle.ov_session.proofs.Numbering.{journal_looked}
 use Rattle.ov_session.specs.Commands.{IsScanDamaged, MeetsDamage}
 use Rattle.law_forms.specs.BuiltShapes.{if_built}
 use Rattle.ov_query.specs.Queries.{query_off}
-use Rattle.ov_session.proofs.Querying.{query_acts, query_other}
+use Rattle.ov_session.proofs.Querying.{query_acts}
 use Rattle.ov_session.proofs.Rows.{checkout_idle, checkout_met, commit_damaged, commit_fetched, commit_refused, damages_wider, fetched_refused, map_ok, plan_damaged, plan_fetched, plan_met, plan_there, refused_there, run_damaged, run_fetched, run_met, run_refused}
 use Rattle.ov_model.specs.declared.command.Command.TheVariants as asks
-use Rattle.ov_session.proofs.Shaping.{done, off, ok_err}
+use Rattle.ov_session.proofs.Shaping.{done, off, ok_err, text_built}
 use Rattle.ov_session.specs.Commands.{IsCommitDamaged, IsDamageOf, IsDamaged}
 use Rattle.std.specs.Prelude.{IfErr, IsErrOf, OnOk}
 use Rattle.ov_session.specs.declared.errors.EndErr.TheVariants as ending
@@ -360,7 +360,6 @@ pub returns-in-Run-clause-whole : goal.returns-in-Run-clause-whole
 returns-in-Run-clause-whole g c = λ page told.
     map_ok _ _ c.run_query.result
     (λ whole built met. whole (run_met c.args.user.now c.in-Run.text (g.T.Stage.staged c.args.stage.now) c.args.store.now.held (g.H.Host.state c.args.host.now) page
-    (subst (λ (command : Command). if_built command ≡ done command) c.in-Run.is built)
     (subst (λ (command : Command). MeetsDamage c.args.user.now command (g.T.Stage.staged c.args.stage.now) c.args.store.now.held (g.H.Host.state c.args.host.now) page) c.in-Run.is met)))
     (c.run_query.ensures.whole page told)
 
@@ -389,15 +388,14 @@ returns-in-Run-clause-idle g c =
 
 pub returns-in-Run-clause-other : goal.returns-in-Run-clause-other
 returns-in-Run-clause-other g c = λ refusal is.
-    query_other c.args.store.now.held c.args.user.now c.in-Run.text c.args.store.now (g.T.Stage.staged c.args.stage.now) (g.H.Host.state c.args.host.now) (g.H.Host.state c.run_query.new.host)
-    refusal c.run_query.result (subst (λ (command : Command). if_built command ≡ off refusal) c.in-Run.is is) c.run_query.ensures.unread c.run_query.ensures.reply c.run_query.ensures.memory
+    absurd (ok_err (asks.Run c.in-Run.text) refusal (sym (text_built c.in-Run.text) ∙ subst (λ (command : Command). if_built command ≡ off refusal) c.in-Run.is is))
 
 pub returns-in-Run-clause-acts : goal.returns-in-Run-clause-acts
 returns-in-Run-clause-acts g c = λ w built told at.
     let s = session_of (g.T.Stage.staged c.args.stage.now).files c.args.user.now
     in subst (λ (command : Command). Acts (permitted w s command) s s w c.run_query.result c.args.store.now.held c.args.store.now.held (g.H.Host.state c.args.host.now) (g.H.Host.state c.run_query.new.host)) (sym c.in-Run.is)
     (query_acts w s c.in-Run.text c.args.store.now.held (g.H.Host.state c.args.host.now) (g.H.Host.state c.run_query.new.host) at c.run_query.ensures.looked
-    (subst (λ (command : Command). if_built command ≡ done command) c.in-Run.is built) c.run_query.result (c.run_query.ensures.told w s at refl))
+    c.run_query.result (c.run_query.ensures.told w s at refl))
 
 -- ---- what a commit reads
 

@@ -2,19 +2,19 @@
 use Rattle.std.proofs.Common.{◌∙◌, ap, map, refl, sym}
 use Rattle.std.proofs.lemmas.List.{drop_all}
 use Rattle.std.specs.Prelude.{Some}
-use Rattle.ov_model.specs.Answers.{is_null_cell, truth_and, truth_any, truth_every, truth_not, truth_or, turned_if}
+use Rattle.ov_model.specs.Answers.{compared, truth_and, truth_any, truth_every, truth_not, truth_or, turned_if}
 use Rattle.ov_terms.specs.Finding.{found_truth}
 use Rattle.ov_terms.specs.Standing.{pairs_at}
 use Rattle.ov_terms.proofs.ThreeValues.{and-stops, and-true, or-false, or-stops, every-more, any-more}
 use Rattle.ov_terms.proofs.table.Table.+truth.Goals as goal
 
 pub truth-returns-in-Compare : goal.truth-returns-in-Compare
-truth-returns-in-Compare n c = rw c.in-Compare.is (c.compares.ensures ∙ sym (c.found_by_cases.ensures.compare _ _ _ _))
+truth-returns-in-Compare n c = rw c.in-Compare.is (c.compared.ensures ∙ ap (compared c.in-Compare.sign) c.order_of.ensures ∙ sym (c.found_by_cases.ensures.compare _ _ _ _))
 
 pub truth-returns-in-IsNull : goal.truth-returns-in-IsNull
 truth-returns-in-IsNull n c =
     rw c.in-IsNull.is
-    (ap (λ t. Some t) (c.turned_if.ensures ∙ ap (turned_if c.in-IsNull.negated) (c.is_null-null.ensures ∙ ap is_null_cell c.operand.ensures))
+    (ap (λ t. Some t) (c.turned_if.ensures ∙ ap (turned_if c.in-IsNull.negated) c.is_null.ensures)
     ∙ sym (c.found_by_cases.ensures.null _ _ _))
 
 pub truth-returns-in-InList : goal.truth-returns-in-InList

@@ -8,7 +8,7 @@ pub loop-i-preserved : goal.loop-i-preserved
 loop-i-preserved c =
     version-more (is_taken c.args.guard.now) c.args.self.now c.args.vids.now c.args.picks.now c.loop-i.i (get_or c.args.vids.now c.loop-i.i 0) 0
     c.index-picks-i.result c.loop-i.kept.items _ _ (omega (arith, c.loop-i-test.true, c.requires)) c.loop-i-test.true refl c.index-picks-i.is
-    (rw c.as_slice.ensures at c.in_ok-keep_by_spot.ensures) c.loop-i.invariant
+    (rw c.as_slice.ensures at c.in_ok-keep_at_version.ensures) c.loop-i.invariant
 
 pub returns : goal.returns
 returns c =
