@@ -1,24 +1,24 @@
 -- The forms that are built, one by one: what their commands have, and that they are built.
-use Rattle.std.proofs.Common.{◌≡◌, ℕ, Bool, true, false, List, [], ◌∷◌, refl, sym, ap, subst, inl}
-use Rattle.std.specs.Prelude.{if◌then◌else◌, codes, is_some, Option, Some, None, Result, Ok, Err}
+use Rattle.std.proofs.Common.{◌≡◌, ℕ, Bool, true, false, List, [], ◌∷◌, refl, sym, ap, subst, inl, inr}
+use Rattle.std.specs.Prelude.{if◌then◌else◌, codes, Option, Some, None, Result, Ok, Err}
 use Rattle.std.specs.Option.{option_map}
 use Rattle.std.specs.Str.{bytes_eq}
 use Rattle.ov_value.specs.Making.{schema_of}
 use Rattle.ov_value.specs.Naming.{is_name}
 use Rattle.ov_value.specs.Shapes.{Shape}
 use Rattle.ov_model.specs.Formed.{AllAsk, AsksSo, IsAsked}
-use Rattle.ov_model.specs.Forms.{Values, alone, before_in, checkout_form, choice, columns_in, commit_form, commit_with, generate_form, init_form, init_with, make_commit, make_init, may_have, migrate_form, names_in, needs, of_cvd, optimize_by, optimize_form, or_schema_refusal, own_in, run_form, some_columns, text_in, word_of}
-use Rattle.ov_model.specs.Line.{Line, answer, Asks, Comment, Refused, has, line_of}
+use Rattle.ov_model.specs.Forms.{Values, advise_form, alone, before_in, checkout_form, choice, columns_in, commit_form, commit_with, generate_form, init_form, init_with, make_commit, make_init, may_have, migrate_form, names_in, of_cvd, of_name, optimize_by, optimize_form, or_schema_refusal, own_in, run_form, some_columns, text_in, threshold_or_budget, unstage_form, word_of}
+use Rattle.ov_model.specs.Line.{Line, answer, Asks, Comment, Refused, line_of}
 use Rattle.ov_model.specs.QueryTexts.{asked_of}
 use Rattle.ov_model.specs.Values.{number_from}
 use Rattle.ov_model.specs.declared.command.Command.{Command}
 use Rattle.ov_model.specs.declared.command.Command.TheVariants as asks
 use Rattle.ov_model.specs.declared.given.Given.{Given}
-use Rattle.ov_model.specs.declared.given.Reading.TheVariants.{FileName, TwoNumbers}
+use Rattle.ov_model.specs.declared.given.Reading.TheVariants.{FileName}
 use Rattle.ov_model.specs.declared.refusal.Refusal.{Refusal}
 use Rattle.ov_model.specs.declared.refusal.Refusal.TheVariants as no
 use Rattle.ov_model.proofs.AllFormed.{Any, alone_is, checkout_is, commit_is, cvd_is, generate_is, init_is, migrate_is, optimize_is, run_is}
-use Rattle.ov_model.proofs.FormValues.{AllRead, first_there, no_blank, unwritten}
+use Rattle.ov_model.proofs.FormValues.{AllRead, unwritten}
 use Rattle.ov_model.proofs.Forming.{AreForms, IsForm, IsMade, all_well, line_well}
 use Rattle.law_forms.specs.Built.{IsBuilt, built_forms}
 use Rattle.law_forms.specs.BuiltShapes.{if_built, is_built_shape, served_forms, served_line}
@@ -35,8 +35,27 @@ on e = cc
 file_read : AllRead Any (may_have (codes "-f") FileName ∷ [])
 file_read = (record { versions = λ e. off e; message = λ e. off e; written = refl; may = tt }, tt)
 
-ratio_read : AllRead Any (needs (codes "-d") TwoNumbers ∷ [])
-ratio_read = (record { versions = λ e. off e; message = λ e. off e; written = refl; may = tt }, tt)
+ratio_read : AllRead Any threshold_or_budget
+ratio_read = (
+  record { versions = λ e. off e; message = λ e. off e; written = refl; may = tt },
+  (record { versions = λ e. off e; message = λ e. off e; written = refl; may = tt }, tt),
+)
+
+advise_is : IsForm Any IsAsked advise_form
+advise_is = record {
+  reads = (
+    record { versions = λ e. off e; message = λ e. off e; written = refl; may = tt },
+    (record { versions = λ e. off e; message = λ e. inr refl; written = refl; may = tt }, tt),
+  );
+  makes = λ plain v none good words. tt;
+  whole = λ e. off e;
+}
+
+create_is : IsForm Any IsAsked (of_name (codes "create_user") asks.CreateUser)
+create_is = record { reads = tt; makes = λ plain v none good words. tt; whole = λ e. off e }
+
+unstage_is : IsForm Any IsAsked unstage_form
+unstage_is = record { reads = tt; makes = λ plain v none good words. tt; whole = λ e. off e }
 
 asked_are : AreForms Any IsAsked built_forms
 asked_are = (
@@ -48,22 +67,37 @@ asked_are = (
       (
         run_is,
         (
-          optimize_is (needs (codes "-d") TwoNumbers ∷ []) ratio_read,
+          optimize_is threshold_or_budget ratio_read,
           (
-            migrate_is,
+            advise_is,
             (
-              cvd_is (codes "layout") asks.Layout (λ cvd. tt),
+              migrate_is,
               (
-                cvd_is (codes "log") asks.Log (λ cvd. tt),
+                cvd_is (codes "layout") asks.Layout (λ cvd. tt),
                 (
-                  cvd_is (codes "drop") asks.DropCvd (λ cvd. tt),
+                  cvd_is (codes "log") asks.Log (λ cvd. tt),
                   (
-                    alone_is (codes "ls") asks.Ls tt,
+                    cvd_is (codes "drop") asks.DropCvd (λ cvd. tt),
                     (
-                      alone_is (codes "checkpoint") asks.Checkpoint tt,
+                      alone_is (codes "ls") asks.Ls tt,
                       (
-                        generate_is,
-                        tt,
+                        alone_is (codes "checkpoint") asks.Checkpoint tt,
+                        (
+                          alone_is (codes "whoami") asks.Whoami tt,
+                          (
+                            alone_is (codes "tables") asks.Tables tt,
+                            (
+                              generate_is,
+                              (
+                                create_is,
+                                (
+                                  unstage_is,
+                                  tt,
+                                ),
+                              ),
+                            ),
+                          ),
+                        ),
                       ),
                     ),
                   ),
@@ -142,19 +176,36 @@ commit_built = record {
 run_built : IsForm Few IsBuilt run_form
 run_built = record { reads = tt; makes = λ plain. on plain; whole = λ e text short. tt }
 
--- by a threshold, which is needed
-optimize_made : (cvd : List ℕ) (ratio budget : Option Given) → is_some ratio ≡ true → IsMade IsBuilt (Ok (optimize_by cvd ratio budget))
-optimize_made cvd (Some ratio) budget there = tt
-optimize_made cvd None budget there = off there
+-- by a threshold, or within a budget
+optimize_made : (cvd : List ℕ) (ratio budget : Option Given) → IsMade IsBuilt (Ok (optimize_by cvd ratio budget))
+optimize_made cvd (Some ratio) budget = tt
+optimize_made cvd None budget = tt
 
-optimize_built : IsForm Few IsBuilt (optimize_form (needs (codes "-d") TwoNumbers ∷ []))
+optimize_built : IsForm Few IsBuilt (optimize_form threshold_or_budget)
 optimize_built = record {
-  reads = (record { versions = λ e. off e; message = λ e. off e; written = refl; may = (refl, refl) }, tt);
-  makes = λ plain v none good words.
-      optimize_made (text_in (word_of v 0)) (choice v (codes "-d")) (choice v (codes "-s"))
-      (first_there (has v.options (codes "-d")) (has v.options []) (codes "-d") None (no_blank Few v.options good) none);
+  reads = (
+    record { versions = λ e. off e; message = λ e. off e; written = refl; may = (refl, refl) },
+    (record { versions = λ e. off e; message = λ e. off e; written = refl; may = (refl, refl) }, tt),
+  );
+  makes = λ plain v none good words. optimize_made (text_in (word_of v 0)) (choice v (codes "-d")) (choice v (codes "-s"));
   whole = λ e. off e;
 }
+
+advise_built : IsForm Few IsBuilt advise_form
+advise_built = record {
+  reads = (
+    record { versions = λ e. off e; message = λ e. off e; written = refl; may = (refl, refl) },
+    (record { versions = λ e. off e; message = λ e. inr refl; written = refl; may = (refl, refl) }, tt),
+  );
+  makes = λ plain v none good words. tt;
+  whole = λ e. off e;
+}
+
+create_built : IsForm Few IsBuilt (of_name (codes "create_user") asks.CreateUser)
+create_built = record { reads = tt; makes = λ plain v none good words. tt; whole = λ e. off e }
+
+unstage_built : IsForm Few IsBuilt unstage_form
+unstage_built = record { reads = tt; makes = λ plain v none good words. tt; whole = λ e. off e }
 
 migrate_built : IsForm Few IsBuilt migrate_form
 migrate_built = record { reads = tt; makes = λ plain v none good words. tt; whole = λ e. off e }
@@ -189,20 +240,35 @@ built_are = (
         (
           optimize_built,
           (
-            migrate_built,
+            advise_built,
             (
-              cvd_built (codes "layout") asks.Layout (λ cvd. tt),
+              migrate_built,
               (
-                cvd_built (codes "log") asks.Log (λ cvd. tt),
+                cvd_built (codes "layout") asks.Layout (λ cvd. tt),
                 (
-                  cvd_built (codes "drop") asks.DropCvd (λ cvd. tt),
+                  cvd_built (codes "log") asks.Log (λ cvd. tt),
                   (
-                    alone_built (codes "ls") asks.Ls tt,
+                    cvd_built (codes "drop") asks.DropCvd (λ cvd. tt),
                     (
-                      alone_built (codes "checkpoint") asks.Checkpoint tt,
+                      alone_built (codes "ls") asks.Ls tt,
                       (
-                        generate_built,
-                        tt,
+                        alone_built (codes "checkpoint") asks.Checkpoint tt,
+                        (
+                          alone_built (codes "whoami") asks.Whoami tt,
+                          (
+                            alone_built (codes "tables") asks.Tables tt,
+                            (
+                              generate_built,
+                              (
+                                create_built,
+                                (
+                                  unstage_built,
+                                  tt,
+                                ),
+                              ),
+                            ),
+                          ),
+                        ),
                       ),
                     ),
                   ),

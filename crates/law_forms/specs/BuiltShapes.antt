@@ -2,7 +2,7 @@
 --     is_built_shape asked      what a text asks has such a shape, or is refused as it stands
 --     served_forms      the forms of the commands that the program serves
 --     served_line line      what a line says, of which a query of another shape is refused
-use Rattle.std.specs.Prelude.{Bool, true, false, if◌then◌else◌, List, map, Result, Ok, Err}
+use Rattle.std.specs.Prelude.{Bool, true, if◌then◌else◌, List, map, Result, Ok, Err}
 use Rattle.law_forms.specs.Built.{built_forms}
 use Rattle.ov_model.specs.Forms.{Form}
 use Rattle.ov_model.specs.Line.{Line, Comment, Asks, Refused, answer}
@@ -14,9 +14,9 @@ use Rattle.ov_model.specs.declared.refusal.Refusal.TheVariants as no
 
 abbrev pub is_built_shape : Asked → Bool
 is_built_shape (BadByte at) = true
-is_built_shape NoQuery = false
+is_built_shape NoQuery = true
 is_built_shape (AsksQuery query) = true
-is_built_shape (AsksJoin join) = false
+is_built_shape (AsksJoin join) = true
 
 -- 41 in place of a query of a shape that isn't built; where there is no query at all, it comes here already
 abbrev pub if_built : Command → Result Command Refusal

@@ -124,13 +124,6 @@ const THRESHOLD: Choice = Choice {
     rival: "-s",
 };
 
-const BY_THRESHOLD: Choice = Choice {
-    letter: "-d",
-    reads: Reading::TwoNumbers,
-    needed: true,
-    rival: "",
-};
-
 const BUDGET_OR_THRESHOLD: Choice = Choice {
     letter: "-s",
     reads: A_NUMBER,
@@ -315,7 +308,7 @@ static ALL: [Form; 19] = [
 ];
 
 /// The commands that the program has so far.
-static BUILT: [Form; 12] = [
+static BUILT: [Form; 17] = [
     Form {
         name: "init",
         second: None,
@@ -353,8 +346,16 @@ static BUILT: [Form; 12] = [
         second: None,
         whole: false,
         params: &[CVD],
-        choices: &[BY_THRESHOLD],
+        choices: &[THRESHOLD, BUDGET_OR_THRESHOLD],
         maker: Maker::Optimize,
+    },
+    Form {
+        name: "advise",
+        second: None,
+        whole: false,
+        params: &[CVD],
+        choices: &[BUDGET, RATIO],
+        maker: Maker::Advise,
     },
     Form {
         name: "migrate",
@@ -408,12 +409,47 @@ static BUILT: [Form; 12] = [
         maker: Maker::Checkpoint,
     },
     Form {
+        name: "whoami",
+        second: None,
+        whole: false,
+        params: &[],
+        choices: &[],
+        maker: Maker::Whoami,
+    },
+    Form {
+        name: "tables",
+        second: None,
+        whole: false,
+        params: &[],
+        choices: &[],
+        maker: Maker::Tables,
+    },
+    Form {
         name: "generate",
         second: None,
         whole: false,
         params: &[CVD, SEED, ROWS, VERSIONS],
         choices: &[],
         maker: Maker::Generate,
+    },
+    Form {
+        name: "create_user",
+        second: None,
+        whole: false,
+        params: &[NAME],
+        choices: &[],
+        maker: Maker::CreateUser,
+    },
+    Form {
+        name: "unstage",
+        second: None,
+        whole: false,
+        params: &[Param {
+            what: "user.table",
+            reads: Reading::StagedTable,
+        }],
+        choices: &[],
+        maker: Maker::Unstage,
     },
 ];
 
