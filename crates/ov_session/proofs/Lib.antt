@@ -18,6 +18,7 @@ pub mod Idling
 pub mod Taking
 pub mod Following
 pub mod Plans
+pub mod Choices
 pub mod Migrating
 pub mod Checkpointing
 pub mod Acting
