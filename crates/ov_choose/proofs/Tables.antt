@@ -11,7 +11,7 @@ use Rattle.ov_graph.specs.Versions.{reduced}
 use Rattle.ov_fetch.specs.Extents.{Looked, page_bytes}
 use Rattle.ov_fetch.proofs.Looks.{same_pages}
 use Rattle.ov_model.specs.Budget as model
-use Rattle.ov_model.specs.World.{Dataset}
+use Rattle.ov_model.specs.World.{Dataset, World, set_named}
 use Rattle.ov_model.specs.declared.refusal.Refusal.{Refusal}
 use Rattle.ov_model.specs.declared.refusal.Refusal.TheVariants as no
 use Rattle.ov_model.specs.declared.reply.BudgetLine.{BudgetLine}
@@ -82,6 +82,9 @@ unread_spared o s t name budget off why.BadThreshold there is whole = absurd is
 unread_spared o s t name budget off why.Migrating there is whole = absurd is
 unread_spared o s t name budget off (why.NoThreshold least) there is whole = absurd is
 unread_spared o s t name budget off why.NoNumbers there is whole = absurd is
+
+pub named_there : (w : World) (d : Dataset) (name : List ℕ) → set_named w name ≡ Some d → set_named w name ≡ None → ⊥
+named_there w d name named none = let clash : Some d ≡ None = sym named ∙ none in cc
 
 -- ---- lists that were read
 
