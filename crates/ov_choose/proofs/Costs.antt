@@ -5,7 +5,7 @@ use Rattle.ov_host.specs.Host.{State}
 use Rattle.ov_core.specs.AtWorld.{IsAtWorld}
 use Rattle.ov_core.specs.Held.{Held}
 use Rattle.law_image.specs.Pages.{readings_of}
-use Rattle.ov_listing.specs.Listed.{cost, shown_layout}
+use Rattle.ov_listing.specs.Listed.{cost}
 use Rattle.ov_listing.proofs.ShowingLayout.{layout_shown}
 use Rattle.ov_model.specs.Act.{Deed, Session, layout_deed}
 use Rattle.ov_model.specs.World.{Dataset, World, set_named}

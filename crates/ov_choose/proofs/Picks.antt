@@ -1,17 +1,15 @@
 -- What is chosen in a World, and what that means for its next World.
-use Rattle.std.proofs.Common.{◌≡◌, ◌∙◌, ℕ, List, refl, sym, ap, subst}
-use Rattle.std.specs.Prelude.{Option, Some, None}
+use Rattle.std.proofs.Common.{◌≡◌, ◌∙◌, ℕ, List, sym, ap, subst}
+use Rattle.std.specs.Prelude.{Some, None}
 use Rattle.std.specs.Option.{option_or}
-use Rattle.ov_model.specs.Budget.{table, within_refusal}
-use Rattle.ov_model.specs.Moves.{BeginPlan, moved}
+use Rattle.ov_model.specs.Budget.{table}
 use Rattle.ov_model.specs.World.{Dataset, World, set_named}
 use Rattle.ov_model.specs.declared.refusal.Refusal.{Refusal}
 use Rattle.ov_model.specs.declared.reply.BudgetLine.{BudgetLine}
 use Rattle.ov_optimize.specs.Planned.{IsReport}
 use Rattle.ov_optimize.specs.declared.report.Report.{Report}
 use Rattle.ov_store.specs.Planning.{begun_in, with_plan}
-use Rattle.ov_choose.specs.Worlds.{IsShownTo, IsToldOf, MayBegin, best_of, over_budget, within_in, within_of, within_refused, within_refused_of, with_best}
-use Rattle.ov_choose.specs.declared.choosing.Chosen.{Chosen}
+use Rattle.ov_choose.specs.Worlds.{IsShownTo, IsToldOf, best_of, over_budget, within_in, within_of, within_refused, within_refused_of, with_best}
 
 the_dataset : (d e : Dataset) → Some d ≡ Some e → d ≡ e
 the_dataset d e is = ap (λ o. elim o as (λ _. Dataset) [ None ↦ d | Some x ↦ x ]) is

@@ -1,8 +1,7 @@
 -- A plan that begins from what was chosen, and why none does.
-use Rattle.std.proofs.Common.{◌≡◌, ◌≤◌, ◌∙◌, ℕ, true, List, inl, inr, refl, sym, ap, subst}
-use Rattle.std.specs.Prelude.{Option, Some, None, length}
-use Rattle.ov_host.specs.declared.area.Area.TheVariants.{Journal}
-use Rattle.ov_host.specs.Host.{Rose, State, bytes_of}
+use Rattle.std.proofs.Common.{◌≡◌, ◌∙◌, ℕ, true, List, inl, inr, sym, ap, subst}
+use Rattle.std.specs.Prelude.{Option, Some, None}
+use Rattle.ov_host.specs.Host.{State}
 use Rattle.ov_host.specs.Stops.{Only}
 use Rattle.ov_host.specs.Tape.{Tape}
 use Rattle.ov_core.specs.AtWorld.{IsAtNext, IsAtWorld, IsEither}
@@ -27,7 +26,7 @@ use Rattle.ov_store.specs.declared.plan_errors.PlanErr.{PlanErr}
 use Rattle.ov_store.specs.declared.plan_errors.PlanErr.TheVariants as plan
 use Rattle.ov_store.proofs.Readying.{rose_later}
 use Rattle.ov_store.proofs.Still.{still, still_world}
-use Rattle.ov_choose.specs.Choices.{FindsNoPlaceWithin, HasPartDamage, IsDamagedWithin, IsPicked, IsUnchosen, IsUnpicked, within_off}
+use Rattle.ov_choose.specs.Choices.{FindsNoPlaceWithin, IsDamagedWithin, IsNoThreshold, IsPicked, IsUnchosen, IsUnpicked, within_off}
 use Rattle.ov_choose.specs.Errors.{of_plan}
 use Rattle.ov_choose.specs.Worlds.{IsPlanLackOf, IsRefusedTo}
 use Rattle.ov_choose.specs.declared.errors.ChooseErr.{ChooseErr}
@@ -163,3 +162,14 @@ plan_lacks entry past m w plan.NoCvd is = tt
 plan_lacks entry past m w plan.BadThreshold is = tt
 plan_lacks entry past m w plan.Migrating is = tt
 plan_lacks entry past m w plan.NoNumbers is = tt
+
+-- nor is it one of the table
+pub plan_no_threshold : (e : PlanErr) → IsNoThreshold (of_plan e) → ⊥
+plan_no_threshold plan.Host is = is
+plan_no_threshold plan.Memory is = is
+plan_no_threshold (plan.Damaged area at) is = is
+plan_no_threshold plan.JournalFull is = is
+plan_no_threshold plan.NoCvd is = is
+plan_no_threshold plan.BadThreshold is = is
+plan_no_threshold plan.Migrating is = is
+plan_no_threshold plan.NoNumbers is = is

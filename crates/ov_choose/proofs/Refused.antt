@@ -6,7 +6,6 @@ use Rattle.ov_host.specs.Host.{State}
 use Rattle.ov_core.specs.AtWorld.{IsAtWorld}
 use Rattle.ov_core.specs.Held.{Held}
 use Rattle.ov_model.specs.Act.{if_so, is_threshold}
-use Rattle.ov_model.specs.Budget.{within_refusal}
 use Rattle.ov_model.specs.World.{Dataset, World, set_named}
 use Rattle.ov_model.specs.declared.refusal.Refusal.{Refusal}
 use Rattle.ov_model.specs.declared.refusal.Refusal.TheVariants as no

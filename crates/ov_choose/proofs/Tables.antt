@@ -4,10 +4,7 @@ use Rattle.std.specs.Prelude.{Option, Some, None, is_some}
 use Rattle.std.specs.List.{AllZip}
 use Rattle.ov_host.specs.Host.{State}
 use Rattle.ov_budget.specs.Choices as choices
-use Rattle.ov_budget.specs.Tables.{table}
 use Rattle.ov_budget.specs.declared.thresholds.Line.{Line}
-use Rattle.ov_catalog.specs.Events.{graph_of}
-use Rattle.ov_graph.specs.Versions.{reduced}
 use Rattle.ov_fetch.specs.Extents.{Looked, page_bytes}
 use Rattle.ov_fetch.proofs.Looks.{same_pages}
 use Rattle.ov_model.specs.Budget as model
@@ -16,17 +13,17 @@ use Rattle.ov_model.specs.declared.refusal.Refusal.{Refusal}
 use Rattle.ov_model.specs.declared.refusal.Refusal.TheVariants as no
 use Rattle.ov_model.specs.declared.reply.BudgetLine.{BudgetLine}
 use Rattle.ov_optimize.specs.Damages.{IsListDamage}
-use Rattle.ov_optimize.specs.Reading.{IsListAt, IsListOf, all_vids}
+use Rattle.ov_optimize.specs.Reading.{IsListAt, all_vids}
 use Rattle.law_budget.specs.Told.{told, told_best}
 use Rattle.law_budget.proofs.Same.{best_is, least_is}
 use Rattle.std.specs.Option.{option_map}
-use Rattle.ov_store.specs.Committing.{IfSet, Set}
+use Rattle.ov_store.specs.Committing.{Set}
 use Rattle.ov_store.specs.Scanning.{IsUndamaged}
 use Rattle.ov_store.specs.Thresholds.{AreListsOf, IsUnlisted}
 use Rattle.ov_store.specs.declared.errors.StoreErr.{StoreErr}
 use Rattle.ov_store.specs.declared.errors.StoreErr.TheVariants as lists
 use Rattle.ov_store.proofs.Unhurt.{lists_whole}
-use Rattle.ov_choose.specs.Choices.{AreLines, HasNoThreshold, IsTableOf, IsUnpicked, IsUnread, there_off}
+use Rattle.ov_choose.specs.Choices.{AreLines, IsUnpicked, IsUnread, there_off}
 use Rattle.ov_choose.specs.Errors.{of_lists}
 use Rattle.ov_choose.specs.Worlds.{IsRefusedTo, IsWhole, best_of, least_in, over_budget}
 use Rattle.ov_choose.specs.declared.errors.ChooseErr.{ChooseErr}

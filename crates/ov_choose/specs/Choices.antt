@@ -127,6 +127,11 @@ pub record FindsNoPlaceWithin (s : Set) (budget : ℕ) (t : State) (held : Held)
   pub choice : IsChoice s budget t lines p
   pub full : FindsNoPlace s p 100 t held
 
+-- all thresholds store more than the budget
+abbrev pub IsNoThreshold : ChooseErr → Type 0
+IsNoThreshold (why.NoThreshold least) = Unit {0}
+IsNoThreshold _ = ⊥
+
 -- Behind what the table refuses come the partitions, and then the journal.
 abbrev pub IsUnchosen : Option Set → ℕ → Held → State → State → ChooseErr → Type 0
 IsUnchosen o budget held old new (why.Damaged area at) =

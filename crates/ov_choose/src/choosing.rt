@@ -19,7 +19,7 @@ ghost use Rattle.ov_store.specs.Planning.{optimize_off};
 ghost use Rattle.ov_store.specs.Scanning.{set_in, vids_in};
 ghost use Rattle.ov_store.specs.Thresholds.{AreListsOf};
 ghost use Rattle.ov_store.specs.Worlds.{and_made};
-ghost use Rattle.ov_choose.specs.Choices.{IsBegunWithin, IsPicked, IsUnchosen, IsUnpicked, within_off};
+ghost use Rattle.ov_choose.specs.Choices.{IsBegunWithin, IsNoThreshold, IsPicked, IsUnchosen, IsUnpicked, within_off};
 ghost use Rattle.ov_choose.specs.Worlds.{IsPlanLackOf, IsRefusedTo, IsShownTo, IsToldOf, best_of, within_in, within_refused};
 ghost use Rattle.ov_choose.specs.declared.errors.ChooseErr.{ChooseErr as ChooseErrValue};
 
@@ -106,6 +106,8 @@ pub fn optimize_within<H: Host>(
     ensures counted { min (H.state host.old).fetched (2 ^ 64 - 1) ≤ (H.state host.new).fetched }
     ensures fetched { (s : Set) → set_in store.old.held.numbers name.now ≡ Some s
         → (H.state host.new).fetched ≤ (H.state host.old).fetched + bytes_for s (vids_in s) }
+    ensures lists_alone { (s : Set) → set_in store.old.held.numbers name.now ≡ Some s → IfErr result (λ off. IsNoThreshold off
+        → (H.state host.new).fetched ≤ (H.state host.old).fetched + list_bytes_for s (vids_in s)) }
     ensures unread { (off : ChooseErrValue) → within_off (set_in store.old.held.numbers name.now) ≡ Some off → H.state host.new ≡ H.state host.old }
 
     // Which plan began, or why none did, and what stays then.

@@ -11,7 +11,7 @@ use std::alloc::AllocError;
 /// Why no plan began within a budget, or no advice is given. After each of these but `Host` the store is as it was.
 #[derive(Clone, Copy, PartialEq, Eq)]
 pub enum ChooseErr {
-    /// The host failed.
+    /// The host failed. The store may not be usable, and is opened again.
     Host,
     /// There was no memory.
     Memory,

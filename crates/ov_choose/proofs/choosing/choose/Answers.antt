@@ -1,4 +1,4 @@
-use Rattle.std.proofs.Common.{◌≡◌, ◌∙◌, ap, map, rules, subst}
+use Rattle.std.proofs.Common.{◌∙◌, ap, map, rules, subst}
 use Rattle.std.specs.Prelude.{Option}
 use Rattle.law_budget.specs.Told.{told}
 use Rattle.ov_budget.specs.Choices.{line_in}

@@ -1,4 +1,4 @@
-use Rattle.std.proofs.Common.{◌≡◌, ◌∙◌, ℕ, ap, rules, subst, sym}
+use Rattle.std.proofs.Common.{◌≡◌, ◌∙◌, ap, rules, subst, sym}
 use Rattle.ov_host.specs.Stops.{Only}
 use Rattle.ov_core.specs.AtWorld.{IsAtNext, IsEither}
 use Rattle.law_room.specs.Room.{IsWithin}
@@ -9,11 +9,11 @@ use Rattle.ov_store.specs.Scanning.{set_in}
 use Rattle.ov_store.specs.Thresholds.{IsUnbegunWith}
 use Rattle.ov_store.specs.Worlds.{and_made}
 use Rattle.ov_store.proofs.Looking.{looked_at}
-use Rattle.ov_choose.specs.Choices.{IsUnchosen}
+use Rattle.ov_choose.specs.Choices.{IsNoThreshold, IsUnchosen}
 use Rattle.ov_choose.specs.Worlds.{IsPlanLackOf, IsRefusedTo, within_in, within_refused}
 use Rattle.ov_choose.proofs.Numbers.{set_there, within_there}
 use Rattle.ov_choose.proofs.Picks.{never_refused, next_world, same_best, shown_allowed, told_of}
-use Rattle.ov_choose.proofs.Plans.{begun_before, next_before, part_before, plan_lacks, plan_refused_to, still_looked, still_world_looked, stops_before, unbegun_unchosen}
+use Rattle.ov_choose.proofs.Plans.{begun_before, next_before, part_before, plan_lacks, plan_no_threshold, plan_refused_to, still_looked, still_world_looked, stops_before, unbegun_unchosen}
 use Rattle.ov_choose.proofs.Tables.{lines_whole}
 use Rattle.ov_choose.proofs.choosing.optimize_within.Goals as goal
 
@@ -107,6 +107,9 @@ returns-clause-stops g c = λ w at.
     in let next : begun_in c.args.name.now c.from.result 100 w ≡ within_in c.args.name.now c.args.budget w = ap (λ q. begun_in c.args.name.now q 100 w) from ∙ next_world w c.args.name.now c.args.budget c.in_ok-lists.field-0.lines c.in_ok-lists.field-0.p shown
     in stops_before w (within_in c.args.name.now c.args.budget w) c.args.store.now.held (g.H.Host.state c.args.host.now) (g.H.Host.state c.choose.new.host) c.in_ok-lists.ensures.looked at (g.H.Host.state c.begin_plan.new.host)
     (subst (λ v. Only (g.H.Host.state c.choose.new.host).tape (g.H.Host.state c.begin_plan.new.host).tape (IsEither w v (g.H.Host.state c.choose.new.host).tape.disk.printed)) next (c.begin_plan.ensures.stops w (looked_at w c.args.store.now.held (g.H.Host.state c.args.host.now) (g.H.Host.state c.choose.new.host) c.in_ok-lists.ensures.looked at)))
+
+pub returns-clause-lists_alone : goal.returns-clause-lists_alone
+returns-clause-lists_alone g c = λ s named no. absurd (plan_no_threshold c.in-Err.off (subst IsNoThreshold c.unbegun.ensures no))
 
 pub returns-clause-refused : goal.returns-clause-refused
 returns-clause-refused g c = λ w at.

@@ -27,7 +27,7 @@ returns-in-Ok-clause-world g c = λ w d at named.
     in (
       same,
       best_shown c.args.budget d lines same
-      ∙ ap (option_map told_best) (subst (λ ls. choice c.args.budget ls ≡ Some (c.in-Ok.p, line_in ls c.in-Ok.p)) c.deref.ensures.value c.in-Ok.ensures.choice),
+          ∙ ap (option_map told_best) (subst (λ ls. choice c.args.budget ls ≡ Some (c.in-Ok.p, line_in ls c.in-Ok.p)) c.deref.ensures.value c.in-Ok.ensures.choice),
     )
 
 pub returns-in-Err-clause-world : goal.returns-in-Err-clause-world
