@@ -19,6 +19,7 @@ pub mod Idling
 pub mod Taking
 pub mod Following
 pub mod Plans
+pub mod Choices
 pub mod Migrating
 pub mod Checkpointing
 pub mod Acting

@@ -38,7 +38,7 @@ use Rattle.ov_value.specs.Spelling.{IsRow}
 use Rattle.ov_store.specs.Beginning.{IsShort}
 use Rattle.ov_registry.specs.Last.{AreLast, IsLastDamaged}
 use Rattle.ov_staging.specs.Changing.{IsChangeDamaged}
-use Rattle.ov_session.specs.Reads.{Own, Nought, Versions, Steps, Later, Reads, Source, RowsOf, ParentsOf, PlanOf, ListsOf, SegmentsOf, LastOf, ChangeOf, Wanted, reads_of}
+use Rattle.ov_session.specs.Reads.{Own, Nought, Versions, Steps, Later, Reads, Source, RowsOf, ParentsOf, PlanOf, ListsOf, SegmentsOf, LastOf, ChangeOf, Wanted, advise_off, reads_of, within_set_off}
 use Rattle.ov_session.specs.Stepping.{IsStepDamaged}
 use Rattle.ov_session.specs.declared.changing.Asked.{Asked}
 use Rattle.ov_session.specs.declared.changing.Asked.TheVariants as asked
@@ -109,6 +109,23 @@ IsListsDamaged set s page = s.tells ≡ true → HasBadList (page_bytes s) set (
 
 abbrev pub IsSegmentsDamaged : Set → State → ℕ → Type 0
 IsSegmentsDamaged set s page = s.tells ≡ true → HasBadPart (page_bytes s) set page
+
+-- within a budget: the lists of a dataset, and once these were whole its segments, where the numbers refuse nothing
+abbrev pub AreListsDamaged : List ℕ → Held → State → ℕ → Type 0
+AreListsDamaged cvd held s page =
+    (within_set_off cvd (set_in held.numbers cvd) ≡ None) × IfSet (λ set. IsListsDamaged set s page) (set_in held.numbers cvd)
+
+abbrev pub IsWithinDamaged : List ℕ → Held → State → ℕ → Type 0
+IsWithinDamaged cvd held s page =
+    (within_set_off cvd (set_in held.numbers cvd) ≡ None)
+    × (IfSet (λ set. IsListsDamaged set s page) (set_in held.numbers cvd)
+    ⊎ (((other : ℕ) → IfSet (λ set. IsListsDamaged set s other) (set_in held.numbers cvd) → ⊥)
+    × IfSet (λ set. IsSegmentsDamaged set s page) (set_in held.numbers cvd)))
+
+-- of an advice the lists alone
+abbrev pub IsAdviceDamaged : List ℕ → ℕ → ℕ → Held → State → ℕ → Type 0
+IsAdviceDamaged cvd a b held s page =
+    (advise_off cvd a b (set_in held.numbers cvd) ≡ None) × IfSet (λ set. IsListsDamaged set s page) (set_in held.numbers cvd)
 
 -- what is read of these versions is damaged
 abbrev pub IsBad : Source → Staged → Held → State → ℕ → Type 0

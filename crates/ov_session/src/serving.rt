@@ -26,6 +26,7 @@ ghost use Rattle.ov_session.specs.Standing.{IsAtSilently, IsAtSome, IsIdleBy, Is
 ghost use Rattle.ov_session.specs.Stepping.{NoneBehind, begins_plan, line_begins};
 ghost use Rattle.ov_session.specs.Commands.{Acts, Attended, Goes, IfNoFile, IsDamageOf, IsDamaged, IsNoDamage, IsOther, IsSaid, IsUnsaid, MeetsDamage, is_comment_in, is_comment_of, is_refused};
 
+use crate::budgets::{advise, optimize_within};
 use crate::changing::{commit, drop_cvd, init};
 use crate::checkpoints::checkpoint;
 use crate::errors::EndErr;
@@ -115,6 +116,8 @@ fn answer<H: Host, T: Stage>(
         } => checkout(alloc, store, host, stage, cvd, vids.as_slice(), file),
         Command::Run { text } => run_query(alloc, store, host, user, &text),
         Command::Optimize { cvd, p, q } => optimize(store, host, cvd, p, q),
+        Command::OptimizeWithin { cvd, budget } => optimize_within(alloc, store, host, cvd, budget),
+        Command::Advise { cvd, budget, a, b } => advise(alloc, store, host, cvd, budget, a, b),
         Command::Migrate { count } => migrate(store, host, count),
         Command::Layout { cvd } => Ok(layout(alloc, store, cvd)?),
         Command::Log { cvd } => Ok(log(alloc, store, cvd)?),

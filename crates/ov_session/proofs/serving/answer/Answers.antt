@@ -11,6 +11,7 @@ use Rattle.ov_session.proofs.Dealing.{checkout_asked, commit_asked}
 use Rattle.ov_session.specs.Commands.{Acts}
 use Rattle.std.proofs.Common.{◌+◌, ℕ, List, Some, None, true, false}
 use Rattle.std.specs.Prelude.{◌≤◌}
+use Rattle.ov_session.proofs.Choices.{advise_there, looked_acts, within_refuses, within_there}
 use Rattle.ov_session.proofs.Bounds.{fetched_still, off_there, unread_command}
 use Rattle.ov_session.proofs.Replying.{seen_missed}
 use Rattle.ov_session.proofs.Migrating.{fetched_same, none_to_take}
@@ -511,6 +512,113 @@ returns-in-Optimize-clause-acts g c = λ w built told at.
     let s = session_of (g.T.Stage.staged c.args.stage.now).files c.args.user.now
     in subst (λ (command : Command). Acts (permitted w s command) s s w c.optimize.result c.args.store.now.held c.optimize.new.store.held (g.H.Host.state c.args.host.now) (g.H.Host.state c.optimize.new.host)) (sym c.in-Optimize.is)
     (c.optimize.ensures.acts w s at)
+
+-- ---- a plan within a budget
+
+pub returns-in-OptimizeWithin-clause-still : goal.returns-in-OptimizeWithin-clause-still
+returns-in-OptimizeWithin-clause-still g c = λ is. absurd (subst IsReadingCommand c.in-OptimizeWithin.is is)
+
+pub returns-in-OptimizeWithin-clause-fetched : goal.returns-in-OptimizeWithin-clause-fetched
+returns-in-OptimizeWithin-clause-fetched g c =
+    subst (λ (command : Command). IsFetched c.args.user.now command c.args.store.now.held c.optimize_within.new.store.held (IsErrOf c.optimize_within.result ending.Host) (g.H.Host.state c.args.host.now)
+    (g.H.Host.state c.optimize_within.new.host)) (sym c.in-OptimizeWithin.is) c.optimize_within.ensures.fetched
+
+pub returns-in-OptimizeWithin-clause-unread : goal.returns-in-OptimizeWithin-clause-unread
+returns-in-OptimizeWithin-clause-unread g c = λ is.
+    let there = within_there c.in-OptimizeWithin.cvd (set_in c.args.store.now.held.numbers c.in-OptimizeWithin.cvd)
+    (subst (λ (command : Command). is_command_off c.args.store.now.held.numbers c.args.user.now command ≡ true) c.in-OptimizeWithin.is is)
+    in ap (λ (s : State). s.fetched) (c.optimize_within.ensures.unread there.0 there.1)
+
+pub returns-in-OptimizeWithin-clause-damaged : goal.returns-in-OptimizeWithin-clause-damaged
+returns-in-OptimizeWithin-clause-damaged g c =
+    subst (λ (command : Command). IfErr c.optimize_within.result (IsDamageOf (IsDamaged c.args.user.now command (g.T.Stage.staged c.args.stage.now) c.args.store.now.held c.optimize_within.new.store.held
+    (g.H.Host.state c.optimize_within.new.host)))) (sym c.in-OptimizeWithin.is) c.optimize_within.ensures.damaged
+
+pub returns-in-OptimizeWithin-clause-begins_none : goal.returns-in-OptimizeWithin-clause-begins_none
+returns-in-OptimizeWithin-clause-begins_none g c = λ quiet none.
+    let o = set_in c.args.store.now.held.numbers c.in-OptimizeWithin.cvd
+    in let there = within_there c.in-OptimizeWithin.cvd o (not-false _ (subst (λ (command : Command). begins_plan c.args.store.now.held.numbers command ≡ false) c.in-OptimizeWithin.is quiet))
+    in refused_none c.optimize_within.result c.args.store.now c.optimize_within.new.store (c.optimize_within.ensures.begins_none (within_refuses o there.0 there.1)) none
+
+pub returns-in-OptimizeWithin-clause-whole : goal.returns-in-OptimizeWithin-clause-whole
+returns-in-OptimizeWithin-clause-whole g c = λ page told.
+    map_ok _ _ c.optimize_within.result
+    (λ whole built met. whole (subst (λ (command : Command). MeetsDamage c.args.user.now command (g.T.Stage.staged c.args.stage.now) c.args.store.now.held (g.H.Host.state c.args.host.now) page) c.in-OptimizeWithin.is met))
+    (c.optimize_within.ensures.whole page told)
+
+pub returns-in-OptimizeWithin-clause-missed : goal.returns-in-OptimizeWithin-clause-missed
+returns-in-OptimizeWithin-clause-missed g c = seen_missed _ c.optimize_within.result c.optimize_within.ensures.seen
+
+pub returns-in-OptimizeWithin-clause-idle : goal.returns-in-OptimizeWithin-clause-idle
+returns-in-OptimizeWithin-clause-idle g c =
+    subst (λ (command : Command). IfErr c.optimize_within.result (λ e. IsIdleBy command e c.args.store.now c.optimize_within.new.store (g.T.Stage.staged c.args.stage.now) (g.T.Stage.staged c.args.stage.now)
+    (g.H.Host.state c.args.host.now) (g.H.Host.state c.optimize_within.new.host))) (sym c.in-OptimizeWithin.is)
+    (idle_stored c.args.store.now c.optimize_within.new.store (g.T.Stage.staged c.args.stage.now) (g.T.Stage.staged c.args.stage.now) (g.H.Host.state c.args.host.now) (g.H.Host.state c.optimize_within.new.host)
+    c.optimize_within.result c.optimize_within.ensures.host_alone c.optimize_within.ensures.idle refl)
+
+pub returns-in-OptimizeWithin-clause-other : goal.returns-in-OptimizeWithin-clause-other
+returns-in-OptimizeWithin-clause-other g c = λ refusal is. absurd (ok_err _ refusal (subst (λ (command : Command). if_built command ≡ off refusal) c.in-OptimizeWithin.is is))
+
+pub returns-in-OptimizeWithin-clause-acts : goal.returns-in-OptimizeWithin-clause-acts
+returns-in-OptimizeWithin-clause-acts g c = λ w built told at.
+    let s = session_of (g.T.Stage.staged c.args.stage.now).files c.args.user.now
+    in subst (λ (command : Command). Acts (permitted w s command) s s w c.optimize_within.result c.args.store.now.held c.optimize_within.new.store.held (g.H.Host.state c.args.host.now)
+    (g.H.Host.state c.optimize_within.new.host)) (sym c.in-OptimizeWithin.is) (c.optimize_within.ensures.acts w s at)
+
+-- ---- an advice
+
+pub returns-in-Advise-clause-still : goal.returns-in-Advise-clause-still
+returns-in-Advise-clause-still g c = λ is. refl
+
+pub returns-in-Advise-clause-fetched : goal.returns-in-Advise-clause-fetched
+returns-in-Advise-clause-fetched g c =
+    subst (λ (command : Command). IsFetched c.args.user.now command c.args.store.now.held c.args.store.now.held (IsErrOf c.advise.result ending.Host) (g.H.Host.state c.args.host.now) (g.H.Host.state c.advise.new.host))
+    (sym c.in-Advise.is) c.advise.ensures.fetched
+
+pub returns-in-Advise-clause-unread : goal.returns-in-Advise-clause-unread
+returns-in-Advise-clause-unread g c = λ is.
+    let there = advise_there c.in-Advise.cvd c.in-Advise.a c.in-Advise.b (set_in c.args.store.now.held.numbers c.in-Advise.cvd)
+    (subst (λ (command : Command). is_command_off c.args.store.now.held.numbers c.args.user.now command ≡ true) c.in-Advise.is is)
+    in ap (λ (s : State). s.fetched) (c.advise.ensures.unread there.0 there.1)
+
+pub returns-in-Advise-clause-whole : goal.returns-in-Advise-clause-whole
+returns-in-Advise-clause-whole g c = λ page told.
+    map_ok _ _ c.advise.result
+    (λ whole built met. whole (subst (λ (command : Command). MeetsDamage c.args.user.now command (g.T.Stage.staged c.args.stage.now) c.args.store.now.held (g.H.Host.state c.args.host.now) page) c.in-Advise.is met))
+    (c.advise.ensures.whole page told)
+
+pub returns-in-Advise-clause-damaged : goal.returns-in-Advise-clause-damaged
+returns-in-Advise-clause-damaged g c =
+    subst (λ (command : Command). IfErr c.advise.result (IsDamageOf (IsDamaged c.args.user.now command (g.T.Stage.staged c.args.stage.now) c.args.store.now.held c.args.store.now.held (g.H.Host.state c.advise.new.host))))
+    (sym c.in-Advise.is) c.advise.ensures.damaged
+
+pub returns-in-Advise-clause-by_journal : goal.returns-in-Advise-clause-by_journal
+returns-in-Advise-clause-by_journal g c = λ by fine.
+    journal_looked c.args.store.now.held (g.H.Host.state c.args.host.now) (g.H.Host.state c.advise.new.host) c.advise.ensures.looked by
+
+pub returns-in-Advise-clause-at : goal.returns-in-Advise-clause-at
+returns-in-Advise-clause-at g c = λ w at.
+    on_any _ c.advise.result (at_looked w c.args.store.now.held (g.H.Host.state c.args.host.now) (g.H.Host.state c.advise.new.host) at c.advise.ensures.looked)
+
+pub returns-in-Advise-clause-missed : goal.returns-in-Advise-clause-missed
+returns-in-Advise-clause-missed g c = seen_missed _ c.advise.result c.advise.ensures.seen
+
+pub returns-in-Advise-clause-idle : goal.returns-in-Advise-clause-idle
+returns-in-Advise-clause-idle g c =
+    subst (λ (command : Command). IfErr c.advise.result (λ e. IsIdleBy command e c.args.store.now c.args.store.now (g.T.Stage.staged c.args.stage.now) (g.T.Stage.staged c.args.stage.now)
+    (g.H.Host.state c.args.host.now) (g.H.Host.state c.advise.new.host))) (sym c.in-Advise.is)
+    (result_unmoved c.args.store.now c.args.store.now (g.T.Stage.staged c.args.stage.now) (g.T.Stage.staged c.args.stage.now) (g.H.Host.state c.args.host.now) (g.H.Host.state c.advise.new.host) c.advise.result
+    (record { store = refl; looked = c.advise.ensures.looked }) refl)
+
+pub returns-in-Advise-clause-other : goal.returns-in-Advise-clause-other
+returns-in-Advise-clause-other g c = λ refusal is. absurd (ok_err _ refusal (subst (λ (command : Command). if_built command ≡ off refusal) c.in-Advise.is is))
+
+pub returns-in-Advise-clause-acts : goal.returns-in-Advise-clause-acts
+returns-in-Advise-clause-acts g c = λ w built told at.
+    let s = session_of (g.T.Stage.staged c.args.stage.now).files c.args.user.now
+    in subst (λ (command : Command). Acts (permitted w s command) s s w c.advise.result c.args.store.now.held c.args.store.now.held (g.H.Host.state c.args.host.now) (g.H.Host.state c.advise.new.host))
+    (sym c.in-Advise.is)
+    (looked_acts _ s w c.args.store.now.held (g.H.Host.state c.args.host.now) (g.H.Host.state c.advise.new.host) at c.advise.ensures.looked c.advise.result (c.advise.ensures.told w s at))
 
 -- ---- its steps
 
