@@ -184,7 +184,8 @@ module _ (user : List ℕ) (command : Command) (which : Registry) (off : Option 
 
   -- what the command's row says
   pub record IsRow : Type 0 where
-    pub fetched : (fault : Type 0) → new.fetched ≤ old.fetched + if_allowed off (its_bytes + its_bytes) → IsFetched user command before.held now.held fault old new
+    pub fetched : new.fetched ≤ old.fetched + if_allowed off (its_bytes + its_bytes)
+        → IsFetched user command before.held now.held (IsErrOf (by_staging r) ending.Host) old new
     pub refused : is_command_off before.held.numbers user command ≡ true → is_some off ≡ true
     pub damaged : (stage : Staged) (page : ℕ) → its_damage page → IsDamaged user command stage before.held now.held new page
     pub met : (stage : Staged) (page : ℕ) → MeetsDamage user command stage before.held old page → (off ≡ None) × IsLastDamaged its_set old page
@@ -204,7 +205,7 @@ module _ (user : List ℕ) (command : Command) (which : Registry) (off : Option 
   changed_registered row told kept faults counted fetched unread seen why whole stays usable by_journal undamaged acts = record {
     goes = record { told = told; kept = kept; faults = faults; fetched = counted };
     still = λ reads. absurd (row.changes reads);
-    fetched = row.fetched _ (fetched_allowed off (its_bytes + its_bytes) old.fetched new.fetched fetched (λ refusal is. ap (λ (s : State). s.fetched) (unread refusal is).0));
+    fetched = row.fetched (fetched_allowed off (its_bytes + its_bytes) old.fetched new.fetched fetched (λ refusal is. ap (λ (s : State). s.fetched) (unread refusal is).0));
     unread = λ is. let there = off_there off (row.refused is) in ap (λ (s : State). s.fetched) (unread there.0 there.1).0;
     cause = cause_of its_damage old new r why;
     host_alone = alone_of r;
@@ -258,12 +259,12 @@ unstaged_seen owner table set reply before now old new is = (
 pub create_row : (user name : List ℕ) (r : Result Reply StagingErr) (before now : Kept) (old new : State)
     → IsRow user (asks.CreateUser name) registry.Users (create_off name (set_in before.held.numbers users_name)) (user_rows name) r before now old new
 create_row user name r before now old new =
-    record { fetched = λ fault f. f; refused = λ is. is; damaged = λ stage page is. is; met = λ stage page is. is; changes = λ is. is }
+    record { fetched = λ f. f; refused = λ is. is; damaged = λ stage page is. is; met = λ stage page is. is; changes = λ is. is }
 
 pub unstage_row : (user owner table : List ℕ) (r : Result Reply StagingErr) (before now : Kept) (old new : State)
     → IsRow user (asks.Unstage owner table) registry.Stage (foreign_off stage_schema (set_in before.held.numbers stage_name)) (table_rows owner table) r before now old new
 unstage_row user owner table r before now old new =
-    record { fetched = λ fault f. f; refused = λ is. is; damaged = λ stage page is. is; met = λ stage page is. is; changes = λ is. is }
+    record { fetched = λ f. f; refused = λ is. is; damaged = λ stage page is. is; met = λ stage page is. is; changes = λ is. is }
 
 -- ---- a read
 
