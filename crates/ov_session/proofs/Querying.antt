@@ -18,7 +18,7 @@ use Rattle.ov_model.specs.declared.command.Command.TheVariants as asks
 use Rattle.ov_model.specs.declared.refusal.Refusal.{Refusal}
 use Rattle.ov_model.specs.declared.reply.Reply.{Reply}
 use Rattle.ov_query.specs.Queries.{AreDamaged, IsDamagedRead, IsUnread, Reading, Set}
-use Rattle.ov_read.specs.Damages.{IsDamage}
+use Rattle.ov_read.specs.Damages.{IsDamage as IsDamageRead}
 use Rattle.ov_session.proofs.Dealing.{scanned_in}
 use Rattle.ov_session.specs.Commands.{Acts, IsDamageOf}
 use Rattle.ov_session.specs.Errors.{end_of}
@@ -36,7 +36,7 @@ the_end a b e = cc
 scanned_before : (set : Option Set) (vids : List ℕ) (page : ℕ) (old new : State) → Looked old new → IsDamagedIn set vids new page → IsDamagedIn set vids old page
 scanned_before None vids page old new looked is = absurd is
 scanned_before (Some set) vids page old new looked is = λ told.
-    subst (λ (area : List ℕ). IsDamage area set vids page) (same_pages old new looked told) (is (looked.told ∙ told))
+    subst (λ (area : List ℕ). IsDamageRead area set vids page) (same_pages old new looked told) (is (looked.told ∙ told))
 
 damaged_since : (reads : List Reading) (page : ℕ) (old new : State) → Looked old new → AreDamaged reads old page → AreDamaged reads new page
 damaged_since [] page old new looked is = absurd is

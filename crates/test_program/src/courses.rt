@@ -29,6 +29,10 @@ pub const PEOPLE: Course = Course {
             "run SELECT vid, COUNT(*), SUM(score) FROM CVD people GROUP BY vid\n",
             &[],
         ),
+        (
+            "run SELECT LEFT.name, RIGHT.score FROM VERSION 1 OF CVD people JOIN VERSION 2 OF CVD people ON LEFT.id = RIGHT.id\n",
+            &[],
+        ),
         ("commit people -v 7 -f b.csv -m none\n", &[]),
         ("commit people -v 1,2 -f m.csv -m both\n", &[]),
         ("optimize people -d 1/1\n", &[]),
@@ -56,11 +60,12 @@ pub const MADE: Course = Course {
             "generate g 7 3 3\n",
             &["generate g 7 3 1\n", "generate g 7 3 2\n"],
         ),
+        ("advise g -s 99 -m 3/2\n", &[]),
         ("optimize g -d 2/3\n", &[]),
         ("migrate 1\n", &[]),
         ("migrate 2\n", &["migrate 1\n"]),
         ("migrate 1\n", &[]),
-        ("optimize g -d 1/1\n", &[]),
+        ("optimize g -s 99\n", &[]),
         ("migrate 1\n", &[]),
         ("drop g\n", &[]),
         ("migrate 1\n", &[]),
@@ -88,6 +93,23 @@ pub const BEHIND: Course = Course {
     ],
     probe: "ls\nlog people\nlayout people\ncheckout people -v 1\ncheckout people -v 3,2\nmigrate 9\nlayout people\ncheckout people -v 3,2\n",
     calls: [138, 2, 9],
+};
+
+/// Users, each a version more of a dataset of the store's own, and staged tables, of which there are none.
+pub const USERS: Course = Course {
+    steps: false,
+    lines: &[
+        ("whoami\n", &[]),
+        ("tables\n", &[]),
+        ("create_user ann\n", &[]),
+        ("create_user ann\n", &[]),
+        ("create_user bob\n", &[]),
+        ("unstage admin.work\n", &[]),
+        ("checkpoint\n", &[]),
+        ("create_user cy\n", &[]),
+    ],
+    probe: "ls\nlog orpheus_users\ncheckout orpheus_users -v 1\ncheckout orpheus_users -v 2\ncheckout orpheus_users -v 3\n",
+    calls: [0, 0, 0],
 };
 
 /// Versions without a row, which take no page.
