@@ -21,12 +21,10 @@ use Rattle.law_room.specs.Room.{Entry, IsWithin, Made}
 use Rattle.law_runs.proofs.Doing.{breaks_looked, breaks_move, breaks_where, does_full, does_move, does_told}
 use Rattle.law_runs.specs.Serving.{Breaks, Does}
 use Rattle.law_runs.specs.Stops.{printed_of}
-use Rattle.ov_graph.specs.Splits as splits
-use Rattle.ov_graph.specs.Trees.{all_members, all_records}
 use Rattle.ov_model.specs.Act.{Deed, Session, does, if_so, is_threshold, optimized, refuses, tells, unless}
 use Rattle.ov_model.specs.Budget.{advise_by, advise_deed, choice, is_worth, least_of, table, within_by, within_deed, within_refusal, within_reply}
 use Rattle.ov_model.specs.Moves.{BeginPlan, Move, moved}
-use Rattle.ov_model.specs.Plans.{depth_at, nodes_of_set, parts_at, plan_steps, planned, sizes_of}
+use Rattle.ov_model.specs.Plans.{parts_at}
 use Rattle.ov_model.specs.World.{Dataset, World, cost, set_named}
 use Rattle.ov_model.specs.declared.refusal.Refusal.{Refusal}
 use Rattle.ov_model.specs.declared.refusal.Refusal.TheVariants as no
@@ -255,11 +253,11 @@ module _ (o : Option Set) (budget : ℕ) (held : Held) (old new : State) (off : 
     damage_in (Some set) page is = by_told set page new.tells refl is
 
     pub within_damaged : IsUnchosen o budget held old new off → (area : Area) (at : ℕ) → off ≡ why.Damaged area at
-        → (area ≡ Pages) × (within_set_off name o ≡ None)
-        × (IfSet (λ set. IsListsDamaged set new at) o ⊎ (((other : ℕ) → IfSet (λ set. IsListsDamaged set new other) o → ⊥) × IfSet (λ set. IsSegmentsDamaged set new at) o))
+        → (area ≡ Pages) × ((within_set_off name o ≡ None)
+        × (IfSet (λ set. IsListsDamaged set new at) o ⊎ (((other : ℕ) → IfSet (λ set. IsListsDamaged set new other) o → ⊥) × IfSet (λ set. IsSegmentsDamaged set new at) o)))
     within_damaged is area at damaged =
         let it : IsUnchosen o budget held old new (why.Damaged area at) = subst (IsUnchosen o budget held old new) damaged is
-        in (it.0, none_within name o it.1, damage_in o at it.2)
+        in (it.0, (none_within name o it.1, damage_in o at it.2))
 
 pub advice_cause : (offs : Option ChooseErr) (o : Option Set) (budget : ℕ) (old new : State) (off : ChooseErr) → IsUnpicked offs o budget old new off → off ≡ why.Host
     → Rose old.faults new.faults
@@ -272,10 +270,10 @@ lists_after (Some set) old new page looked is = λ tells.
     in subst (λ area. IsListDamage area set page) (sym (same_pages old new looked before)) (is before)
 
 pub advice_damaged : (name : List ℕ) (a b : ℕ) (o : Option Set) (budget : ℕ) (old new : State) (off : ChooseErr) → Looked old new → IsUnpicked (advise_off a b o) o budget old new off
-    → (area : Area) (at : ℕ) → off ≡ why.Damaged area at → (area ≡ Pages) × (reads.advise_off name a b o ≡ None) × IfSet (λ set. IsListsDamaged set new at) o
+    → (area : Area) (at : ℕ) → off ≡ why.Damaged area at → (area ≡ Pages) × ((reads.advise_off name a b o ≡ None) × IfSet (λ set. IsListsDamaged set new at) o)
 advice_damaged name a b o budget old new off looked is area at damaged =
     let it : IsUnpicked (advise_off a b o) o budget old new (why.Damaged area at) = subst (IsUnpicked (advise_off a b o) o budget old new) damaged is
-    in (it.0, none_advise name a b o it.1, lists_after o old new at looked it.2)
+    in (it.0, (none_advise name a b o it.1, lists_after o old new at looked it.2))
 
 -- ---- what was read whole
 

@@ -23,13 +23,11 @@ use Rattle.ov_registry.specs.Changing.{IsChanged, IsMade}
 use Rattle.ov_registry.specs.Last.{IsLastDamaged, bytes_in, last_vid, name_of, schema_of}
 use Rattle.ov_registry.specs.declared.registry.Registry.{Registry}
 use Rattle.ov_registry.specs.declared.registry.Registry.TheVariants as registry
-use Rattle.ov_staging.specs.Changing.{Change, IsAnswered, IsChangedAs, IsDamagedBy, IsKeptBy, IsNextBy}
+use Rattle.ov_staging.specs.Changing.{Change, IsAnswered, IsChangedAs, IsDamagedBy, IsRefusedBy}
 use Rattle.ov_staging.specs.Errors as staging
 use Rattle.ov_staging.specs.Reading.{answer_or, foreign_off}
 use Rattle.ov_staging.specs.Tables.{AreShown, table_change, table_rows, tables_reply}
 use Rattle.ov_staging.specs.Users.{IsCreated, create_off, user_change, user_rows}
-use Rattle.ov_staging.specs.declared.changing.Next.{Next}
-use Rattle.ov_staging.specs.declared.changing.Next.TheVariants as next
 use Rattle.ov_staging.specs.declared.errors.StagingErr.{StagingErr}
 use Rattle.ov_staging.specs.declared.errors.StagingErr.TheVariants as gone
 use Rattle.ov_store.specs.Committing.{Set}
@@ -141,17 +139,17 @@ seen_as a b is seen = λ name e. seen name (sym is ∙ e)
 
 module _ (which : Registry) (set : Option Set) (change : Change) (said reply : Reply) (before now : Kept) (old new : State)
     (fine : IfNoFile ⊥ said) (refuses : (rows : List Row) (refusal : Refusal) → change.off rows ≡ Some refusal → IfNoFile ⊥ (says.Refused refusal)) where
-  refused_seen : (refusal : Refusal) → IsNextBy (schema_of which) change set old (next.Refused refusal) → IfNoFile ⊥ (says.Refused refusal)
+  refused_seen : (refusal : Refusal) → IsRefusedBy (schema_of which) change set old refusal → IfNoFile ⊥ (says.Refused refusal)
   refused_seen refusal (inl foreign) = seen_so _ no.ForeignRegistry refusal (λ name e. cc) foreign
   refused_seen refusal (inr by) = refuses by.1 refusal by.3
 
-  kept_seen : (mid : State) (n : Next) → IsNextBy (schema_of which) change set old n → IsKeptBy which set n said reply before now mid new → IfNoFile ⊥ reply
-  kept_seen mid (next.Refused refusal) by kept = seen_as (says.Refused refusal) reply kept.0 (refused_seen refusal by)
-  kept_seen mid (next.Rows rows) by (inl made) = seen_as said reply made.0 fine
-  kept_seen mid (next.Rows rows) by (inr unmade) = stored_seen (name_of which) unmade.0 reply unmade.1
+  changed_seen : (rows : List Row) (mid : State) → IsChangedAs which set rows said reply before now mid new → IfNoFile ⊥ reply
+  changed_seen rows mid (inl made) = seen_as said reply made.0 fine
+  changed_seen rows mid (inr unmade) = stored_seen (name_of which) unmade.0 reply unmade.1
 
   pub answered_seen : IsAnswered which set change said reply before now old new → IfNoFile ⊥ reply
-  answered_seen is = kept_seen is.mid is.next is.by is.kept
+  answered_seen (inl no_) = seen_as (says.Refused no_.refusal) reply no_.reply_is (refused_seen no_.refusal no_.by)
+  answered_seen (inr is) = changed_seen is.rows is.mid is.changed
 
   -- ---- no plan begins
   made_none : (set_ : Option Set) (rows : List Row) (mid : State) → IsMade set_ (name_of which) (schema_of which) rows mid before.held now.held
@@ -162,13 +160,14 @@ module _ (which : Registry) (set : Option Set) (change : Change) (said reply : R
   same_none : now ≡ before → running before.held.numbers ≡ None → running now.held.numbers ≡ None
   same_none same none = subst (λ (k : Kept). running k.held.numbers ≡ None) (sym same) none
 
-  kept_none : (mid : State) (n : Next) → IsKeptBy which set n said reply before now mid new → running before.held.numbers ≡ None → running now.held.numbers ≡ None
-  kept_none mid (next.Refused refusal) kept none = same_none kept.1 none
-  kept_none mid (next.Rows rows) (inl made) none = made_none set made.1.made mid made.1.is none
-  kept_none mid (next.Rows rows) (inr unmade) none = same_none unmade.3 none
+  changed_none : (rows : List Row) (mid : State) → IsChangedAs which set rows said reply before now mid new → running before.held.numbers ≡ None
+      → running now.held.numbers ≡ None
+  changed_none rows mid (inl made) none = made_none set made.1.made mid made.1.is none
+  changed_none rows mid (inr unmade) none = same_none unmade.3 none
 
   pub answered_none : IsAnswered which set change said reply before now old new → running before.held.numbers ≡ None → running now.held.numbers ≡ None
-  answered_none is none = kept_none is.mid is.next is.kept none
+  answered_none (inl no_) none = same_none no_.same none
+  answered_none (inr is) none = changed_none is.rows is.mid is.changed none
 
 -- ---- a change
 
@@ -185,7 +184,8 @@ module _ (user : List ℕ) (command : Command) (which : Registry) (off : Option 
 
   -- what the command's row says
   pub record IsRow : Type 0 where
-    pub fetched : (fault : Type 0) → new.fetched ≤ old.fetched + if_allowed off (its_bytes + its_bytes) → IsFetched user command before.held now.held fault old new
+    pub fetched : new.fetched ≤ old.fetched + if_allowed off (its_bytes + its_bytes)
+        → IsFetched user command before.held now.held (IsErrOf (by_staging r) ending.Host) old new
     pub refused : is_command_off before.held.numbers user command ≡ true → is_some off ≡ true
     pub damaged : (stage : Staged) (page : ℕ) → its_damage page → IsDamaged user command stage before.held now.held new page
     pub met : (stage : Staged) (page : ℕ) → MeetsDamage user command stage before.held old page → (off ≡ None) × IsLastDamaged its_set old page
@@ -205,7 +205,7 @@ module _ (user : List ℕ) (command : Command) (which : Registry) (off : Option 
   changed_registered row told kept faults counted fetched unread seen why whole stays usable by_journal undamaged acts = record {
     goes = record { told = told; kept = kept; faults = faults; fetched = counted };
     still = λ reads. absurd (row.changes reads);
-    fetched = row.fetched _ (fetched_allowed off (its_bytes + its_bytes) old.fetched new.fetched fetched (λ refusal is. ap (λ (s : State). s.fetched) (unread refusal is).0));
+    fetched = row.fetched (fetched_allowed off (its_bytes + its_bytes) old.fetched new.fetched fetched (λ refusal is. ap (λ (s : State). s.fetched) (unread refusal is).0));
     unread = λ is. let there = off_there off (row.refused is) in ap (λ (s : State). s.fetched) (unread there.0 there.1).0;
     cause = cause_of its_damage old new r why;
     host_alone = alone_of r;
@@ -259,12 +259,12 @@ unstaged_seen owner table set reply before now old new is = (
 pub create_row : (user name : List ℕ) (r : Result Reply StagingErr) (before now : Kept) (old new : State)
     → IsRow user (asks.CreateUser name) registry.Users (create_off name (set_in before.held.numbers users_name)) (user_rows name) r before now old new
 create_row user name r before now old new =
-    record { fetched = λ fault f. f; refused = λ is. is; damaged = λ stage page is. is; met = λ stage page is. is; changes = λ is. is }
+    record { fetched = λ f. f; refused = λ is. is; damaged = λ stage page is. is; met = λ stage page is. is; changes = λ is. is }
 
 pub unstage_row : (user owner table : List ℕ) (r : Result Reply StagingErr) (before now : Kept) (old new : State)
     → IsRow user (asks.Unstage owner table) registry.Stage (foreign_off stage_schema (set_in before.held.numbers stage_name)) (table_rows owner table) r before now old new
 unstage_row user owner table r before now old new =
-    record { fetched = λ fault f. f; refused = λ is. is; damaged = λ stage page is. is; met = λ stage page is. is; changes = λ is. is }
+    record { fetched = λ f. f; refused = λ is. is; damaged = λ stage page is. is; met = λ stage page is. is; changes = λ is. is }
 
 -- ---- a read
 

@@ -10,10 +10,8 @@ use Rattle.ov_core.specs.Held.{Held}
 use Rattle.ov_model.specs.Act.{is_threshold}
 use Rattle.ov_model.specs.Book.{Row}
 use Rattle.ov_model.specs.World.{is_one}
-use Rattle.ov_model.specs.declared.command.Command.{Command}
 use Rattle.ov_model.specs.declared.command.Command.TheVariants as asks
 use Rattle.ov_model.specs.declared.refusal.Refusal.{Refusal}
-use Rattle.ov_model.specs.declared.refusal.Refusal.TheVariants as no
 use Rattle.ov_query.specs.Queries.{AreDamaged, IsQueryDamaged, Reading, bytes_read, query_fetch, query_off, query_reads}
 use Rattle.ov_query.specs.Queries as queries
 use Rattle.ov_session.proofs.Bounds.{fetched_allowed}
@@ -30,7 +28,7 @@ use Rattle.ov_store.specs.Committing.{Set, parents_off, parents_off_in, to_off}
 use Rattle.ov_store.specs.Planning.{optimize_off, plan_off}
 use Rattle.ov_store.specs.Planning as planning
 use Rattle.ov_store.specs.Refusals.{refusal_of, refused, vids_off}
-use Rattle.ov_store.specs.Scanning.{IsDamagedIn, scan_off, set_in, versions_off}
+use Rattle.ov_store.specs.Scanning.{scan_off, set_in, versions_off}
 use Rattle.ov_store.specs.declared.errors.StoreErr.{StoreErr}
 use Rattle.ov_store.specs.declared.errors.StoreErr.TheVariants as why
 use Rattle.ov_store.specs.declared.plan_errors.PlanErr.{PlanErr}

@@ -1,5 +1,5 @@
 -- What came next, behind the read of the last rows.
-use Rattle.std.proofs.Common.{◌≡◌, ◌∙◌, ℕ, true, List, sym, subst}
+use Rattle.std.proofs.Common.{◌≡◌, ◌∙◌, inl, inr, ℕ, true, List, sym, subst}
 use Rattle.std.specs.Prelude.{Some, None, Option, Ok, Err, Result, IfErr, IfOk}
 use Rattle.ov_fetch.specs.Extents.{Looked}
 use Rattle.ov_host.specs.Host.{State}
@@ -11,7 +11,7 @@ use Rattle.ov_registry.specs.Last.{AreLast, IsLastDamaged, schema_of}
 use Rattle.ov_registry.specs.declared.registry.Registry.{Registry}
 use Rattle.ov_store.specs.Committing.{Set}
 use Rattle.ov_store.specs.Kept.{Kept}
-use Rattle.ov_staging.specs.Changing.{AreRowsDamaged, Change, IsChangeDamaged, IsDamagedBy, IsNextBy, IsNextDamaged}
+use Rattle.ov_staging.specs.Changing.{AreRowsDamaged, Change, IsAnswered, IsChangeDamaged, IsDamagedBy, IsKeptBy, IsNextBy, IsNextDamaged}
 use Rattle.ov_staging.specs.Errors.{IsEnd, Stays}
 use Rattle.ov_staging.specs.Reading.{foreign_off}
 use Rattle.ov_staging.specs.declared.changing.Next.{Next}
@@ -39,6 +39,17 @@ module _ (which : Registry) (change : Change) (before now : Kept) (old mid new :
     last_again mid new (alike mid new later) d last told (last_again old mid (alike old mid looked) d last (told_then later told) (are (told_first later told))),
     subst (λ (l : List Row). AreRowsDamaged which (Some d) l before.held new page) is (rows_again mid new (alike mid new later) which (Some d) rows before.held page bad),
   )
+
+  answered_by : (set : Option Set) (said reply : Reply) (n : Next) → IsNextBy (schema_of which) change set old n → IsKeptBy which set n said reply before now mid new
+      → IsAnswered which set change said reply before now old new
+  answered_by set said reply (next.Refused refusal) by kept =
+      inl (record { refusal = refusal; by = by; reply_is = kept.0; same = kept.1; looked = subst (Looked old) (sym kept.2) looked })
+  answered_by set said reply (next.Rows rows) by kept = inr (record { rows = rows.items; mid = mid; by = by; looked = looked; changed = kept })
+
+  pub answered_as : (set : Option Set) (said : Reply) (n : Next) (r : Result Reply StagingErr) → IsNextBy (schema_of which) change set old n
+      → IfOk r (λ reply. IsKeptBy which set n said reply before now mid new) → IfOk r (λ reply. IsAnswered which set change said reply before now old new)
+  answered_as set said n (Ok reply) by kept = answered_by set said reply n by kept
+  answered_as set said n (Err e) by kept = tt
 
   module _ (set : Option Set) where
     abbrev pub IsMet : ℕ → Type 0

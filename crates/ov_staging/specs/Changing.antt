@@ -4,7 +4,7 @@
 --     IsNextIn schema change d next      and in a World
 --     change_deed, next_deed      what that means over a World
 --     IsKeptBy which set next said reply ..      what was done then, and what the reply is
---     IsAnswered which set change said reply ..      both
+--     IsAnswered which set change said reply ..      that it is refused, or that the rows came in the place of the last ones
 --     IsChangeDamaged which set rows held s page      what the Commit reads is damaged: the last version, as its parent, or the
 --                                                     partition that the new version joins
 --     IsDamagedBy which set rows held s page      the last rows are, or else what the Commit reads
@@ -45,12 +45,19 @@ IfNext P (next.Refused refusal) = Unit {0}
 IfNext P (next.Rows rows) = P rows.items
 
 -- 76, and then the refusal by the rows
-abbrev pub IsNextBy : Shape → Change → Option Set → State → Next → Type 0
-IsNextBy schema change set s (next.Refused refusal) =
+abbrev pub IsRefusedBy : Shape → Change → Option Set → State → Refusal → Type 0
+IsRefusedBy schema change set s refusal =
     (foreign_off schema set ≡ Some refusal)
     ⊎ ((foreign_off schema set ≡ None) × (last : List Row) × AreLast set s last × (change.off last ≡ Some refusal))
-IsNextBy schema change set s (next.Rows rows) =
-    (foreign_off schema set ≡ None) × (last : List Row) × AreLast set s last × (change.off last ≡ None) × (rows.items ≡ change.rows last)
+
+-- or these rows
+abbrev pub AreRowsBy : Shape → Change → Option Set → State → List Row → Type 0
+AreRowsBy schema change set s rows =
+    (foreign_off schema set ≡ None) × (last : List Row) × AreLast set s last × (change.off last ≡ None) × (rows ≡ change.rows last)
+
+abbrev pub IsNextBy : Shape → Change → Option Set → State → Next → Type 0
+IsNextBy schema change set s (next.Refused refusal) = IsRefusedBy schema change set s refusal
+IsNextBy schema change set s (next.Rows rows) = AreRowsBy schema change set s rows.items
 
 abbrev pub change_off : Shape → Change → Option Dataset → Option Refusal
 change_off schema change d = option_or (if_so (is_foreign schema d) no.ForeignRegistry) (change.off (last_rows d))
@@ -80,13 +87,25 @@ abbrev pub IsKeptBy : Registry → Option Set → Next → Reply → Reply → K
 IsKeptBy which set (next.Refused refusal) said reply before now old new = (reply ≡ says.Refused refusal) × (now ≡ before) × (new ≡ old)
 IsKeptBy which set (next.Rows rows) said reply before now old new = IsChangedAs which set rows.items said reply before now old new
 
--- `mid` is the host once the last rows were read
-pub record IsAnswered (which : Registry) (set : Option Set) (change : Change) (said reply : Reply) (before now : Kept) (old new : State) : Type 0 where
-  pub next : Next
+-- it is refused, and all is as it was
+pub record IsRefusedAs (schema : Shape) (change : Change) (set : Option Set) (reply : Reply) (before now : Kept) (old new : State) : Type 0 where
+  pub refusal : Refusal
+  pub by : IsRefusedBy schema change set old refusal
+  pub reply_is : reply ≡ says.Refused refusal
+  pub same : now ≡ before
+  pub looked : Looked old new
+
+-- or the rows come in the place of the last ones; `mid` is the host once these were read
+pub record IsKeptAs (which : Registry) (set : Option Set) (change : Change) (said reply : Reply) (before now : Kept) (old new : State) : Type 0 where
+  pub rows : List Row
   pub mid : State
-  pub by : IsNextBy (schema_of which) change set old next
+  pub by : AreRowsBy (schema_of which) change set old rows
   pub looked : Looked old mid
-  pub kept : IsKeptBy which set next said reply before now mid new
+  pub changed : IsChangedAs which set rows said reply before now mid new
+
+abbrev pub IsAnswered : Registry → Option Set → Change → Reply → Reply → Kept → Kept → State → State → Type 0
+IsAnswered which set change said reply before now old new =
+    IsRefusedAs (schema_of which) change set reply before now old new ⊎ IsKeptAs which set change said reply before now old new
 
 -- ---- what is damaged
 

@@ -15,11 +15,11 @@ pub returns : goal.returns
 returns g c = λ user.
     let set = set_in c.args.store.now.held.numbers users_name
     in let old = g.H.Host.state c.args.host.now
-    in let new = g.H.Host.state c.create_user_in.new.host
-    in let f = c.create_user_in.ensures
-    in subst (λ (r : Result Reply EndErr). IsRegistered user (asks.CreateUser c.args.name) r c.args.store.now c.create_user_in.new.store old new) (sym c.ended.ensures)
-    (changed_registered user (asks.CreateUser c.args.name) registry.Users (create_off c.args.name set) (user_rows c.args.name) c.create_user_in.result c.args.store.now c.create_user_in.new.store old new
-    (create_row user c.args.name c.create_user_in.result c.args.store.now c.create_user_in.new.store old new)
+    in let new = g.H.Host.state c.create_user.new.host
+    in let f = c.create_user.ensures
+    in subst (λ (r : Result Reply EndErr). IsRegistered user (asks.CreateUser c.args.name) r c.args.store.now c.create_user.new.store old new) (sym c.ended.ensures)
+    (changed_registered user (asks.CreateUser c.args.name) registry.Users (create_off c.args.name set) (user_rows c.args.name) c.create_user.result c.args.store.now c.create_user.new.store old new
+    (create_row user c.args.name c.create_user.result c.args.store.now c.create_user.new.store old new)
     f.told f.kept f.faults f.counted f.fetched f.unread
-    (when_ok _ _ c.create_user_in.result (λ reply. created_seen c.args.name set reply c.args.store.now c.create_user_in.new.store old new) f.done)
+    (when_ok _ _ c.create_user.result (λ reply. created_seen c.args.name set reply c.args.store.now c.create_user.new.store old new) f.done)
     f.why f.whole f.stays f.usable f.by_journal f.undamaged f.acts)

@@ -16,11 +16,11 @@ pub returns : goal.returns
 returns g c = λ user.
     let set = set_in c.args.store.now.held.numbers stage_name
     in let old = g.H.Host.state c.args.host.now
-    in let new = g.H.Host.state c.unstage_in.new.host
-    in let f = c.unstage_in.ensures
-    in subst (λ (r : Result Reply EndErr). IsRegistered user (asks.Unstage c.args.owner c.args.table) r c.args.store.now c.unstage_in.new.store old new) (sym c.ended.ensures)
-    (changed_registered user (asks.Unstage c.args.owner c.args.table) registry.Stage (foreign_off stage_schema set) (table_rows c.args.owner c.args.table) c.unstage_in.result c.args.store.now c.unstage_in.new.store old new
-    (unstage_row user c.args.owner c.args.table c.unstage_in.result c.args.store.now c.unstage_in.new.store old new)
+    in let new = g.H.Host.state c.unstage.new.host
+    in let f = c.unstage.ensures
+    in subst (λ (r : Result Reply EndErr). IsRegistered user (asks.Unstage c.args.owner c.args.table) r c.args.store.now c.unstage.new.store old new) (sym c.ended.ensures)
+    (changed_registered user (asks.Unstage c.args.owner c.args.table) registry.Stage (foreign_off stage_schema set) (table_rows c.args.owner c.args.table) c.unstage.result c.args.store.now c.unstage.new.store old new
+    (unstage_row user c.args.owner c.args.table c.unstage.result c.args.store.now c.unstage.new.store old new)
     f.told f.kept f.faults f.counted f.fetched f.unread
-    (when_ok _ _ c.unstage_in.result (λ reply. unstaged_seen c.args.owner c.args.table set reply c.args.store.now c.unstage_in.new.store old new) f.done)
+    (when_ok _ _ c.unstage.result (λ reply. unstaged_seen c.args.owner c.args.table set reply c.args.store.now c.unstage.new.store old new) f.done)
     f.why f.whole f.stays f.usable f.by_journal f.undamaged f.acts)

@@ -34,7 +34,7 @@ use Rattle.ov_query.specs.Queries.{query_off}
 use Rattle.ov_session.proofs.Querying.{query_acts}
 use Rattle.ov_session.proofs.Rows.{checkout_idle, checkout_met, commit_damaged, commit_fetched, commit_refused, damages_wider, fetched_refused, map_ok, plan_damaged, plan_fetched, plan_met, plan_there, refused_there, run_damaged, run_fetched, run_met, run_refused}
 use Rattle.ov_model.specs.declared.command.Command.TheVariants as asks
-use Rattle.ov_session.proofs.Shaping.{done, off, ok_err, text_built}
+use Rattle.ov_session.proofs.Shaping.{off, ok_err, text_built}
 use Rattle.ov_session.specs.Commands.{IsCommitDamaged, IsDamageOf, IsDamaged}
 use Rattle.std.specs.Prelude.{IfErr, IsErrOf, OnOk}
 use Rattle.ov_session.specs.declared.errors.EndErr.TheVariants as ending

@@ -1,4 +1,5 @@
 use Rattle.std.proofs.Common.{◌∙◌, inl, subst}
+use Rattle.std.specs.Prelude.{IfOk}
 use Rattle.law_runs.proofs.Doing.{breaks_looked}
 use Rattle.ov_model.specs.World.{set_named}
 use Rattle.ov_model.specs.declared.reply.Reply.{Reply}
@@ -11,8 +12,8 @@ use Rattle.ov_staging.specs.Changing.{IsKeptBy, change_deed, next_deed}
 use Rattle.ov_staging.specs.Deciding.{change_of, said_of}
 use Rattle.ov_staging.specs.Errors.{Acts}
 use Rattle.ov_staging.proofs.Acted.{acts_behind, next_is}
-use Rattle.ov_staging.proofs.Behind.{is_said, kept_ends}
-use Rattle.ov_staging.proofs.Looks.{end_wider, looked_stays, map_err, map_if, on_any, stays_later}
+use Rattle.ov_staging.proofs.Behind.{answered_as, is_said, kept_ends}
+use Rattle.ov_staging.proofs.Looks.{end_wider, looked_stays, map_err, on_any, stays_later}
 use Rattle.ov_staging.proofs.answering.changed.Goals as goal
 
 pub keep-requires-clause-call : goal.keep-requires-clause-call
@@ -31,15 +32,10 @@ returns-in-Ok-clause-done g c =
     in let old = g.H.Host.state c.args.host.now
     in let mid = g.H.Host.state c.next_of.new.host
     in let new = g.H.Host.state c.keep.new.host
-    in map_if _ _ c.keep.result
-    (λ reply kept. record {
-      next = c.in-Ok.next;
-      mid = mid;
-      by = c.in-Ok.ensures.next;
-      looked = c.next_of.ensures.looked;
-      kept = subst (λ (said : Reply). IsKeptBy c.args.which set c.in-Ok.next said reply c.args.store.now c.keep.new.store mid new) c.said_of.ensures kept;
-    })
-    c.keep.ensures.done
+    in let said = said_of c.args.asked
+    in let kept : IfOk c.keep.result (λ reply. IsKeptBy c.args.which set c.in-Ok.next said reply c.args.store.now c.keep.new.store mid new)
+    = subst (λ (x : Reply). IfOk c.keep.result (λ reply. IsKeptBy c.args.which set c.in-Ok.next x reply c.args.store.now c.keep.new.store mid new)) c.said_of.ensures c.keep.ensures.done
+    in answered_as c.args.which (change_of c.args.asked) c.args.store.now c.keep.new.store old mid new c.next_of.ensures.looked set said c.in-Ok.next c.keep.result c.in-Ok.ensures.next kept
 
 pub returns-in-Ok-clause-why : goal.returns-in-Ok-clause-why
 returns-in-Ok-clause-why g c =
