@@ -27,7 +27,7 @@ from .faults import (
 )
 from .keeping import Verified, verify
 from .program import version
-from .replies import Advice, Generated, Layout, Listed, Made, Partition, Plan, Split, Staged, Steps, Version, Written
+from .replies import Advice, Generated, Layout, Listed, Made, Partition, Plan, Split, Staged, Steps, Threshold, Version, Written
 from .store import Answer, Store
 from .values import Column, Rows, Scaled, Schema, guess
 from .words import Unsayable

@@ -155,3 +155,54 @@ def storage_dot(cvd, layout):
         lines.append(f"  p{part.id} [label={label(f'partition {part.id}', f'{part.records} records')}, style=filled, fillcolor=lightblue];")
         lines += [f"  v{vid} [label={label(str(vid))}]; v{vid} -> p{part.id};" for vid in part.versions]
     return "\n".join([*lines, "}", ""])
+
+
+# ---- the thresholds that a budget chooses from
+
+
+def distinct(lines):
+    """Gives the thresholds with the same division as lists, each with the first one's numbers."""
+    found = []
+    for line in lines:
+        if found and found[-1][0][1:] == line[1:]:
+            found[-1].append(line)
+        else:
+            found.append([line])
+    return found
+
+
+def named(group):
+    return f"{group[0].p}/100" + (f" to {group[-1].p}/100" if len(group) > 1 else "")
+
+
+def choices(cvd, split):
+    chosen = int(split.chosen.split("/")[0])
+    groups = distinct(split.lines)
+    wide, high, x, y = 480, 260, 100, 66
+    stored, cost = max(1, *(it.stored for it in split.lines)), max(1, *(it.cost for it in split.lines))
+    places = [(x + wide * group[0].stored / stored, y + high - high * group[0].cost / cost) for group in groups]
+    parts = [
+        f'<path d="M {x} {y} V {y + high} H {x + wide}" fill="none" stroke="#666"/>',
+        f'<path d="M {" L ".join(f"{at:.1f} {down:.1f}" for at, down in places)}" fill="none" stroke="#ccc"/>',
+        text(x, y + high + 34, f"records stored, up to {stored:,}", "faint"),
+        text(EDGE - 8, y - 8, f"records read by a checkout of each version, up to {cost:,}", "faint"),
+    ]
+    for (at, down), group in zip(places, groups):
+        is_chosen = any(it.p == chosen for it in group)
+        told = f"{named(group)}: {group[0].partitions:,} partitions, {group[0].stored:,} stored, {group[0].cost:,} read"
+        colour = "#ee6677" if is_chosen else PLAIN
+        parts.append(f'<circle cx="{at:.1f}" cy="{down:.1f}" r="{6 if is_chosen else 4}" fill="{colour}"><title>{shown(told)}</title></circle>')
+        if is_chosen:
+            parts.append(text(f"{at + 10:.1f}", f"{down - 8:.1f}", named(group)))
+    head = [text(EDGE - 8, 28, shown(f"{cvd}: the hundred thresholds, and {split.chosen}, which was chosen"), "head")]
+    svg = drawing(x + wide + 120, y + high + 52, head + parts, f"thresholds of {cvd}")
+    return Picture(svg, choices_dot(cvd, groups, chosen))
+
+
+def choices_dot(cvd, groups, chosen):
+    lines = [f"digraph {label(cvd)} {{", "  rankdir=LR; node [shape=box];"]
+    for at, group in enumerate(groups):
+        colour = ", style=filled, fillcolor=lightblue" if any(it.p == chosen for it in group) else ""
+        lines.append(f"  t{at} [label={label(named(group), f'{group[0].stored} stored', f'{group[0].cost} read')}{colour}];")
+    lines += [f"  t{at} -> t{at + 1};" for at in range(len(groups) - 1)]
+    return "\n".join([*lines, "}", ""])

@@ -10,7 +10,8 @@ Listed = namedtuple("Listed", "name versions records")
 Partition = namedtuple("Partition", "id records versions")
 Plan = namedtuple("Plan", "p q target targets copied of steps")
 Layout = namedtuple("Layout", "partitions plan stored cost")
-Split = namedtuple("Split", "depth partitions stored records members cost steps chosen", defaults=(None,))
+Split = namedtuple("Split", "depth partitions stored records members cost steps chosen lines", defaults=(None, ()))
+Threshold = namedtuple("Threshold", "p depth partitions stored cost")
 Steps = namedtuple("Steps", "taken left")
 Generated = namedtuple("Generated", "cvd versions records members")
 Advice = namedtuple("Advice", "cost best optimize")
@@ -73,10 +74,14 @@ def layout(text):
 SPLIT = r"depth (\d+), partitions (\d+), stored (\d+), records (\d+), members (\d+), cost (\d+), steps (\d+)"
 
 
+THRESHOLD = r"p (\d+): depth (\d+), partitions (\d+), stored (\d+), cost (\d+)"
+
+
 def split(text):
     *tried, last = lines(text)
-    chosen = matched(r"chosen (\d+/\d+)", tried[-1])[0] if tried else None
-    return Split(*map(int, matched(SPLIT, last)), chosen)
+    chosen = matched(r"chosen (\d+/\d+)", tried.pop())[0] if tried else None
+    table = tuple(Threshold(*map(int, matched(THRESHOLD, line))) for line in tried)
+    return Split(*map(int, matched(SPLIT, last)), chosen, table)
 
 
 def steps(text):

@@ -231,9 +231,18 @@ class Shell:
         return {"partitions": [it._asdict() for it in found.partitions], "plan": found.plan and found.plan._asdict(), "stored": found.stored, "cost": found.cost}
 
     def do_optimize(self, words):
-        """optimize DATASET P/Q: begins a migration to the partitions at the threshold"""
-        words, given = options(words, ("-d",))
-        return self.store.optimize(*taken(words + list(given.values()), 2, 2, self.do_optimize.__doc__))
+        """optimize DATASET P/Q | optimize DATASET -s RECORDS: begins a migration to the partitions at the threshold, or within a budget"""
+        words, given = options(words, ("-d", "-s"))
+        budget = int(given.pop("-s")) if "-s" in given else None
+        cvd, *threshold = taken(words + list(given.values()), 1 if budget is not None else 2, 2, self.do_optimize.__doc__)
+        return self.store.optimize(cvd, *threshold, budget=budget)._replace(lines=None)
+
+    def do_advise(self, words):
+        """advise DATASET -s RECORDS [-m A/B]: whether a migration within a budget is worth it, where checkouts read A/B as much now"""
+        words, given = options(words, ("-s", "-m"))
+        if "-s" not in given:
+            raise Usage(self.do_advise.__doc__)
+        return self.store.advise(*taken(words, 1, 1, self.do_advise.__doc__), int(given["-s"]), given.get("-m", "3/2"))
 
     def do_migrate(self, words):
         """migrate [STEPS]: takes so many steps of the migrations that run, or all"""

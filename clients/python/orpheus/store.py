@@ -235,7 +235,8 @@ class Store:
         return replies.layout(self._tell(f"layout {word(cvd, 'dataset')}"))
 
     def optimize(self, cvd, threshold=None, budget=None):
-        """Begins a migration at a threshold, as "1/2" or a Fraction, or at the cheapest one that stores at most the budget."""
+        """Begins a migration at a threshold, as "1/2" or a Fraction, or at the cheapest one that stores at most the budget; then the
+        split has the threshold that was chosen, and as `lines` the hundred that were tried."""
         if (threshold is None) == (budget is None):
             raise TypeError("optimize takes a threshold or a budget")
         self._number_of(cvd)
@@ -377,6 +378,12 @@ class Store:
     def history(self, cvd):
         """Gives a picture of the versions of a dataset and of who made them from whom."""
         return picturing.history(cvd, self.log(cvd), self.layout(cvd))
+
+    def choices(self, cvd, split):
+        """Draws what an optimize within a budget chose from: the records that each threshold stores, and those that checkouts read."""
+        if not split.lines:
+            raise TypeError("choices takes the split of an optimize within a budget")
+        return picturing.choices(cvd, split)
 
     def storage(self, cvd):
         """Gives a picture of what the partitions store and what checkouts read."""

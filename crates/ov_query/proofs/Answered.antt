@@ -24,7 +24,7 @@ use Rattle.ov_store.specs.declared.errors.StoreErr.{StoreErr}
 use Rattle.ov_value.specs.declared.column.Kind.{Kind}
 use Rattle.ov_value.specs.Shapes.{Shape}
 use Rattle.ov_query.specs.Answering.{HasSchema}
-use Rattle.ov_query.specs.Queries.{IsDamagedRead, IsReplyBy, Set, set_off}
+use Rattle.ov_query.specs.Queries.{IsDamagedRead, IsReplyBy, Set, one_read, set_off}
 use Rattle.ov_query.proofs.Numbering.{has_kinds, off_kinds, off_none, off_version}
 
 -- ---- its dataset
@@ -67,7 +67,7 @@ pub allowed_same : (n : Numbers Extent Extent) (typed query : Query) → typed �
 allowed_same n typed query same none = subst (λ (q : Query). set_off q (set_in n (name_read q.source)) ≡ None) (sym same) none
 
 pub whole_read : {A : Type 0} → (result : Result A StoreErr) (set : Option Set) (vids : List ℕ) (old : State) (page : ℕ)
-    → OnOk result (IsDamagedIn set vids old page → ⊥) → OnOk result (IsDamagedRead None set vids old page → ⊥)
+    → OnOk result (IsDamagedIn set vids old page → ⊥) → OnOk result (IsDamagedRead None (one_read set vids) old page → ⊥)
 whole_read (Ok a) set vids old page whole = λ met. whole met.1
 whole_read (Err e) set vids old page whole = tt
 

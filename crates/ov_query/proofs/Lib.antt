@@ -1,9 +1,13 @@
 pub mod Asked
 pub mod Pairs
-pub mod Taken
+pub mod Refused
 pub mod Permits
 pub mod Numbering
 pub mod Scans
 pub mod Answered
 pub mod Parents
 pub mod Listed
+pub mod Known
+pub mod Shown
+pub mod Both
+pub mod Joined

@@ -8,12 +8,11 @@ use Rattle.ov_host.specs.Host.{State}
 use Rattle.ov_catalog.specs.Numbers.{Numbers}
 use Rattle.ov_core.specs.AtWorld.{IsAtWorld}
 use Rattle.ov_core.specs.Held.{Held}
-use Rattle.ov_model.specs.Act.{Deed, Session, refuses, tells, unless}
-use Rattle.ov_model.specs.Answers.{Pair, Related, answer, answer_text, pairs, pairs_of, source_vids}
+use Rattle.ov_model.specs.Act.{Session, tells, unless}
+use Rattle.ov_model.specs.Answers.{Pair, Related, answer, answer_text, pairs}
 use Rattle.ov_model.specs.Asking.{answer_rows, answered, lineages_of, listed_refusal, missing_version, name_read, query_by, query_refusal}
 use Rattle.ov_model.specs.Book.{Cvd}
 use Rattle.ov_model.specs.Kinds.{kinds}
-use Rattle.ov_model.specs.Known.{known_of}
 use Rattle.ov_model.specs.Lineages.{relatives}
 use Rattle.ov_model.specs.World.{Dataset, World, cvd_in, set_named}
 use Rattle.ov_model.specs.declared.query.LineageKind.{LineageKind}

@@ -1,5 +1,5 @@
 -- The parents of a dataset's versions: by its graph, as the store's numbers have them, and as a World has them.
-use Rattle.std.proofs.Common.{◌≡◌, ◌∙◌, ◌≤◌, ◌<◌, ◌+◌, ℕ, zero, suc, List, [], ◌∷◌, ◌++◌, Some, length, map, take, get_or, refl, sym, ap, subst, arith}
+use Rattle.std.proofs.Common.{◌≡◌, ◌∙◌, ◌<◌, ◌+◌, ℕ, zero, suc, List, [], ◌∷◌, ◌++◌, Some, length, map, take, get_or, refl, sym, ap, subst, arith}
 use Rattle.std.specs.Prelude.{Vec}
 use Rattle.std.specs.declared.alloc.Global.{Global}
 use Rattle.std.proofs.lemmas.List.{length-map, map-append}
@@ -12,7 +12,7 @@ use Rattle.ov_catalog.specs.Events.{graph_of}
 use Rattle.ov_catalog.specs.Numbers.{VersionNumbers, each_version}
 use Rattle.ov_catalog.specs.Ready.{IsSet}
 use Rattle.ov_catalog.specs.Sets.{set_in as numbers_in, version_in}
-use Rattle.ov_catalog.specs.Shown.{Rids, shown_versions}
+use Rattle.ov_catalog.specs.Shown.{shown_versions}
 use Rattle.ov_catalog.specs.declared.cvd.Cvd.{Cvd}
 use Rattle.ov_catalog.specs.declared.cvd.Version.{Version as KeptVersion}
 use Rattle.law_image.specs.Pages.{readings_of}

@@ -17,7 +17,7 @@ use Rattle.ov_store.specs.declared.errors.StoreErr.{StoreErr}
 use Rattle.ov_store.specs.declared.errors.StoreErr.TheVariants as why
 use Rattle.ov_store.proofs.Refusing.{vids_refused}
 use Rattle.ov_query.specs.Answering.{IsThere, version_refusal}
-use Rattle.ov_query.specs.Queries.{IsUnread, Set, vids_read}
+use Rattle.ov_query.specs.Queries.{IsUnread, Set, one_read, vids_read}
 use Rattle.ov_query.proofs.Pairs.{shown_are}
 use Rattle.ov_fetch.specs.Scans.{rows_at}
 use Rattle.ov_fetch.specs.declared.scan.Scan.{Scan}
@@ -29,7 +29,7 @@ use Rattle.ov_terms.specs.Standing.{pairs_shown}
 -- ---- a scan that nothing refuses
 
 pub unread_by : (off : Option StoreErr) (set : Option Set) (vids : List ℕ) (old new : State) (e : StoreErr) → off ≡ None → IsUnscanned off set vids old new e
-    → IsUnread None set vids old new e
+    → IsUnread None (one_read set vids) old new e
 unread_by off set vids old new why.Host none is = (refl, is)
 unread_by off set vids old new why.Memory none is = tt
 unread_by off set vids old new (why.Damaged area at) none is = (is.0, (refl, is.2))
@@ -48,7 +48,7 @@ unread_by off set vids old new why.NoNumbers none is = let a = is.0 in absurd cc
 unread_by off set vids old new (why.FormatOne row) none is = let a = is.0 in absurd cc
 
 pub result_unread : {A : Type 0} → (result : Result A StoreErr) (off : Option StoreErr) (set : Option Set) (vids : List ℕ) (old new : State) → off ≡ None
-    → IfErr result (IsUnscanned off set vids old new) → IfErr result (IsUnread None set vids old new)
+    → IfErr result (IsUnscanned off set vids old new) → IfErr result (IsUnread None (one_read set vids) old new)
 result_unread (Ok a) off set vids old new none is = tt
 result_unread (Err e) off set vids old new none is = unread_by off set vids old new e none is
 
@@ -191,8 +191,8 @@ module _ (n : Numbers Extent Extent) (src : Src) (vids cvd name listed : List �
 
   pub listed_unread : {A : Type 0} → (result : Result A StoreErr) (old new : State) → IsThere src (set_in n (name_read src))
       → IfErr result (IsUnscanned (scan_off n name listed) (set_in n name) listed old new)
-      → IfErr result (IsUnread None (set_in n (name_read src)) (vids_read src (set_in n (name_read src))) old new)
+      → IfErr result (IsUnread None (one_read (set_in n (name_read src)) (vids_read src (set_in n (name_read src)))) old new)
   listed_unread result old new is_there off =
-      subst (λ (vs : List ℕ). IfErr result (IsUnread None (set_in n (name_read src)) vs old new)) (listed_are (set_in n (name_read src)))
-      (subst (λ (x : List ℕ). IfErr result (IsUnread None (set_in n x) listed old new)) name_is
+      subst (λ (vs : List ℕ). IfErr result (IsUnread None (one_read (set_in n (name_read src)) vs) old new)) (listed_are (set_in n (name_read src)))
+      (subst (λ (x : List ℕ). IfErr result (IsUnread None (one_read (set_in n x) listed) old new)) name_is
       (result_unread result (scan_off n name listed) (set_in n name) listed old new (listed_allowed is_there) off))

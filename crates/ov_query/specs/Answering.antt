@@ -1,13 +1,14 @@
 -- A query on its way to its reply.
---     IsPermittedBy user asked permitted      a query that its user may ask, or a refusal whatever the store has
+--     IsPermittedBy user asked permitted      a query or a join that its user may ask, or a refusal whatever the store has
 --     IsListedBy set query listed      the query with lists in place of its lineages, or a refusal: 10, or 12 of a lineage
 --     version_refusal off      the refusal of a version that may not be read: 12, 13; of another error there is none
 --     IsThere source set      the dataset is there, with the versions that the source lists
 --     HasSchema schema set      it is there, and has this schema
 use Rattle.std.specs.Prelude.{◌≡◌, ℕ, List, [], ◌∷◌, length, Option, Some, None, Result, Ok, Err}
 use Rattle.ov_model.specs.Asking.{lineages_of, listed_refusal, missing_version, name_read}
-use Rattle.ov_model.specs.QueryTexts.{Asked, AsksQuery}
+use Rattle.ov_model.specs.QueryTexts.{Asked, AsksQuery, AsksJoin}
 use Rattle.ov_model.specs.Users.{permit_names}
+use Rattle.ov_model.specs.declared.query.JoinQuery.{JoinQuery}
 use Rattle.ov_model.specs.declared.query.Query.{Query}
 use Rattle.ov_model.specs.declared.query.Src.{Src}
 use Rattle.ov_model.specs.declared.refusal.Refusal.{Refusal}
@@ -26,8 +27,13 @@ pub record IsPermittedQuery (user : List ℕ) (asked : Asked) (query : Query) : 
   pub is : asked ≡ AsksQuery query
   pub allowed : permit_names user (name_read query.source ∷ []) ≡ None
 
+pub record IsPermittedJoin (user : List ℕ) (asked : Asked) (join : JoinQuery) : Type 0 where
+  pub is : asked ≡ AsksJoin join
+  pub allowed : permit_names user (join.left.cvd ∷ join.right.cvd ∷ []) ≡ None
+
 abbrev pub IsPermittedBy : List ℕ → Asked → Permitted → Type 0
 IsPermittedBy user asked (permitted.Query query) = IsPermittedQuery user asked query
+IsPermittedBy user asked (permitted.Join join) = IsPermittedJoin user asked join
 IsPermittedBy user asked (permitted.Refused refusal) = text_off user asked ≡ Some refusal
 
 -- the versions of its lineages are there, and lists say the same in their place

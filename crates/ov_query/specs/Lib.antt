@@ -1,3 +1,4 @@
 pub mod Asking
 pub mod Queries
 pub mod Answering
+pub mod Joining

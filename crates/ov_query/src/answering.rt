@@ -16,12 +16,14 @@ ghost use Rattle.ov_model.specs.declared.reply.Reply.TheVariants as says;
 ghost use Rattle.ov_store.specs.Scanning.{IsDamagedIn, IsUndamaged, set_in};
 ghost use Rattle.ov_terms.specs.Standing.{NoLineages, pairs_shown};
 ghost use Rattle.ov_value.specs.declared.column.Kind.{Kind as KindValue};
-ghost use Rattle.ov_typing.specs.Refusing.{refusal_of};
 ghost use Rattle.ov_query.specs.Answering.{HasSchema};
-ghost use Rattle.ov_query.specs.Queries.{IsDamagedRead, IsOfNoFile, IsQueryDamaged, IsReplyBy, IsUnanswered, IsUnread, bytes_read, query_fetch, query_off, set_off, taken, vids_read};
+ghost use Rattle.ov_query.specs.Joining.{IsReplyFor};
+ghost use Rattle.ov_query.specs.Queries.{IsDamagedRead, IsOfNoFile, IsQueryDamaged, IsReplyBy, IsUnanswered, IsUnread, bytes_read, one_read, query_fetch, query_off, set_off, vids_read};
 
+use crate::joining::reply_to_join;
 use crate::listing::{Listed, lists_for};
 use crate::permitting::{Permitted, asked_by, name_of};
+use crate::refusing::refusal_by;
 use crate::scanning::{refused_version, scan_of};
 use ov_csv::write_answer;
 use ov_fetch::Scan;
@@ -29,24 +31,8 @@ use ov_host::Host;
 use ov_model::{Query, Refusal, Reply, Seq};
 use ov_qrun::run_typed;
 use ov_store::{Store, StoreErr};
-use ov_typing::{TypeErr, Typed, names_lineage, typed};
+use ov_typing::{Typed, names_lineage, typed};
 use std::alloc::{AllocError, Global};
-
-// The refusal of a query that doesn't fit its dataset's schema: 42 to 45.
-fn refusal_by(off: TypeErr) -> Result<Refusal, StoreErr>
-    ensures refusal { IfOk result (λ refusal. refusal_of off ≡ Some refusal) }
-    ensures memory { IfErr result (λ err. err ≡ StoreErr.Memory) }
-{
-    match off {
-        TypeErr::UnknownColumn { name } => Ok(Refusal::UnknownColumn { name }),
-        TypeErr::TypeMismatch { nth, left, right } => {
-            Ok(Refusal::TypeMismatch { nth, left, right })
-        }
-        TypeErr::NotGrouped { name } => Ok(Refusal::NotGrouped { name }),
-        TypeErr::NeedsInt { name } => Ok(Refusal::NeedsInt { name }),
-        TypeErr::Memory => Err(StoreErr::Memory),
-    }
-}
 
 // The answer of a query over the rows of a scan, as the lines and the number that are printed.
 fn answer_over(alloc: Global, typed: &Typed<'_>, scan: &Scan) -> Result<Reply, AllocError>
@@ -78,10 +64,10 @@ fn read_and_answer<H: Host>(
     requires schema { HasSchema typed.now.schema (set_in store.now.held.numbers (name_read typed.now.query.source)) }
     ensures looked { Looked (H.state host.old) (H.state host.new) }
     ensures fetched { let set = set_in store.now.held.numbers (name_read typed.now.query.source)
-        in (H.state host.new).fetched ≤ (H.state host.old).fetched + bytes_read None set (vids_read typed.now.query.source set) }
+        in (H.state host.new).fetched ≤ (H.state host.old).fetched + bytes_read None (one_read set (vids_read typed.now.query.source set)) }
     ensures reply { IfOk result (IsReplyBy None) }
     ensures why { let set = set_in store.now.held.numbers (name_read typed.now.query.source)
-        in IfErr result (IsUnread None set (vids_read typed.now.query.source set) (H.state host.old) (H.state host.new)) }
+        in IfErr result (IsUnread None (one_read set (vids_read typed.now.query.source set)) (H.state host.old) (H.state host.new)) }
     ensures whole { (page : ℕ) → (H.state host.old).tells ≡ true
         → let set = set_in store.now.held.numbers (name_read typed.now.query.source)
         in OnOk result (IsDamagedIn set (vids_read typed.now.query.source set) (H.state host.old) page → ⊥) }
@@ -105,15 +91,15 @@ fn reply_to_lists<H: Host>(
     requires plain { lineages_of query.now ≡ [] }
     ensures looked { Looked (H.state host.old) (H.state host.new) }
     ensures fetched { let set = set_in store.now.held.numbers (name_read query.now.source)
-        in (H.state host.new).fetched ≤ (H.state host.old).fetched + bytes_read (set_off query.now set) set (vids_read query.now.source set) }
+        in (H.state host.new).fetched ≤ (H.state host.old).fetched + bytes_read (set_off query.now set) (one_read set (vids_read query.now.source set)) }
     ensures unread { (refusal : RefusalValue) → set_off query.now (set_in store.now.held.numbers (name_read query.now.source)) ≡ Some refusal
         → H.state host.new ≡ H.state host.old }
     ensures reply { IfOk result (IsReplyBy (set_off query.now (set_in store.now.held.numbers (name_read query.now.source)))) }
     ensures why { let set = set_in store.now.held.numbers (name_read query.now.source)
-        in IfErr result (IsUnread (set_off query.now set) set (vids_read query.now.source set) (H.state host.old) (H.state host.new)) }
+        in IfErr result (IsUnread (set_off query.now set) (one_read set (vids_read query.now.source set)) (H.state host.old) (H.state host.new)) }
     ensures whole { (page : ℕ) → (H.state host.old).tells ≡ true
         → let set = set_in store.now.held.numbers (name_read query.now.source)
-        in OnOk result (IsDamagedRead (set_off query.now set) set (vids_read query.now.source set) (H.state host.old) page → ⊥) }
+        in OnOk result (IsDamagedRead (set_off query.now set) (one_read set (vids_read query.now.source set)) (H.state host.old) page → ⊥) }
     ensures seen { IfOk result IsOfNoFile }
     ensures world { (w : World) (s : Session) → IsAtWorld w store.now.held (H.state host.old)
         → IfOk result (λ reply. query_by s query.now (cvd_in (set_named w (name_read query.now.source))) ≡ tells s reply) }
@@ -145,15 +131,15 @@ fn reply_to<H: Host>(
     requires usable { store.now.usable ≡ true }
     ensures looked { Looked (H.state host.old) (H.state host.new) }
     ensures fetched { let set = set_in store.now.held.numbers (name_read query.now.source)
-        in (H.state host.new).fetched ≤ (H.state host.old).fetched + bytes_read (set_off query.now set) set (vids_read query.now.source set) }
+        in (H.state host.new).fetched ≤ (H.state host.old).fetched + bytes_read (set_off query.now set) (one_read set (vids_read query.now.source set)) }
     ensures unread { (refusal : RefusalValue) → set_off query.now (set_in store.now.held.numbers (name_read query.now.source)) ≡ Some refusal
         → H.state host.new ≡ H.state host.old }
     ensures reply { IfOk result (IsReplyBy (set_off query.now (set_in store.now.held.numbers (name_read query.now.source)))) }
     ensures why { let set = set_in store.now.held.numbers (name_read query.now.source)
-        in IfErr result (IsUnread (set_off query.now set) set (vids_read query.now.source set) (H.state host.old) (H.state host.new)) }
+        in IfErr result (IsUnread (set_off query.now set) (one_read set (vids_read query.now.source set)) (H.state host.old) (H.state host.new)) }
     ensures whole { (page : ℕ) → (H.state host.old).tells ≡ true
         → let set = set_in store.now.held.numbers (name_read query.now.source)
-        in OnOk result (IsDamagedRead (set_off query.now set) set (vids_read query.now.source set) (H.state host.old) page → ⊥) }
+        in OnOk result (IsDamagedRead (set_off query.now set) (one_read set (vids_read query.now.source set)) (H.state host.old) page → ⊥) }
     ensures seen { IfOk result IsOfNoFile }
     ensures world { (w : World) (s : Session) → IsAtWorld w store.now.held (H.state host.old)
         → IfOk result (λ reply. query_by s query.now (cvd_in (set_named w (name_read query.now.source))) ≡ tells s reply) }
@@ -170,11 +156,14 @@ fn reply_to<H: Host>(
 
 /// The reply to the text of a `run` by a user, over a store.
 ///
-/// Refusals in their order: 40, 41 (a join too: none is built yet), 71, 10, 12 of the first lineage from the left, per version
-/// that is listed, from the left, 12 and 13, and the first of 42 to 45. What is refused reads nothing. Else the list of each
-/// version that the query names is read once, and once each partition that serves one of them. Nothing else is read, and
-/// nothing is changed. The relatives of versions are known without reading: they are looked up once for each lineage that the
-/// query names, in the time of all parents of the dataset's versions.
+/// Refusals of a query in their order: 40, 41, 71, 10, 12 of the first lineage from the left, per version that is listed, from the
+/// left, 12 and 13, and the first of 42 to 45. Those of a join: 40, 41, 71, 10 and 12 of the left side, 10 and 12 of the right one,
+/// the first of 42 and 43, and then 46, which the rows decide. What is refused before 46 reads nothing.
+///
+/// Else the list of each version that a query names is read once, and once each partition that serves one of them; and so for each
+/// side of a join, the left one first, also where both are one version. Nothing else is read, and nothing is changed. The relatives
+/// of versions are known without reading: they are looked up once for each lineage that the query names, in the time of all parents
+/// of the dataset's versions. The rows of both sides of a join stand in memory once, and their pairs as places of 16 bytes each.
 ///
 /// `Memory`, `Host` and `Damaged` are the only errors, the last two only where nothing is refused.
 pub fn answer_to<H: Host>(
@@ -191,8 +180,9 @@ pub fn answer_to<H: Host>(
     ensures unread { (refusal : RefusalValue) → query_off store.now.held.numbers user.now text.now ≡ Some refusal
         → H.state host.new ≡ H.state host.old }
 
-    // A refusal is the first one, and an answer comes exactly where there is none; it is never 70.
-    ensures reply { IfOk result (IsReplyBy (query_off store.now.held.numbers user.now text.now)) }
+    // A refusal is the first one, and an answer comes exactly where there is none; of a join 46 or the answer, by the rows that are
+    // read. It is never 70.
+    ensures reply { IfOk result (IsReplyFor store.now.held.numbers user.now (asked_of text.now) (H.state host.old)) }
     ensures seen { IfOk result IsOfNoFile }
 
     // Why there is no reply; and an answer excludes what would be damaged.
@@ -202,11 +192,12 @@ pub fn answer_to<H: Host>(
 
     // At a World nothing is damaged, and the reply is the one that the text means there.
     ensures world { (w : World) (s : Session) → IsAtWorld w store.now.held (H.state host.old) → s.user ≡ user.now
-        → IfOk result (λ reply. run_deed w s (taken (asked_of text.now)) ≡ tells s reply) }
+        → IfOk result (λ reply. run_deed w s (asked_of text.now) ≡ tells s reply) }
     ensures undamaged { (w : World) → IsAtWorld w store.now.held (H.state host.old) → IfErr result IsUndamaged }
 {
     match asked_by(alloc, user, text)? {
         Permitted::Query(query) => reply_to(alloc, store, host, &query),
+        Permitted::Join(join) => reply_to_join(alloc, store, host, &join),
         Permitted::Refused(refusal) => Ok(Reply::Refused(refusal)),
     }
 }

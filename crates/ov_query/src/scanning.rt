@@ -12,7 +12,7 @@ ghost use Rattle.ov_store.specs.Scanning.{IsDamagedIn, IsUndamaged, set_in};
 ghost use Rattle.ov_store.specs.declared.errors.StoreErr.TheVariants as why;
 ghost use Rattle.ov_terms.specs.Standing.{pairs_shown};
 ghost use Rattle.ov_query.specs.Answering.{IsThere, version_refusal};
-ghost use Rattle.ov_query.specs.Queries.{IsUnread, Set, bytes_read, vids_read};
+ghost use Rattle.ov_query.specs.Queries.{IsUnread, Set, bytes_read, one_read, vids_read};
 
 use ov_fetch::Scan;
 use ov_host::Host;
@@ -53,9 +53,9 @@ pub(crate) fn scan_of<H: Host>(store: &Store, host: &mut H, source: &Src) -> Res
     requires there { IsThere source.now (set_in store.now.held.numbers (name_read source.now)) }
     ensures looked { Looked (H.state host.old) (H.state host.new) }
     ensures fetched { let set = set_in store.now.held.numbers (name_read source.now)
-        in (H.state host.new).fetched ≤ (H.state host.old).fetched + bytes_read None set (vids_read source.now set) }
+        in (H.state host.new).fetched ≤ (H.state host.old).fetched + bytes_read None (one_read set (vids_read source.now set)) }
     ensures why { let set = set_in store.now.held.numbers (name_read source.now)
-        in IfErr result (IsUnread None set (vids_read source.now set) (H.state host.old) (H.state host.new)) }
+        in IfErr result (IsUnread None (one_read set (vids_read source.now set)) (H.state host.old) (H.state host.new)) }
     ensures whole { (page : ℕ) → (H.state host.old).tells ≡ true
         → let set = set_in store.now.held.numbers (name_read source.now)
         in OnOk result (IsDamagedIn set (vids_read source.now set) (H.state host.old) page → ⊥) }

@@ -8,6 +8,7 @@ pub mod Saying
 pub mod Standing
 pub mod Bounds
 pub mod Rows
+pub mod Registered
 pub mod Replying
 pub mod Numbering
 pub mod Meeting
@@ -18,6 +19,7 @@ pub mod Idling
 pub mod Taking
 pub mod Following
 pub mod Plans
+pub mod Choices
 pub mod Migrating
 pub mod Checkpointing
 pub mod Acting

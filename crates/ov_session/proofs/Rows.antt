@@ -1,5 +1,5 @@
 -- What the rows of the commands say, as the calls that serve them do.
-use Rattle.std.proofs.Common.{◌≡◌, ◌∙◌, ◌≤◌, ◌+◌, ℕ, Bool, true, false, List, [], ◌∷◌, ◌++◌, refl, sym, ap, subst, arith}
+use Rattle.std.proofs.Common.{◌≡◌, ◌∙◌, ◌≤◌, ◌+◌, inl, inr, ℕ, Bool, true, false, List, [], ◌∷◌, ◌++◌, refl, sym, ap, subst, arith}
 use Rattle.std.specs.Prelude.{IfErr, OnOk, ◌||◌, ◌==◌, nat_lt, not, is_some, if◌then◌else◌, length, Option, Some, None, Result, Ok, Err}
 use Rattle.std.specs.Option.{option_or}
 use Rattle.ov_host.specs.declared.area.Extent.{Extent}
@@ -8,17 +8,12 @@ use Rattle.ov_host.specs.Stage.{Staged}
 use Rattle.ov_catalog.specs.Numbers.{Numbers}
 use Rattle.ov_core.specs.Held.{Held}
 use Rattle.ov_model.specs.Act.{is_threshold}
-use Rattle.ov_model.specs.Asking.{name_read}
 use Rattle.ov_model.specs.Book.{Row}
-use Rattle.law_forms.specs.BuiltShapes.{if_built, is_built_shape}
-use Rattle.ov_model.specs.QueryTexts.{Asked, BadByte, NoQuery, AsksQuery, AsksJoin, asked_of}
 use Rattle.ov_model.specs.World.{is_one}
-use Rattle.ov_model.specs.declared.command.Command.{Command}
 use Rattle.ov_model.specs.declared.command.Command.TheVariants as asks
-use Rattle.ov_model.specs.declared.query.Query.{Query}
 use Rattle.ov_model.specs.declared.refusal.Refusal.{Refusal}
-use Rattle.ov_model.specs.declared.refusal.Refusal.TheVariants as no
-use Rattle.ov_query.specs.Queries.{IsDamagedRead, IsQueryDamaged, asked_off, asked_set, asked_vids, bytes_read, query_fetch, query_off, taken, vids_read}
+use Rattle.ov_query.specs.Queries.{AreDamaged, IsQueryDamaged, Reading, bytes_read, query_fetch, query_off, query_reads}
+use Rattle.ov_query.specs.Queries as queries
 use Rattle.ov_session.proofs.Bounds.{fetched_allowed}
 use Rattle.ov_session.specs.Bounds.{bytes_in, bytes_of_all, command_fetch, if_allowed, is_command_off}
 use Rattle.ov_session.specs.Commands.{AreBad, IsCommitDamaged, IsDamaged, IsPlanDamaged, IsScanDamaged, MeetsDamage}
@@ -28,12 +23,12 @@ use Rattle.ov_session.specs.Standing.{IsIdle, IsIdleBy}
 use Rattle.ov_session.specs.declared.errors.EndErr.{EndErr}
 use Rattle.ov_session.specs.declared.errors.EndErr.TheVariants as ending
 use Rattle.ov_store.specs.Kept.{Kept}
-use Rattle.ov_session.specs.Reads.{columns_off, commit_row_off, plan_refused, run_off, run_sources}
+use Rattle.ov_session.specs.Reads.{columns_off, commit_row_off, plan_refused, rows_read}
 use Rattle.ov_store.specs.Committing.{Set, parents_off, parents_off_in, to_off}
 use Rattle.ov_store.specs.Planning.{optimize_off, plan_off}
 use Rattle.ov_store.specs.Planning as planning
 use Rattle.ov_store.specs.Refusals.{refusal_of, refused, vids_off}
-use Rattle.ov_store.specs.Scanning.{IsDamagedIn, scan_off, set_in, versions_off}
+use Rattle.ov_store.specs.Scanning.{scan_off, set_in, versions_off}
 use Rattle.ov_store.specs.declared.errors.StoreErr.{StoreErr}
 use Rattle.ov_store.specs.declared.errors.StoreErr.TheVariants as why
 use Rattle.ov_store.specs.declared.plan_errors.PlanErr.{PlanErr}
@@ -174,75 +169,42 @@ plan_fetched n user cvd p q bytes a b within = by (optimize_off n cvd p q) (set_
 
 -- ---- a run
 
-read_most : (o : Option Refusal) (set : Option Set) (vids : List ℕ) → bytes_read o set vids ≤ if_allowed o (bytes_in set vids)
-read_most (Some r) set vids = omega arith
-read_most None None vids = omega arith
-read_most None (Some set) vids = omega arith
+all_read : (reads : List Reading) → queries.bytes_of_all reads ≡ bytes_of_all (rows_read reads ++ [])
+all_read [] = refl
+all_read (r ∷ []) = refl
+all_read (r ∷ q ∷ reads) = ap (λ (bytes : ℕ). bytes_in r.set r.vids + bytes) (all_read (q ∷ reads))
 
-module _ (n : Numbers Extent Extent) (user : List ℕ) where
-  abbrev fetch_by : Asked → ℕ
-  fetch_by asked = bytes_read (asked_off n user asked) (asked_set n asked) (asked_vids n asked)
+read_most : (o : Option Refusal) (reads : List Reading) → bytes_read o reads ≤ if_allowed o (bytes_of_all (rows_read reads ++ []))
+read_most (Some r) reads = omega arith
+read_most None reads = omega (arith, all_read reads)
 
-  abbrev fetch_as : Asked → ℕ
-  fetch_as asked = if_allowed (run_off n user asked) (bytes_of_all (run_sources n asked ++ []))
+module _ (n : Numbers Extent Extent) (user text : List ℕ) where
+  pub run_fetched : (a b : ℕ) → b ≤ a + query_fetch n user text → b ≤ a + command_fetch n user (asks.Run text)
+  run_fetched a b within = omega (arith, within, read_most (query_off n user text) (query_reads n text))
 
-  query_most : (query : Query) → fetch_by (AsksQuery query) ≤ fetch_as (AsksQuery query)
-  query_most query =
-      let set : Option Set = set_in n (name_read query.source)
-      in read_most (asked_off n user (AsksQuery query)) set (vids_read query.source set)
+  pub run_refused : is_command_off n user (asks.Run text) ≡ true → is_some (query_off n user text) ≡ true
+  run_refused some = some
 
-  run_most : (asked : Asked) → fetch_by (taken asked) ≤ fetch_as asked
-  run_most (BadByte at) = omega arith
-  run_most NoQuery = omega arith
-  run_most (AsksQuery query) = query_most query
-  run_most (AsksJoin join) = omega arith
+module _ (stage : Staged) (held : Held) (s : State) (page : ℕ) where
+  bad_reads : (reads : List Reading) → AreDamaged reads s page → AreBad (rows_read reads ++ []) stage held s page
+  bad_reads [] bad = bad
+  bad_reads (r ∷ []) bad = bad
+  bad_reads (r ∷ q ∷ reads) (inl first) = inl first
+  bad_reads (r ∷ q ∷ reads) (inr later) = inr (later.0, bad_reads (q ∷ reads) later.1)
 
-  pub run_fetched : (text : List ℕ) (a b : ℕ) → b ≤ a + query_fetch n user text → b ≤ a + command_fetch n user (asks.Run text)
-  run_fetched text a b within = omega (arith, within, run_most (asked_of text))
-
-  some_run : (asked : Asked) → is_some (run_off n user asked) ≡ true → is_some (asked_off n user (taken asked)) ≡ true
-  some_run (BadByte at) some = refl
-  some_run NoQuery some = refl
-  some_run (AsksQuery query) some = some
-  some_run (AsksJoin join) some = refl
-
-  pub run_refused : (text : List ℕ) → is_command_off n user (asks.Run text) ≡ true → is_some (query_off n user text) ≡ true
-  run_refused text some = some_run (asked_of text) some
-
-  module _ (stage : Staged) (held : Held) (s : State) (page : ℕ) where
-    abbrev IsBadBy : Asked → Type 0
-    IsBadBy asked = IsDamagedRead (asked_off n user asked) (asked_set n asked) (asked_vids n asked) s page
-
-    abbrev IsBadAs : Asked → Type 0
-    IsBadAs asked = (run_off n user asked ≡ None) × AreBad (run_sources n asked ++ []) stage held s page
-
-    some_none : (r : Refusal) → Some r ≡ None → ⊥
-    some_none r e = cc
-
-    bad_run : (asked : Asked) → IsBadBy (taken asked) → IsBadAs asked
-    bad_run (BadByte at) bad = absurd (some_none (no.BadByte at) bad.0)
-    bad_run NoQuery bad = absurd (some_none no.NotAQuery bad.0)
-    bad_run (AsksQuery query) bad = bad
-    bad_run (AsksJoin join) bad = absurd (some_none no.NotAQuery bad.0)
-
-    met_run : (asked : Asked) → is_built_shape asked ≡ true → (run_off n user asked ≡ None) × AreBad (run_sources n asked) stage held s page → IsBadBy (taken asked)
-    met_run (BadByte at) built bad = absurd bad.1
-    met_run NoQuery built bad = absurd bad.1
-    met_run (AsksQuery query) built bad = bad
-    met_run (AsksJoin join) built bad = absurd cc
+  met_reads : (reads : List Reading) → AreBad (rows_read reads) stage held s page → AreDamaged reads s page
+  met_reads [] bad = bad
+  met_reads (r ∷ []) bad = bad
+  met_reads (r ∷ q ∷ reads) (inl first) = inl first
+  met_reads (r ∷ q ∷ reads) (inr later) = inr (later.0, met_reads (q ∷ reads) later.1)
 
 pub run_damaged : (user text : List ℕ) (stage : Staged) (held now : Held) (s : State) (page : ℕ) → IsQueryDamaged held.numbers user text s page
     → IsDamaged user (asks.Run text) stage held now s page
-run_damaged user text stage held now s page bad = bad_run held.numbers user stage held s page (asked_of text) bad
+run_damaged user text stage held now s page bad = (bad.0, bad_reads stage held s page (query_reads held.numbers text) bad.1)
 
-built_text : (text : List ℕ) (t : Bool) → (let one : Result Command Refusal = (if t then Ok (asks.Run text) else Err no.NotAQuery) in one) ≡ Ok (asks.Run text) → t ≡ true
-built_text text true e = refl
-built_text text false e = absurd cc
-
-pub run_met : (user text : List ℕ) (stage : Staged) (held : Held) (s : State) (page : ℕ) → if_built (asks.Run text) ≡ Ok (asks.Run text)
-    → MeetsDamage user (asks.Run text) stage held s page → IsQueryDamaged held.numbers user text s page
-run_met user text stage held s page built bad =
-    met_run held.numbers user stage held s page (asked_of text) (built_text text (is_built_shape (asked_of text)) built) bad
+pub run_met : (user text : List ℕ) (stage : Staged) (held : Held) (s : State) (page : ℕ) → MeetsDamage user (asks.Run text) stage held s page
+    → IsQueryDamaged held.numbers user text s page
+run_met user text stage held s page bad = (bad.0, met_reads stage held s page (query_reads held.numbers text) bad.1)
 
 -- ---- results
 

@@ -1,10 +1,8 @@
 -- A command is of a shape that is built, or a query that is refused for its shape; and what a line that asks for it comes to.
 use Rattle.std.proofs.Common.{◌≡◌, ◌∙◌, ◌⊎◌, inl, inr, ℕ, Bool, true, false, List, Some, None, refl, sym, ap, subst, arith}
 use Rattle.std.specs.Prelude.{◌≤◌, IfOk, OnOk, Option, Ok, Err, Result, if◌then◌else◌, is_ok}
-use Rattle.ov_host.specs.declared.area.Extent.{Extent}
 use Rattle.ov_host.specs.Host.{State}
 use Rattle.ov_host.specs.Stage.{Staged}
-use Rattle.ov_catalog.specs.Numbers.{Numbers}
 use Rattle.ov_core.specs.AtWorld.{IsAtWorld}
 use Rattle.law_runs.specs.Serving.{Breaks, Does, Serves, session_of}
 use Rattle.law_steps.specs.Turns.{running}
@@ -14,7 +12,7 @@ use Rattle.law_forms.specs.BuiltShapes.{served_forms, if_built, is_built_shape, 
 use Rattle.ov_model.specs.Deed.{permitted}
 use Rattle.law_forms.specs.Built.{built_forms}
 use Rattle.ov_model.specs.Line.{Line, Asks, Refused, answer, line_of}
-use Rattle.ov_model.specs.QueryTexts.{Asked, NoQuery, asked_of}
+use Rattle.ov_model.specs.QueryTexts.{Asked, BadByte, NoQuery, AsksQuery, AsksJoin, asked_of}
 use Rattle.ov_model.specs.Users.{line_by, permit, unless_denied}
 use Rattle.ov_model.specs.World.{World}
 use Rattle.ov_model.specs.declared.command.Command.{Command}
@@ -23,7 +21,6 @@ use Rattle.ov_model.specs.declared.refusal.Refusal.{Refusal}
 use Rattle.ov_model.specs.declared.refusal.Refusal.TheVariants as no
 use Rattle.ov_model.specs.declared.reply.Reply.{Reply}
 use Rattle.ov_model.specs.declared.reply.Reply.TheVariants as says
-use Rattle.ov_query.specs.Queries.{asked_off, query_off, taken}
 use Rattle.ov_session.proofs.Dealing.{damage_wider}
 use Rattle.ov_session.proofs.Meeting.{refused_asks, same_command}
 use Rattle.ov_session.proofs.Saying.{Says, comment_none, line_unserved, says_broken, says_refusal, says_reply}
@@ -60,26 +57,15 @@ shape_of (asks.Run text) = by (is_built_shape (asked_of text))
     by false = inr (no.NotAQuery, refl)
 shape_of command = inl refl
 
--- a text of a shape that is built is taken as it asks
-pub taken_built : (text : List ℕ) → if_built (asks.Run text) ≡ done (asks.Run text) → taken (asked_of text) ≡ asked_of text
-taken_built text e = by (is_built_shape (asked_of text)) e
+-- each shape is built
+pub text_built : (text : List ℕ) → if_built (asks.Run text) ≡ done (asks.Run text)
+text_built text = by (asked_of text)
   where
-    by : (t : Bool) → text_if text t ≡ done (asks.Run text) → (if t then asked_of text else NoQuery) ≡ asked_of text
-    by true e = refl
-    by false e = absurd (ok_err (asks.Run text) no.NotAQuery (sym e))
-
--- and another one is refused
-pub taken_other : (n : Numbers Extent Extent) (user text : List ℕ) (refusal : Refusal) → if_built (asks.Run text) ≡ off refusal → query_off n user text ≡ Some refusal
-taken_other n user text refusal e = by (is_built_shape (asked_of text)) refl e
-  where
-    the : (a b : Refusal) → off a ≡ off b → Some a ≡ Some b
-    the a b e = cc
-
-    by : (t : Bool) → is_built_shape (asked_of text) ≡ t → text_if text t ≡ off refusal → query_off n user text ≡ Some refusal
-    by true is e = absurd (ok_err (asks.Run text) refusal e)
-    by false is e =
-        let none : taken (asked_of text) ≡ NoQuery = ap (λ (t : Bool). let one : Asked = (if t then asked_of text else NoQuery) in one) is
-        in ap (asked_off n user) none ∙ the no.NotAQuery refusal e
+    by : (asked : Asked) → text_if text (is_built_shape asked) ≡ done (asks.Run text)
+    by (BadByte at) = refl
+    by NoQuery = refl
+    by (AsksQuery query) = refl
+    by (AsksJoin join) = refl
 
 -- ---- what a user's line comes to
 

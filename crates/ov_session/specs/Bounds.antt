@@ -16,12 +16,21 @@ use Rattle.ov_model.specs.Line.{Line, Asks}
 use Rattle.ov_model.specs.declared.command.Command.{Command}
 use Rattle.ov_store.specs.Planning.{optimize_off}
 use Rattle.ov_store.specs.Scanning.{all_vids, set_in}
-use Rattle.ov_session.specs.Commands.{AreLast}
+use Rattle.ov_registry.specs.Last.{AreLast}
+use Rattle.ov_session.specs.Reads.{advise_off, lists_in, segments_in, within_set_off}
 pub use Rattle.ov_session.specs.Reads.{Changes, Nothing, Once, Several, Own, Nought, Versions, Steps, Later, Reads, Source, bytes_in, bytes_of_all, changes_of, fetch, if_allowed, reads_of}
 
 -- the lists of all versions and the segments of all partitions, where nothing refuses the plan
 abbrev pub plan_fetch : Numbers Extent Extent → List ℕ → ℕ → ℕ → ℕ
 plan_fetch n cvd p q = if_allowed (optimize_off n cvd p q) (bytes_in (set_in n cvd) (all_vids (set_in n cvd)))
+
+-- within a budget all these, and of an advice the lists alone
+abbrev pub within_fetch : Numbers Extent Extent → List ℕ → ℕ
+within_fetch n cvd =
+    if_allowed (within_set_off cvd (set_in n cvd)) (lists_in (set_in n cvd) (all_vids (set_in n cvd)) + segments_in (set_in n cvd) (all_vids (set_in n cvd)))
+
+abbrev pub advise_fetch : Numbers Extent Extent → List ℕ → ℕ → ℕ → ℕ
+advise_fetch n cvd a b = if_allowed (advise_off cvd a b (set_in n cvd)) (lists_in (set_in n cvd) (all_vids (set_in n cvd)))
 
 abbrev pub command_fetch : Numbers Extent Extent → List ℕ → Command → ℕ
 command_fetch n user command = fetch (reads_of n user command)

@@ -9,7 +9,7 @@
 --     IsOther refusal result ..      a query of a shape that isn't built was refused, and nothing else was done
 --     IfNoFile P reply      this holds where the reply is that there is no such file
 --     Acts d s t w result ..      where the store is at a World, a command does what it means, or is stopped in it
-use Rattle.std.specs.Prelude.{◌≡◌, ◌≢◌, ◌≤◌, ◌-◌, ◌^◌, ◌⊎◌, min, ℕ, Bool, true, false, List, [], ◌∷◌, ◌++◌, length, Option, Some, None, Result, Ok, Err, MatchResult}
+use Rattle.std.specs.Prelude.{◌≡◌, ◌≤◌, ◌-◌, ◌^◌, ◌⊎◌, min, ℕ, Bool, true, false, List, [], ◌∷◌, ◌++◌, length, Option, Some, None, Result, Ok, Err, MatchResult}
 use Rattle.std.specs.List.{All}
 use Rattle.ov_host.specs.declared.area.Area.TheVariants.{Pages}
 use Rattle.ov_host.specs.Host.{Rose, State}
@@ -19,7 +19,6 @@ use Rattle.law_runs.specs.Serving.{Breaks, Does}
 use Rattle.ov_catalog.specs.Reached.{IfThere}
 use Rattle.ov_checkout.specs.declared.text.Checkout.{Checkout}
 use Rattle.ov_fetch.specs.Extents.{page_bytes}
-use Rattle.ov_fetch.specs.Scans.{rows_of as rows_in}
 use Rattle.ov_model.specs.Act.{Deed, Session, commit_deed, commit_refusal, commit_rows, does, format_one, merge_of, refuses, repeated_key, schema_with, with_rows}
 use Rattle.ov_model.specs.Csv.{text_of}
 use Rattle.ov_model.specs.Line.{Comment, Line}
@@ -31,16 +30,15 @@ use Rattle.ov_model.specs.declared.refusal.Refusal.{Refusal}
 use Rattle.ov_model.specs.declared.refusal.Refusal.TheVariants as no
 use Rattle.ov_model.specs.declared.reply.Reply.TheVariants as says
 use Rattle.ov_optimize.specs.Damages.{HasBadPart, HasHighRid}
-use Rattle.ov_read.specs.Agreement.{list_of}
 use Rattle.ov_read.specs.Damages.{HasBadList}
-use Rattle.ov_read.specs.Found.{IsScanned}
-use Rattle.ov_segment.specs.declared.numbered.Record.{Record}
 use Rattle.ov_value.specs.declared.column.Column.{Column}
 use Rattle.ov_value.specs.declared.schema_err.SchemaErr.{SchemaErr}
 use Rattle.ov_value.specs.Shapes.{Shape}
 use Rattle.ov_value.specs.Spelling.{IsRow}
 use Rattle.ov_store.specs.Beginning.{IsShort}
-use Rattle.ov_session.specs.Reads.{Own, Nought, Versions, Steps, Later, Reads, Source, RowsOf, ParentsOf, PlanOf, ListsOf, SegmentsOf, LastOf, Wanted, last_vid, reads_of}
+use Rattle.ov_registry.specs.Last.{AreLast, IsLastDamaged}
+use Rattle.ov_staging.specs.Changing.{IsChangeDamaged}
+use Rattle.ov_session.specs.Reads.{Own, Nought, Versions, Steps, Later, Reads, Source, RowsOf, ParentsOf, PlanOf, ListsOf, SegmentsOf, LastOf, ChangeOf, Wanted, advise_off, reads_of, within_set_off}
 use Rattle.ov_session.specs.Stepping.{IsStepDamaged}
 use Rattle.ov_session.specs.declared.changing.Asked.{Asked}
 use Rattle.ov_session.specs.declared.changing.Asked.TheVariants as asked
@@ -90,23 +88,6 @@ IsPlanDamaged cvd p q held s page = (optimize_off held.numbers cvd p q ≡ None)
 
 -- ---- by its row
 
--- the rows of the last version, as they are read
-pub record IsLast (set : Set) (s : State) (rows : List Row) : Type 0 where
-  pub records : List Record
-  pub pick : List ℕ
-  pub scanned : IsScanned (page_bytes s) set records (length set.versions) pick
-  pub rows_are : rows ≡ rows_in scanned.found
-
--- those of a dataset that may not be there, where the host tells its bytes
-abbrev pub AreLast : Option Set → State → List Row → Type 0
-AreLast None s rows = rows ≡ []
-AreLast (Some set) s rows = s.tells ≡ true → IsLast set s rows
-
--- and a key stands twice among them: this is the first page of the version's list
-abbrev pub IsKeyTwice : Set → State → ℕ → Type 0
-IsKeyTwice set s page =
-    s.tells ≡ true → (rows : List Row) × IsLast set s rows × (repeated_key set.schema [] 1 rows ≢ None) × (page ≡ (list_of set (length set.versions)).page)
-
 -- of a file with the columns that are added: rows that the numbers don't refuse; the parents are tested by the schema before it grows
 abbrev pub AreTaken : Held → Shape → List Row → Type 0
 AreTaken held schema rows = (length rows ≤ 1000000) × (repeated_key schema [] 1 rows ≡ None) × (format_one held.journal.format true rows ≡ None)
@@ -129,6 +110,23 @@ IsListsDamaged set s page = s.tells ≡ true → HasBadList (page_bytes s) set (
 abbrev pub IsSegmentsDamaged : Set → State → ℕ → Type 0
 IsSegmentsDamaged set s page = s.tells ≡ true → HasBadPart (page_bytes s) set page
 
+-- within a budget: the lists of a dataset, and once these were whole its segments, where the numbers refuse nothing
+abbrev pub AreListsDamaged : List ℕ → Held → State → ℕ → Type 0
+AreListsDamaged cvd held s page =
+    (within_set_off cvd (set_in held.numbers cvd) ≡ None) × IfSet (λ set. IsListsDamaged set s page) (set_in held.numbers cvd)
+
+abbrev pub IsWithinDamaged : List ℕ → Held → State → ℕ → Type 0
+IsWithinDamaged cvd held s page =
+    (within_set_off cvd (set_in held.numbers cvd) ≡ None)
+    × (IfSet (λ set. IsListsDamaged set s page) (set_in held.numbers cvd)
+    ⊎ (((other : ℕ) → IfSet (λ set. IsListsDamaged set s other) (set_in held.numbers cvd) → ⊥)
+    × IfSet (λ set. IsSegmentsDamaged set s page) (set_in held.numbers cvd)))
+
+-- of an advice the lists alone
+abbrev pub IsAdviceDamaged : List ℕ → ℕ → ℕ → Held → State → ℕ → Type 0
+IsAdviceDamaged cvd a b held s page =
+    (advise_off cvd a b (set_in held.numbers cvd) ≡ None) × IfSet (λ set. IsListsDamaged set s page) (set_in held.numbers cvd)
+
 -- what is read of these versions is damaged
 abbrev pub IsBad : Source → Staged → Held → State → ℕ → Type 0
 IsBad (RowsOf set vids) stage held s page = IsDamagedIn set vids s page
@@ -136,7 +134,8 @@ IsBad (ParentsOf set wanted) stage held s page = IsParentsDamaged wanted wanted.
 IsBad (PlanOf set) stage held s page = IfSet (λ d. IsDamagedFor d s page) set
 IsBad (ListsOf set) stage held s page = IfSet (λ d. IsListsDamaged d s page) set
 IsBad (SegmentsOf set) stage held s page = IfSet (λ d. IsSegmentsDamaged d s page) set
-IsBad (LastOf set) stage held s page = IsDamagedIn set (last_vid set) s page ⊎ IfSet (λ d. IsKeyTwice d s page) set
+IsBad (LastOf set) stage held s page = IsLastDamaged set s page
+IsBad (ChangeOf which set rows) stage held s page = IsChangeDamaged which set rows held s page
 
 -- the first of them that is names the page
 abbrev pub AreBad : List Source → Staged → Held → State → ℕ → Type 0

@@ -4,6 +4,7 @@ pub mod Commands
 pub mod Bounds
 pub mod Standing
 pub mod Reads
+pub mod Registering
 pub mod Replying
 pub mod Stepping
 pub mod Damages

@@ -4,8 +4,8 @@
 --                user is then
 --     reads_of n user command      the row of a command; who may ask it is decided before, but for a `run`
 --     fetch row      how many bytes of pages it may fetch; nothing where the numbers refuse it
-use Rattle.std.specs.Prelude.{ℕ, ◌+◌, Bool, false, not, nat_lt, if◌then◌else◌, List, [], ◌∷◌, ◌++◌, length, Option, Some, None, Result, Ok, Err, is_some}
-use Rattle.std.specs.Option.{option_or, option_map, option_and_then}
+use Rattle.std.specs.Prelude.{ℕ, ◌+◌, Bool, false, not, nat_lt, if◌then◌else◌, List, [], ◌∷◌, ◌++◌, length, map, Option, Some, None, Result, Ok, Err, is_some}
+use Rattle.std.specs.Option.{option_or, option_and_then}
 use Rattle.ov_host.specs.declared.area.Extent.{Extent}
 use Rattle.ov_value.specs.declared.column.Column.{Column}
 use Rattle.ov_value.specs.declared.schema_err.SchemaErr.{SchemaErr}
@@ -15,20 +15,23 @@ use Rattle.ov_value.specs.Rows.{value_at}
 use Rattle.ov_value.specs.Shapes.{Shape}
 use Rattle.ov_catalog.specs.Numbers.{Numbers, nothing_yet}
 use Rattle.ov_model.specs.Act.{columns_of, if_so, is_threshold, schema_with}
-use Rattle.ov_model.specs.Asking.{name_read}
 use Rattle.ov_model.specs.Book.{Row}
 use Rattle.ov_model.specs.Deed.{file_of_table}
 use Rattle.ov_model.specs.Forms.{schema_refusal}
-use Rattle.ov_model.specs.Known.{join_off_by}
-use Rattle.ov_model.specs.QueryTexts.{Asked, BadByte, NoQuery, AsksQuery, AsksJoin, asked_of}
-use Rattle.ov_model.specs.Registry.{as_text, both, is_number, is_same_schema, stage_name, stage_schema, table_in, users_name, users_schema, vids_staged}
-use Rattle.ov_model.specs.Users.{is_reserved, permit_names}
+use Rattle.ov_model.specs.Registry.{as_text, both, is_number, stage_name, stage_schema, table_in, table_row, users_name, vids_staged, with_row}
+use Rattle.ov_model.specs.Users.{is_reserved}
 use Rattle.ov_model.specs.declared.command.Command.{Command}
 use Rattle.ov_model.specs.declared.command.Command.TheVariants as asks
 use Rattle.ov_model.specs.declared.refusal.Refusal.{Refusal}
 use Rattle.ov_model.specs.declared.refusal.Refusal.TheVariants as no
-use Rattle.ov_query.specs.Queries.{asked_off, known_in, vids_read}
-use Rattle.ov_read.specs.Sizes.{bytes_for, list_bytes_for, segment_bytes_for}
+use Rattle.ov_query.specs.Queries.{Reading, query_off, query_reads}
+pub use Rattle.ov_query.specs.Queries.{bytes_in}
+use Rattle.ov_read.specs.Sizes.{list_bytes_for, segment_bytes_for}
+use Rattle.ov_registry.specs.declared.registry.Registry.{Registry}
+use Rattle.ov_registry.specs.declared.registry.Registry.TheVariants as registry
+use Rattle.ov_staging.specs.Reading.{foreign_off}
+use Rattle.ov_staging.specs.Tables.{table_rows}
+use Rattle.ov_staging.specs.Users.{config_off, create_off, user_rows}
 use Rattle.ov_session.specs.Errors.{plan_refusal}
 use Rattle.ov_store.specs.Committing.{Set, parents_off_in}
 use Rattle.ov_store.specs.Planning.{optimize_off}
@@ -59,6 +62,9 @@ pub data Source : Type 0 where
   SegmentsOf : (set : Option Set) → Source
   -- the rows of the last version of a dataset of the registry, in which no key may stand twice
   LastOf : (set : Option Set) → Source
+  -- what the one Commit of that dataset reads, where it is there: the last version, as the parent of these rows of it, and the
+  -- partition that they join
+  ChangeOf : (which : Registry) (set : Option Set) (rows : List Row → List Row) → Source
 
 -- what it reads of what it makes itself: nothing, its versions' parents, or what so many steps read
 pub data Own : Type 0 where
@@ -104,11 +110,7 @@ pub record Reads : Type 0 where
 
 -- ---- how many bytes that is
 
--- the pages of the lists of these versions, and of the partitions that serve them
-abbrev pub bytes_in : Option Set → List ℕ → ℕ
-bytes_in None vids = 0
-bytes_in (Some set) vids = bytes_for set vids
-
+-- of their lists alone, and of the partitions alone
 abbrev pub lists_in : Option Set → List ℕ → ℕ
 lists_in None vids = 0
 lists_in (Some set) vids = list_bytes_for set vids
@@ -129,6 +131,7 @@ source_bytes (PlanOf set) = bytes_in set (all_vids set)
 source_bytes (ListsOf set) = lists_in set (all_vids set)
 source_bytes (SegmentsOf set) = segments_in set (all_vids set)
 source_bytes (LastOf set) = bytes_in set (last_vid set)
+source_bytes (ChangeOf which set rows) = bytes_in set (last_vid set)
 
 abbrev pub bytes_of_all : List Source → ℕ
 bytes_of_all [] = 0
@@ -149,11 +152,6 @@ fetch row = if_allowed row.off (bytes_of_all (row.always ++ row.if_done))
 abbrev pub there_off : List ℕ → Option Set → Option Refusal
 there_off cvd None = Some (no.NoCvd cvd)
 there_off cvd (Some set) = None
-
--- 76
-abbrev pub registry_off : Shape → Option Set → Option Refusal
-registry_off schema None = None
-registry_off schema (Some set) = if_so (not (is_same_schema set.schema schema)) no.ForeignRegistry
 
 -- 18 and 22 of a plan within a budget
 abbrev pub within_set_off : List ℕ → Option Set → Option Refusal
@@ -187,7 +185,7 @@ commit_row_off n cvd vids added = option_or (refused cvd (parents_off_in (set_in
 abbrev pub stage_off : Numbers Extent Extent → List ℕ → List ℕ → List ℕ → Option Refusal
 stage_off n cvd vids table =
     option_or (if_so (not (is_name table)) (no.BadName table))
-    (option_or (registry_off stage_schema (set_in n stage_name))
+    (option_or (foreign_off stage_schema (set_in n stage_name))
     (option_or (if_so (nat_lt 1000 (length vids)) no.TooManyListed) (refused cvd (scan_off n cvd vids))))
 
 -- ---- rows
@@ -204,13 +202,21 @@ abbrev pub given_in : Option (List ℕ) → File
 given_in None = Unused
 given_in (Some file) = Given
 
-abbrev pub checkout_reads : Numbers Extent Extent → List ℕ → List ℕ → Option (List ℕ) → Option (List ℕ) → Reads
-checkout_reads n cvd vids file None =
+-- the row of a table that is staged
+abbrev pub number_in : Option Set → ℕ
+number_in None = 0
+number_in (Some set) = set.number
+
+abbrev pub staged_rows : Numbers Extent Extent → List ℕ → List ℕ → List ℕ → List ℕ → List Row → List Row
+staged_rows n user cvd vids table rows = with_row rows (table_row user table cvd (number_in (set_in n cvd)) vids)
+
+abbrev pub checkout_reads : Numbers Extent Extent → List ℕ → List ℕ → List ℕ → Option (List ℕ) → Option (List ℕ) → Reads
+checkout_reads n user cvd vids file None =
     record (refusing (refused cvd (scan_off n cvd vids))) { always = RowsOf (set_in n cvd) vids ∷ []; file = given_in file }
-checkout_reads n cvd vids file (Some table) =
+checkout_reads n user cvd vids file (Some table) =
     record (refusing (stage_off n cvd vids table)) {
       always = LastOf (set_in n stage_name) ∷ [];
-      if_done = RowsOf (set_in n cvd) vids ∷ [];
+      if_done = RowsOf (set_in n cvd) vids ∷ ChangeOf registry.Stage (set_in n stage_name) (staged_rows n user cvd vids table) ∷ [];
       changes = Once;
       file = GivenBehind;
     }
@@ -238,27 +244,13 @@ abbrev pub staged_read : Numbers Extent Extent → List ℕ → List ℕ → Lis
 staged_read n user table message rows =
     staged_parents n (file_of_table user table) message (option_and_then (staged_in n) (table_in rows user table))
 
--- 40 and 41; 71; 10; of a query the first lineage's 12, per listed version 12 and 13, and 42 to 45; of a join 12, the right side's, and
--- 42 and 43
-abbrev pub run_off : Numbers Extent Extent → List ℕ → Asked → Option Refusal
-run_off n user (BadByte at) = asked_off n user (BadByte at)
-run_off n user NoQuery = asked_off n user NoQuery
-run_off n user (AsksQuery query) = asked_off n user (AsksQuery query)
-run_off n user (AsksJoin join) =
-    option_or (permit_names user (join.left.cvd ∷ join.right.cvd ∷ []))
-    (join_off_by join (option_map known_in (set_in n join.left.cvd)) (option_map known_in (set_in n join.right.cvd)))
-
--- of a join the left side, and then the right one, each with its own bytes
-abbrev pub run_sources : Numbers Extent Extent → Asked → List Source
-run_sources n (BadByte at) = []
-run_sources n NoQuery = []
-run_sources n (AsksQuery query) = RowsOf (set_in n (name_read query.source)) (vids_read query.source (set_in n (name_read query.source))) ∷ []
-run_sources n (AsksJoin join) =
-    RowsOf (set_in n join.left.cvd) (join.left.vid ∷ []) ∷ RowsOf (set_in n join.right.cvd) (join.right.vid ∷ []) ∷ []
+-- of a `run`: the versions of a query; of a join those of the left side, and then those of the right one, each with its own bytes
+abbrev pub rows_read : List Reading → List Source
+rows_read reads = map (λ r. RowsOf r.set r.vids) reads
 
 abbrev pub reads_of : Numbers Extent Extent → List ℕ → Command → Reads
 reads_of n user (asks.Init cvd schema file) = record (refusing (refused cvd (new_off n cvd))) { changes = Once; file = Taken }
-reads_of n user (asks.Checkout cvd vids file table) = checkout_reads n cvd vids file table
+reads_of n user (asks.Checkout cvd vids file table) = checkout_reads n user cvd vids file table
 reads_of n user (asks.Commit cvd vids file message added) =
     record (refusing (commit_row_off n cvd vids (columns_of added))) {
       if_done = parents_read n (record { cvd = cvd; vids = vids; file = file; message = message; added = columns_of added });
@@ -266,13 +258,13 @@ reads_of n user (asks.Commit cvd vids file message added) =
       file = Taken;
     }
 reads_of n user (asks.CommitStaged owner table message) =
-    record (refusing (registry_off stage_schema (set_in n stage_name))) {
+    record (refusing (foreign_off stage_schema (set_in n stage_name))) {
       always = LastOf (set_in n stage_name) ∷ [];
       later = Some (record { registry = set_in n stage_name; sources = staged_read n owner table message });
       changes = Once;
       file = Taken;
     }
-reads_of n user (asks.Run text) = record (refusing (run_off n user (asked_of text))) { always = run_sources n (asked_of text) }
+reads_of n user (asks.Run text) = record (refusing (query_off n user text)) { always = rows_read (query_reads n text) }
 reads_of n user (asks.Optimize cvd p q) =
     record (refusing (plan_refused cvd (optimize_off n cvd p q))) {
       always = PlanOf (set_in n cvd) ∷ [];
@@ -296,19 +288,24 @@ reads_of n user asks.Checkpoint = record none { changes = Once }
 reads_of n user (asks.Generate cvd seed rows versions) =
     record (refusing (refused cvd (new_off n cvd))) { own = Versions cvd seed rows versions; changes = Several }
 reads_of n user (asks.CreateUser name) =
-    record (refusing (option_or (if_so (not (is_name name)) (no.BadName name)) (registry_off users_schema (set_in n users_name)))) {
+    record (refusing (create_off name (set_in n users_name))) {
       always = LastOf (set_in n users_name) ∷ [];
+      if_done = ChangeOf registry.Users (set_in n users_name) (user_rows name) ∷ [];
       changes = Once;
     }
 reads_of n user (asks.Config name) =
-    record (refusing (option_or (registry_off users_schema (set_in n users_name)) (if_so (not (is_name name)) (no.NoUser name)))) {
+    record (refusing (config_off name (set_in n users_name))) {
       always = LastOf (set_in n users_name) ∷ [];
       becomes = Some name;
     }
 reads_of n user asks.Whoami = none
 reads_of n user (asks.Unstage owner table) =
-    record (refusing (registry_off stage_schema (set_in n stage_name))) { always = LastOf (set_in n stage_name) ∷ []; changes = Once }
-reads_of n user asks.Tables = record (refusing (registry_off stage_schema (set_in n stage_name))) { always = LastOf (set_in n stage_name) ∷ [] }
+    record (refusing (foreign_off stage_schema (set_in n stage_name))) {
+      always = LastOf (set_in n stage_name) ∷ [];
+      if_done = ChangeOf registry.Stage (set_in n stage_name) (table_rows owner table) ∷ [];
+      changes = Once;
+    }
+reads_of n user asks.Tables = record (refusing (foreign_off stage_schema (set_in n stage_name))) { always = LastOf (set_in n stage_name) ∷ [] }
 
 -- What it changes, and what it does with a file, hangs on no numbers and no user.
 abbrev pub changes_of : Command → Changes

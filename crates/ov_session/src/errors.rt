@@ -1,11 +1,13 @@
 // Why a line ends the run, and what an error of the store comes to.
 ghost use Rattle.std.specs.Prelude.{◌≡◌, true, [], Some, IfOk, IfErr, is_some};
 ghost use Rattle.ov_session.specs.declared.errors.EndErr.TheVariants as ending;
-ghost use Rattle.ov_session.specs.Errors.{by_file, end_of, is_nameless, plan_end, plan_reply, reply_of};
+ghost use Rattle.ov_session.specs.Errors.{by_file, by_staging, choose_end, choose_reply, end_of, is_nameless, plan_end, plan_reply, reply_of};
 
+use ov_choose::ChooseErr;
 use ov_files::FileErr;
 use ov_host::Area;
 use ov_model::{Refusal, Reply};
+use ov_staging::StagingErr;
 use ov_store::{PlanErr, StoreErr};
 use ov_value::Txt;
 use std::alloc::AllocError;
@@ -40,6 +42,18 @@ impl From<FileErr> for EndErr {
             FileErr::Stage => EndErr::Stage,
             FileErr::Memory => EndErr::Memory,
         }
+    }
+}
+
+/// The reply to a command of the registry, or why the run ends there.
+pub fn ended(made: Result<Reply, StagingErr>) -> Result<Reply, EndErr>
+    ensures { result ≡ by_staging made }
+{
+    match made {
+        Ok(reply) => Ok(reply),
+        Err(StagingErr::Host) => Err(EndErr::Host),
+        Err(StagingErr::Memory) => Err(EndErr::Memory),
+        Err(StagingErr::Damaged { area, at }) => Err(EndErr::Damaged { area, at }),
     }
 }
 
@@ -117,6 +131,25 @@ pub fn plan_refused(off: PlanErr, name: Txt) -> Result<Reply, EndErr>
         PlanErr::BadThreshold => Refusal::BadThreshold,
         PlanErr::Migrating => Refusal::Migrating { cvd: name },
         PlanErr::NoNumbers => Refusal::NoNumbers { cvd: name },
+    };
+    Ok(Reply::Refused(refusal))
+}
+
+/// The reply to a command within a budget that nothing was chosen for, or why the run ends there. The dataset is named by `name`.
+pub fn choose_refused(off: ChooseErr, name: Txt, budget: u64) -> Result<Reply, EndErr>
+    ensures reply { IfOk result (λ reply. choose_reply name budget off ≡ Some reply) }
+    ensures end { IfErr result (λ why. choose_end off ≡ Some why) }
+{
+    let refusal = match off {
+        ChooseErr::Host => return Err(EndErr::Host),
+        ChooseErr::Memory => return Err(EndErr::Memory),
+        ChooseErr::Damaged { area, at } => return Err(EndErr::Damaged { area, at }),
+        ChooseErr::JournalFull => Refusal::JournalFull { steps: None },
+        ChooseErr::NoCvd => Refusal::NoCvd { cvd: name },
+        ChooseErr::BadThreshold => Refusal::BadThreshold,
+        ChooseErr::Migrating => Refusal::Migrating { cvd: name },
+        ChooseErr::NoThreshold { least } => Refusal::NoThreshold { budget, least },
+        ChooseErr::NoNumbers => Refusal::NoNumbers { cvd: name },
     };
     Ok(Reply::Refused(refusal))
 }

@@ -4,6 +4,7 @@
 //! `law_runs`'s `Serves`: the World before one of its moves or after it, and of the replies a prefix.
 #![tactic(auto)]
 
+mod budgets;
 mod changing;
 mod checkpoints;
 mod errors;
@@ -11,6 +12,7 @@ mod generating;
 mod lines;
 mod planning;
 mod reading;
+mod registering;
 mod serving;
 mod stepping;
 mod users;

@@ -10,7 +10,8 @@ ghost use Rattle.ov_model.specs.declared.reply.Reply.TheVariants as says;
 ghost use Rattle.ov_core.specs.AtWorld.{IsAtWorld};
 ghost use Rattle.law_runs.specs.Serving.{session_of};
 ghost use Rattle.ov_fetch.specs.Extents.{Looked};
-ghost use Rattle.ov_query.specs.Queries.{IsQueryDamaged, IsReplyBy, query_fetch, query_off, taken};
+ghost use Rattle.ov_query.specs.Joining.{IsReplyFor};
+ghost use Rattle.ov_query.specs.Queries.{IsQueryDamaged, query_fetch, query_off};
 ghost use Rattle.ov_store.specs.Scanning.{IsDamagedIn, IsUndamaged, IsUnscanned, scan_off, set_in};
 ghost use Rattle.ov_store.specs.declared.errors.StoreErr.{StoreErr as StoreErrValue};
 ghost use Rattle.ov_session.specs.Bounds.{bytes_in};
@@ -119,8 +120,8 @@ pub fn checkout<H: Host, T: Stage>(
     }
 }
 
-/// The reply to a query of a user: an answer, which reads each page of its versions once, or the first refusal, which reads
-/// nothing.
+/// The reply to a query or join of a user: an answer, which reads each page of its versions once, of a join those of the left side
+/// and then those of the right one; or the first refusal, which reads nothing, but 46, which the rows of both sides decide.
 pub fn run_query<H: Host>(
     alloc: Global,
     store: &Store,
@@ -140,12 +141,12 @@ pub fn run_query<H: Host>(
     ensures whole { (page : ℕ) → (H.state host.old).tells ≡ true
         → OnOk result (IsQueryDamaged store.now.held.numbers user.now text.now (H.state host.old) page → ⊥) }
     ensures undamaged { (w : World) → IsAtWorld w store.now.held (H.state host.old) → IfErr result IsNoDamage }
-    ensures reply { IfOk result (IsReplyBy (query_off store.now.held.numbers user.now text.now)) }
+    ensures reply { IfOk result (IsReplyFor store.now.held.numbers user.now (asked_of text.now) (H.state host.old)) }
     ensures memory { (refusal : RefusalValue) → query_off store.now.held.numbers user.now text.now ≡ Some refusal
         → IfErr result (λ why. why ≡ EndErr.Memory) }
     ensures seen { IfOk result (IfNoFile ⊥) }
     ensures told { (w : World) (s : Session) → IsAtWorld w store.now.held (H.state host.old) → s.user ≡ user.now
-        → IfOk result (λ reply. run_deed w s (taken (asked_of text.now)) ≡ tells s reply) }
+        → IfOk result (λ reply. run_deed w s (asked_of text.now) ≡ tells s reply) }
 {
     match answer_to(alloc, store, host, user.as_str(), text.as_str()) {
         Ok(reply) => Ok(reply),

@@ -26,6 +26,7 @@ ghost use Rattle.ov_session.specs.Standing.{IsAtSilently, IsAtSome, IsIdleBy, Is
 ghost use Rattle.ov_session.specs.Stepping.{NoneBehind, begins_plan, line_begins};
 ghost use Rattle.ov_session.specs.Commands.{Acts, Attended, Goes, IfNoFile, IsDamageOf, IsDamaged, IsNoDamage, IsOther, IsSaid, IsUnsaid, MeetsDamage, is_comment_in, is_comment_of, is_refused};
 
+use crate::budgets::{advise, optimize_within};
 use crate::changing::{commit, drop_cvd, init};
 use crate::checkpoints::checkpoint;
 use crate::errors::EndErr;
@@ -33,6 +34,7 @@ use crate::generating::make_versions;
 use crate::lines::{asked, refusal};
 use crate::planning::{migrate, optimize};
 use crate::reading::{checkout, layout, log, ls, run_query};
+use crate::registering::{create_user, tables, unstage, whoami};
 use crate::stepping::take_steps;
 use ov_generate::Wanted;
 use ov_host::{Host, Stage};
@@ -114,6 +116,8 @@ fn answer<H: Host, T: Stage>(
         } => checkout(alloc, store, host, stage, cvd, vids.as_slice(), file),
         Command::Run { text } => run_query(alloc, store, host, user, &text),
         Command::Optimize { cvd, p, q } => optimize(store, host, cvd, p, q),
+        Command::OptimizeWithin { cvd, budget } => optimize_within(alloc, store, host, cvd, budget),
+        Command::Advise { cvd, budget, a, b } => advise(alloc, store, host, cvd, budget, a, b),
         Command::Migrate { count } => migrate(store, host, count),
         Command::Layout { cvd } => Ok(layout(alloc, store, cvd)?),
         Command::Log { cvd } => Ok(log(alloc, store, cvd)?),
@@ -134,6 +138,10 @@ fn answer<H: Host, T: Stage>(
             };
             make_versions(alloc, store, host, wanted)
         }
+        Command::CreateUser { name } => create_user(alloc, store, host, name),
+        Command::Whoami => whoami(alloc, user),
+        Command::Unstage { user: owner, table } => unstage(alloc, store, host, owner, table),
+        Command::Tables => tables(alloc, store, host, user),
         _ => unreachable!(),
     }
 }

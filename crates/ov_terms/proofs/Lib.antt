@@ -6,5 +6,6 @@ pub mod Found
 pub mod FoundTruths
 pub mod Among
 pub mod OfRows
+pub mod OfVersions
 pub mod Joined
 pub mod AtVersion

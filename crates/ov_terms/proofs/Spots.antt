@@ -5,7 +5,7 @@ use Rattle.std.proofs.lemmas.List.{drop_all, map-append}
 use Rattle.std.specs.Prelude.{filter, if◌then◌else◌, Option}
 use Rattle.ov_model.specs.Book.{Row}
 use Rattle.ov_model.specs.Answers.{Pair}
-use Rattle.ov_terms.specs.Finding.{in_version, is_taken, TakesSame}
+use Rattle.ov_terms.specs.Finding.{in_version, is_taken, TakesNone, TakesSame}
 use Rattle.ov_terms.specs.declared.found_cond.FoundCond.{FoundCond}
 use Rattle.ov_terms.specs.declared.spot.Spot.{Spot}
 use Rattle.ov_terms.specs.Standing.{pair_at, pairs_among, pairs_at, row_in, spots_in}
@@ -100,3 +100,13 @@ pub same-kept : (guard made : Option FoundCond) (rows : List Row) (vid : ℕ) (p
 same-kept guard made rows vid [] same = refl
 same-kept guard made rows vid (place ∷ places) same =
     ap₂ (λ t l. cond t (pair_at rows (record { vid = vid; place = place }) ∷ l) l) (same (row_in rows place)) (same-kept guard made rows vid places same)
+
+-- a WHERE that takes nothing keeps what was kept
+none-kept : (guard : Option FoundCond) (ps : List Pair) → TakesNone guard → filter (is_taken guard) ps ≡ []
+none-kept guard [] none = refl
+none-kept guard (p ∷ ps) none = ap₂ (λ t l. cond t (p ∷ l) l) (none p) (none-kept guard ps none)
+
+pub kept-none : (guard made : Option FoundCond) (rows : List Row) (vid : ℕ) (places : List ℕ) (kept : List Pair) → TakesSame vid guard made → TakesNone made
+    → kept ≡ kept ++ filter (is_taken guard) (pairs_at rows (spots_in vid places))
+kept-none guard made rows vid places kept same none =
+    sym (ap (λ l. kept ++ l) (sym (same-kept guard made rows vid places same) ∙ none-kept made (pairs_at rows (spots_in vid places)) none) ∙ append-nil kept)

@@ -1,5 +1,5 @@
 -- Truths, one after another.
-use Rattle.std.proofs.Common.{◌≡◌, ◌<◌, ◌+◌, ◌∷◌, ◌∙◌, [], ℕ, List, Bool, true, false, refl, ap, sym, suc, add-one, length, map, drop, drop-cons, get_or}
+use Rattle.std.proofs.Common.{◌≡◌, ◌<◌, ◌+◌, ◌∷◌, ◌∙◌, [], ℕ, zero, List, Bool, true, false, refl, ap, sym, suc, add-one, arith, length, map, drop, drop-cons, get_or}
 use Rattle.std.specs.Prelude.{Option, Some, None}
 use Rattle.std.specs.List.{list_any}
 use Rattle.ov_model.specs.Answers.{is_true, is_version, truth_and, truth_any, truth_every, truth_or}
@@ -36,6 +36,19 @@ or-assoc None (Some false) c = refl
 or-assoc None None (Some true) = refl
 or-assoc None None (Some false) = refl
 or-assoc None None None = refl
+
+and-false : (a : Option Bool) → truth_and a (Some false) ≡ Some false
+and-false None = refl
+and-false (Some true) = refl
+and-false (Some false) = refl
+
+-- all of conditions of which one is false is false
+pub has-false : {X : Type 0} (says : X → Option Bool) (xs : List X) (i : ℕ) (x : X) → i < length xs → x ≡ get_or xs i x → says x ≡ Some false
+    → truth_every (map says xs) ≡ Some false
+has-false says [] i x lt is never = absurd (omega (arith, lt))
+has-false says (y ∷ ys) zero x lt is never = ap (λ t. truth_and t (truth_every (map says ys))) (ap says (sym is) ∙ never)
+has-false says (y ∷ ys) (suc i) x lt is never =
+    ap (truth_and (says y)) (has-false says ys i x (omega (arith, lt)) is never) ∙ and-false (says y)
 
 pub some-true : (b : Bool) → b ≡ is_true (Some b)
 some-true true = refl

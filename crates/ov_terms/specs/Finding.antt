@@ -4,10 +4,12 @@
 --     found_truth group condition      what a condition says of a group; found_holds, of WHERE or HAVING
 --     shown_by items group      the row of an answer that a group gives
 --     IsOfRow condition      it says the same of a row in every version
+--     IsOfVersion condition      it says the same of all rows of a version
+--     IsNever condition      it is false of each group; TakesNone, a WHERE that takes no pair
 --     SaysSame vid condition made      what is made of a condition says the same of each row in this version; TakesSame, of WHERE
 --     IsLookup, IsFoundTerm, IsFoundOperand, IsFound, IsFoundGuard, IsFoundItems      it is found of what a query names, in a schema: they say the
 --         same of all groups of pairs
-use Rattle.std.specs.Prelude.{◌≡◌, ℕ, pos, Bool, true, List, [], ◌∷◌, length, map, filter, slice_index_or, Option, Some, None}
+use Rattle.std.specs.Prelude.{◌≡◌, ℕ, pos, Bool, true, false, List, [], ◌∷◌, length, map, filter, slice_index_or, Option, Some, None}
 use Rattle.std.specs.List.{list_any}
 use Rattle.ov_value.specs.declared.value.Value.{Value}
 use Rattle.ov_value.specs.declared.value.Value.TheVariants as value
@@ -112,6 +114,26 @@ SaysSame vid found made = (row : Row) → found_truth (in_version vid row ∷ []
 
 abbrev pub TakesSame : ℕ → Option FoundCond → Option FoundCond → Type 0
 TakesSame vid guard made = (row : Row) → is_taken made (in_version vid row) ≡ is_taken guard (in_version vid row)
+
+-- it says the same of all rows of a version
+abbrev pub IsLookupOfVersion : Lookup → Type 0
+IsLookupOfVersion found = (vid : ℕ) (a b : Row) → value_at found (in_version vid a) ≡ value_at found (in_version vid b)
+
+abbrev pub IsTermOfVersion : FoundTerm → Type 0
+IsTermOfVersion found = (vid : ℕ) (a b : Row) → found_term (in_version vid a ∷ []) found ≡ found_term (in_version vid b ∷ []) found
+
+abbrev pub IsOperandOfVersion : FoundOperand → Type 0
+IsOperandOfVersion found = (vid : ℕ) (a b : Row) → found_operand (in_version vid a ∷ []) found ≡ found_operand (in_version vid b ∷ []) found
+
+abbrev pub IsOfVersion : FoundCond → Type 0
+IsOfVersion found = (vid : ℕ) (a b : Row) → found_truth (in_version vid a ∷ []) found ≡ found_truth (in_version vid b ∷ []) found
+
+-- it is false of each group
+abbrev pub IsNever : FoundCond → Type 0
+IsNever found = (group : List Pair) → found_truth group found ≡ Some false
+
+abbrev pub TakesNone : Option FoundCond → Type 0
+TakesNone guard = (pair : Pair) → is_taken guard pair ≡ false
 
 abbrev pub IsLookup : Shape → Col → Lookup → Type 0
 IsLookup schema col found = (pair : Pair) → value_at found pair ≡ value_in schema pair col

@@ -1,7 +1,7 @@
 //! A side of a comparison whose column was found.
 
 ghost use Rattle.std.specs.Prelude.{◌≡◌, IfOk, IsTrue};
-ghost use Rattle.ov_terms.specs.Finding.{IsFoundOperand, IsOperandOfRow};
+ghost use Rattle.ov_terms.specs.Finding.{IsFoundOperand, IsOperandOfRow, IsOperandOfVersion};
 
 use crate::found_term::FoundTerm;
 use ov_model::Operand;
@@ -47,6 +47,16 @@ impl FoundOperand {
     {
         match self {
             FoundOperand::Term(term) => term.is_of_row(),
+            FoundOperand::Literal(_) => true,
+        }
+    }
+
+    /// Whether it is the same of all rows of a version.
+    pub(crate) fn is_of_version(&self) -> bool
+        ensures { IsTrue result → IsOperandOfVersion self.now }
+    {
+        match self {
+            FoundOperand::Term(term) => term.is_of_version(),
             FoundOperand::Literal(_) => true,
         }
     }

@@ -1,7 +1,7 @@
 //! A term whose column was found.
 
 ghost use Rattle.std.specs.Prelude.{IsTrue};
-ghost use Rattle.ov_terms.specs.Finding.{IsFoundTerm, IsTermOfRow};
+ghost use Rattle.ov_terms.specs.Finding.{IsFoundTerm, IsTermOfRow, IsTermOfVersion};
 
 use crate::lookup::Lookup;
 use ov_model::Term;
@@ -44,6 +44,20 @@ impl FoundTerm {
             | FoundTerm::Sum(found)
             | FoundTerm::Min(found)
             | FoundTerm::Max(found) => found.is_of_row(),
+        }
+    }
+
+    /// Whether it is the same of all rows of a version.
+    pub(crate) fn is_of_version(self) -> bool
+        ensures { IsTrue result → IsTermOfVersion self }
+    {
+        match self {
+            FoundTerm::CountAll => true,
+            FoundTerm::Plain(found)
+            | FoundTerm::Count(found)
+            | FoundTerm::Sum(found)
+            | FoundTerm::Min(found)
+            | FoundTerm::Max(found) => found.is_of_version(),
         }
     }
 }

@@ -16,6 +16,7 @@ mod lineages;
 mod lookup;
 mod matches;
 mod of_rows;
+mod of_versions;
 mod order;
 mod rows;
 mod seen;

@@ -3,7 +3,7 @@
 ghost use Rattle.std.specs.Prelude.{◌≡◌, IsTrue};
 ghost use Rattle.std.specs.List.{position_or_len};
 ghost use Rattle.std.specs.Str.{bytes_eq};
-ghost use Rattle.ov_terms.specs.Finding.{IsLookup, IsLookupOfRow};
+ghost use Rattle.ov_terms.specs.Finding.{IsLookup, IsLookupOfRow, IsLookupOfVersion};
 
 use ov_model::Col;
 use ov_typing::Shape;
@@ -39,6 +39,16 @@ impl Lookup {
         match self {
             Lookup::Vid => false,
             Lookup::Column(_) | Lookup::Nowhere => true,
+        }
+    }
+
+    /// Whether all rows of a version have the same value.
+    pub(crate) fn is_of_version(self) -> bool
+        ensures { IsTrue result → IsLookupOfVersion self }
+    {
+        match self {
+            Lookup::Column(_) => false,
+            Lookup::Vid | Lookup::Nowhere => true,
         }
     }
 }

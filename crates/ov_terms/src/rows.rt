@@ -5,11 +5,11 @@ ghost use Rattle.ov_model.specs.Answers.{row_of};
 ghost use Rattle.ov_terms.specs.Finding.{IsGuardOfRow, found_term, in_version, is_taken, shown_by, verdicts};
 ghost use Rattle.ov_terms.specs.Standing.{pair_at, pairs_at, pairs_among, spots_in};
 
-use crate::at_version::guard_at;
 use crate::found_cond::FoundCond;
 use crate::found_items::FoundItems;
 use crate::found_term::FoundTerm;
 use crate::of_rows::is_guard_of_row;
+use crate::of_versions::takes_none;
 use crate::spot::Spot;
 use crate::table::Table;
 use ov_fetch::Pick;
@@ -42,8 +42,8 @@ impl<'a> Table<'a> {
     /// The spots that WHERE takes, of versions whose rows stand at these positions: version by version, in this order. What
     /// WHERE drops takes no memory.
     ///
-    /// Where WHERE doesn't name the version, it is asked once for each record, which takes a byte. Where it does, its lists of
-    /// versions are gone through once for each version.
+    /// Where WHERE doesn't name the version, it is asked once for each record, which takes a byte. Where it does, what it
+    /// says of the version alone is decided once for each version, and where WHERE is false then, no row of it is looked at.
     pub fn kept(
         &self,
         alloc: Global,
@@ -170,7 +170,10 @@ impl<'a> Table<'a> {
         ensures { OnOk result (pairs_at self.now kept.new.items
             ≡ pairs_at self.now kept.old.items ++ filter (is_taken guard.now) (pairs_at self.now (spots_in vid places.now))) }
     {
-        let here = guard_at(alloc, vid, guard)?;
+        let here = self.guard_at(alloc, vid, guard)?;
+        if takes_none(&here) {
+            return Ok(());
+        }
         self.keep_by_spot(vid, places, &here, kept)
     }
 

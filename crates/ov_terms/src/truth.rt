@@ -127,8 +127,7 @@ impl<'a> Table<'a> {
     }
 }
 
-/// Whether a version is one of these.
-pub(crate) fn is_one_of(vid: u32, vids: &[u32]) -> bool
+fn is_one_of(vid: u32, vids: &[u32]) -> bool
     ensures { result ≡ list_any (nat_eq vid) vids.now }
 {
     vids.iter().any(|other| vid == *other)

@@ -36,7 +36,7 @@ use Rattle.ov_session.specs.Bounds.{IsFetchedBy, IsReading, IsReadingCommand, ma
 use Rattle.ov_session.proofs.Acting.{user_either, user_stays}
 use Rattle.ov_session.proofs.Bounds.{reading_fetched}
 use Rattle.ov_session.specs.Commands.{AreAnyBad, AreBad, AreRowsOf, DamagedBy, IsBad, IsDamageOf, IsDamaged, IsNoDamage, IsParentsDamaged, IsWideDamagedIn, is_comment_in, is_comment_of}
-use Rattle.ov_session.specs.Reads.{Own, Nought, Versions, Steps, File, Unused, Taken, Given, GivenBehind, Later, Reads, Source, RowsOf, ParentsOf, PlanOf, ListsOf, SegmentsOf, LastOf, Wanted, file_of, reads_of}
+use Rattle.ov_session.specs.Reads.{Own, Nought, Versions, Steps, File, Unused, Taken, Given, GivenBehind, Later, Reads, Source, RowsOf, ParentsOf, PlanOf, ListsOf, SegmentsOf, LastOf, ChangeOf, Wanted, file_of, reads_of}
 use Rattle.ov_session.specs.Damages.{IsCommandMet, IsMetBy, IsStepMet}
 use Rattle.ov_session.specs.Replying.{IsReplied, IsReplyTo}
 use Rattle.ov_session.specs.Standing.{IsIdle, IsIdleBy, IsIdleFor, IsIdleOn}
@@ -218,6 +218,7 @@ module _ (stage staged : Staged) (files : staged.files ≡ stage.files) (told : 
   bad_as (ListsOf set) is = is
   bad_as (SegmentsOf set) is = is
   bad_as (LastOf set) is = is
+  bad_as (ChangeOf which set rows) is = is
 
 module _ (stage staged : Staged) (files : staged.files ≡ stage.files) (told : staged.tells ≡ stage.tells) (held : Held) (s : State) (page : ℕ) where
   all_as : (sources : List Source) → AreBad sources stage held s page → AreBad sources staged held s page

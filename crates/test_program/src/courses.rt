@@ -29,6 +29,10 @@ pub const PEOPLE: Course = Course {
             "run SELECT vid, COUNT(*), SUM(score) FROM CVD people GROUP BY vid\n",
             &[],
         ),
+        (
+            "run SELECT LEFT.name, RIGHT.score FROM VERSION 1 OF CVD people JOIN VERSION 2 OF CVD people ON LEFT.id = RIGHT.id\n",
+            &[],
+        ),
         ("commit people -v 7 -f b.csv -m none\n", &[]),
         ("commit people -v 1,2 -f m.csv -m both\n", &[]),
         ("optimize people -d 1/1\n", &[]),
@@ -44,7 +48,7 @@ pub const PEOPLE: Course = Course {
         ("checkout other -v 1 -f out.csv\n", &[]),
     ],
     probe: "ls\nlog people\nlog other\nlayout people\ncheckout people -v 1\ncheckout people -v 2,1\ncheckout people -v 3\ncheckout other -v 1\n",
-    calls: [125, 2, 15],
+    calls: [132, 2, 15],
 };
 
 /// Each version of a made dataset is a move of its own. At 2/3 there are two targets, of which the second one keeps a segment: a
@@ -56,17 +60,18 @@ pub const MADE: Course = Course {
             "generate g 7 3 3\n",
             &["generate g 7 3 1\n", "generate g 7 3 2\n"],
         ),
+        ("advise g -s 99 -m 3/2\n", &[]),
         ("optimize g -d 2/3\n", &[]),
         ("migrate 1\n", &[]),
         ("migrate 2\n", &["migrate 1\n"]),
         ("migrate 1\n", &[]),
-        ("optimize g -d 1/1\n", &[]),
+        ("optimize g -s 99\n", &[]),
         ("migrate 1\n", &[]),
         ("drop g\n", &[]),
         ("migrate 1\n", &[]),
     ],
     probe: "ls\nlog g\nlayout g\ncheckout g -v 1\ncheckout g -v 2\ncheckout g -v 3\nmigrate 9\nlayout g\ncheckout g -v 3,2\n",
-    calls: [134, 2, 0],
+    calls: [138, 2, 0],
 };
 
 /// A step comes behind each reply, a refusal too, until the plan has ended.
@@ -88,6 +93,23 @@ pub const BEHIND: Course = Course {
     ],
     probe: "ls\nlog people\nlayout people\ncheckout people -v 1\ncheckout people -v 3,2\nmigrate 9\nlayout people\ncheckout people -v 3,2\n",
     calls: [138, 2, 9],
+};
+
+/// Users, each a version more of a dataset of the store's own, and staged tables, of which there are none.
+pub const USERS: Course = Course {
+    steps: false,
+    lines: &[
+        ("whoami\n", &[]),
+        ("tables\n", &[]),
+        ("create_user ann\n", &[]),
+        ("create_user ann\n", &[]),
+        ("create_user bob\n", &[]),
+        ("unstage admin.work\n", &[]),
+        ("checkpoint\n", &[]),
+        ("create_user cy\n", &[]),
+    ],
+    probe: "ls\nlog orpheus_users\ncheckout orpheus_users -v 1\ncheckout orpheus_users -v 2\ncheckout orpheus_users -v 3\n",
+    calls: [70, 2, 0],
 };
 
 /// Versions without a row, which take no page.

@@ -1,6 +1,6 @@
 //! Calls of the ends that fail: the run ends, and what it leaves is as after a stop.
 use crate::courses::{
-    BEHIND, Course, Fails, MADE, PEOPLE, State, Way, allows, left_by, run_first, states_of,
+    BEHIND, Course, Fails, MADE, PEOPLE, State, USERS, Way, allows, left_by, run_first, states_of,
 };
 use crate::ends::{self, NEVER, host_of, run_on, stage_of};
 use ov_files::put_file;
@@ -62,6 +62,12 @@ fn a_fault_of_an_end_ends_the_run(rt: HostRuntime) -> Result<(), Fail> {
 #[test]
 fn a_fault_in_a_made_dataset_ends_the_run(rt: HostRuntime) -> Result<(), Fail> {
     assert!(rt; holds(rt.alloc(), &MADE)?);
+    Ok(())
+}
+
+#[test]
+fn a_fault_between_users_ends_the_run(rt: HostRuntime) -> Result<(), Fail> {
+    assert!(rt; holds(rt.alloc(), &USERS)?);
     Ok(())
 }
 

@@ -1,6 +1,6 @@
 //! Stops within runs: what the store opened again says is what it said after the moves that were answered, or after one more.
 use crate::courses::{
-    BARE, BEHIND, Course, MADE, NONE, PEOPLE, State, Way, allows, left_by, run_first, said,
+    BARE, BEHIND, Course, MADE, NONE, PEOPLE, State, USERS, Way, allows, left_by, run_first, said,
     state_after, states_of,
 };
 use ov_host::Area;
@@ -76,6 +76,12 @@ fn a_stop_leaves_what_was_answered(rt: HostRuntime) -> Result<(), Fail> {
 #[test]
 fn a_stop_in_a_made_dataset_leaves_its_first_moves(rt: HostRuntime) -> Result<(), Fail> {
     assert!(rt; holds(rt.alloc(), &MADE)?);
+    Ok(())
+}
+
+#[test]
+fn a_stop_between_users_leaves_them_before_or_after(rt: HostRuntime) -> Result<(), Fail> {
+    assert!(rt; holds(rt.alloc(), &USERS)?);
     Ok(())
 }
 

@@ -4,7 +4,7 @@ use Rattle.ov_model.specs.Asking.{name_read}
 use Rattle.ov_model.specs.declared.refusal.Refusal.{Refusal}
 use Rattle.ov_store.specs.Scanning.{set_in}
 use Rattle.ov_query.specs.Answering.{IsListedBy}
-use Rattle.ov_query.specs.Queries.{IsDamagedRead, IsReplyBy, IsUnread, Set, bytes_read}
+use Rattle.ov_query.specs.Queries.{IsDamagedRead, IsReplyBy, IsUnread, Set, bytes_read, one_read}
 use Rattle.ov_query.proofs.Listed.{by_lists, listed_refused, world_lists}
 use Rattle.ov_query.proofs.Numbering.{refuses_so}
 use Rattle.ov_query.proofs.answering.reply_to.Goals as goal
@@ -17,7 +17,7 @@ returns-in-Query-clause-fetched g c =
     in let n = c.args.store.now.held.numbers
     in by_lists n query c.in-Query.resolved (subst (IsListedBy (set_in n (name_read query.source)) query) c.in-Query.is c.in_ok-resolved.ensures)
     (λ (o : Option Refusal) (set : Option Set) (vids : List ℕ). (g.H.Host.state c.reply_to_lists-in-Query.new.host).fetched
-    ≤ (g.H.Host.state c.args.host.now).fetched + bytes_read o set vids)
+    ≤ (g.H.Host.state c.args.host.now).fetched + bytes_read o (one_read set vids))
     c.reply_to_lists-in-Query.ensures.fetched
 
 pub returns-in-Query-clause-unread : goal.returns-in-Query-clause-unread
@@ -42,7 +42,7 @@ returns-in-Query-clause-why g c =
     in let n = c.args.store.now.held.numbers
     in by_lists n query c.in-Query.resolved (subst (IsListedBy (set_in n (name_read query.source)) query) c.in-Query.is c.in_ok-resolved.ensures)
     (λ (o : Option Refusal) (set : Option Set) (vids : List ℕ). IfErr c.reply_to_lists-in-Query.result
-    (IsUnread o set vids (g.H.Host.state c.args.host.now) (g.H.Host.state c.reply_to_lists-in-Query.new.host)))
+    (IsUnread o (one_read set vids) (g.H.Host.state c.args.host.now) (g.H.Host.state c.reply_to_lists-in-Query.new.host)))
     c.reply_to_lists-in-Query.ensures.why
 
 pub returns-in-Query-clause-whole : goal.returns-in-Query-clause-whole
@@ -50,7 +50,7 @@ returns-in-Query-clause-whole g c = λ page told.
     let query = c.args.query.now
     in let n = c.args.store.now.held.numbers
     in by_lists n query c.in-Query.resolved (subst (IsListedBy (set_in n (name_read query.source)) query) c.in-Query.is c.in_ok-resolved.ensures)
-    (λ (o : Option Refusal) (set : Option Set) (vids : List ℕ). OnOk c.reply_to_lists-in-Query.result (IsDamagedRead o set vids (g.H.Host.state c.args.host.now) page → ⊥))
+    (λ (o : Option Refusal) (set : Option Set) (vids : List ℕ). OnOk c.reply_to_lists-in-Query.result (IsDamagedRead o (one_read set vids) (g.H.Host.state c.args.host.now) page → ⊥))
     (c.reply_to_lists-in-Query.ensures.whole page told)
 
 pub returns-in-Query-clause-world : goal.returns-in-Query-clause-world

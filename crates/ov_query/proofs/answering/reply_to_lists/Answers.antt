@@ -9,7 +9,7 @@ use Rattle.ov_model.specs.declared.query.Query.{Query}
 use Rattle.ov_model.specs.declared.refusal.Refusal.{Refusal}
 use Rattle.ov_store.specs.Scanning.{set_in}
 use Rattle.ov_typing.specs.Refusing.{refusal_of}
-use Rattle.ov_query.specs.Queries.{IsDamagedRead, IsReplyBy, IsUnread, bytes_read, vids_read}
+use Rattle.ov_query.specs.Queries.{IsDamagedRead, IsReplyBy, IsUnread, bytes_read, one_read, vids_read}
 use Rattle.ov_query.proofs.Answered.{allowed_same, by_same, found_in, if_some, never_off, refused_by, refuses_kinds, refuses_nothing, refuses_version, version_not_70, whole_read}
 use Rattle.ov_query.proofs.Numbering.{answered_with, missing_so, named_so, refuses_so}
 use Rattle.ov_query.proofs.answering.reply_to_lists.Goals as goal
@@ -73,7 +73,7 @@ returns-in-Ok-clause-fetched g c =
     let n = c.args.store.now.held.numbers
     in by_same n c.in-Ok.typed.query c.args.query.now
     (λ (q : Query) (o : Option Refusal). (g.H.Host.state c.read_and_answer.new.host).fetched
-    ≤ (g.H.Host.state c.args.host.now).fetched + bytes_read o (set_in c.args.store.now.held.numbers (name_read q.source)) (vids_read q.source (set_in c.args.store.now.held.numbers (name_read q.source))))
+    ≤ (g.H.Host.state c.args.host.now).fetched + bytes_read o (one_read (set_in c.args.store.now.held.numbers (name_read q.source)) (vids_read q.source (set_in c.args.store.now.held.numbers (name_read q.source)))))
     c.in-Ok.ensures.ok.0
     (refuses_nothing c.catalog.result.now.numbers c.args.store.now.held.numbers c.as_str.result.now c.args.query.now (sets.set_in c.in-Some.d.now) c.in_ok-refusal.field-0 c.requires.plain
     c.catalog.ensures (c.as_str.ensures.text ∙ c.name_of-name.ensures) c.in-Some.ensures.found c.in_ok-refusal.ensures.refused c.in_default-2.not-Some c.in-Ok.ensures.fits)
@@ -98,8 +98,7 @@ returns-in-Ok-clause-reply g c =
 pub returns-in-Ok-clause-why : goal.returns-in-Ok-clause-why
 returns-in-Ok-clause-why g c =
     by_same c.args.store.now.held.numbers c.in-Ok.typed.query c.args.query.now
-    (λ (q : Query) (o : Option Refusal). IfErr c.read_and_answer.result (IsUnread o (set_in c.args.store.now.held.numbers (name_read q.source))
-    (vids_read q.source (set_in c.args.store.now.held.numbers (name_read q.source))) (g.H.Host.state c.args.host.now) (g.H.Host.state c.read_and_answer.new.host)))
+    (λ (q : Query) (o : Option Refusal). IfErr c.read_and_answer.result (IsUnread o (one_read (set_in c.args.store.now.held.numbers (name_read q.source)) (vids_read q.source (set_in c.args.store.now.held.numbers (name_read q.source)))) (g.H.Host.state c.args.host.now) (g.H.Host.state c.read_and_answer.new.host)))
     c.in-Ok.ensures.ok.0
     (refuses_nothing c.catalog.result.now.numbers c.args.store.now.held.numbers c.as_str.result.now c.args.query.now (sets.set_in c.in-Some.d.now) c.in_ok-refusal.field-0 c.requires.plain
     c.catalog.ensures (c.as_str.ensures.text ∙ c.name_of-name.ensures) c.in-Some.ensures.found c.in_ok-refusal.ensures.refused c.in_default-2.not-Some c.in-Ok.ensures.fits)
@@ -108,8 +107,7 @@ returns-in-Ok-clause-why g c =
 pub returns-in-Ok-clause-whole : goal.returns-in-Ok-clause-whole
 returns-in-Ok-clause-whole g c = λ page told.
     by_same c.args.store.now.held.numbers c.in-Ok.typed.query c.args.query.now
-    (λ (q : Query) (o : Option Refusal). OnOk c.read_and_answer.result (IsDamagedRead o (set_in c.args.store.now.held.numbers (name_read q.source))
-    (vids_read q.source (set_in c.args.store.now.held.numbers (name_read q.source))) (g.H.Host.state c.args.host.now) page → ⊥))
+    (λ (q : Query) (o : Option Refusal). OnOk c.read_and_answer.result (IsDamagedRead o (one_read (set_in c.args.store.now.held.numbers (name_read q.source)) (vids_read q.source (set_in c.args.store.now.held.numbers (name_read q.source)))) (g.H.Host.state c.args.host.now) page → ⊥))
     c.in-Ok.ensures.ok.0
     (refuses_nothing c.catalog.result.now.numbers c.args.store.now.held.numbers c.as_str.result.now c.args.query.now (sets.set_in c.in-Some.d.now) c.in_ok-refusal.field-0 c.requires.plain
     c.catalog.ensures (c.as_str.ensures.text ∙ c.name_of-name.ensures) c.in-Some.ensures.found c.in_ok-refusal.ensures.refused c.in_default-2.not-Some c.in-Ok.ensures.fits)

@@ -11,6 +11,7 @@ use Rattle.ov_session.proofs.Dealing.{checkout_asked, commit_asked}
 use Rattle.ov_session.specs.Commands.{Acts}
 use Rattle.std.proofs.Common.{◌+◌, ℕ, List, Some, None, true, false}
 use Rattle.std.specs.Prelude.{◌≤◌}
+use Rattle.ov_session.proofs.Choices.{advise_there, looked_acts, within_refuses, within_there}
 use Rattle.ov_session.proofs.Bounds.{fetched_still, off_there, unread_command}
 use Rattle.ov_session.proofs.Replying.{seen_missed}
 use Rattle.ov_session.proofs.Migrating.{fetched_same, none_to_take}
@@ -30,13 +31,15 @@ use Rattle.ov_session.proofs.Numbering.{journal_looked}
 use Rattle.ov_session.specs.Commands.{IsScanDamaged, MeetsDamage}
 use Rattle.law_forms.specs.BuiltShapes.{if_built}
 use Rattle.ov_query.specs.Queries.{query_off}
-use Rattle.ov_session.proofs.Querying.{query_acts, query_other}
+use Rattle.ov_session.proofs.Querying.{query_acts}
 use Rattle.ov_session.proofs.Rows.{checkout_idle, checkout_met, commit_damaged, commit_fetched, commit_refused, damages_wider, fetched_refused, map_ok, plan_damaged, plan_fetched, plan_met, plan_there, refused_there, run_damaged, run_fetched, run_met, run_refused}
 use Rattle.ov_model.specs.declared.command.Command.TheVariants as asks
-use Rattle.ov_session.proofs.Shaping.{done, off, ok_err}
+use Rattle.ov_session.proofs.Shaping.{off, ok_err, text_built}
 use Rattle.ov_session.specs.Commands.{IsCommitDamaged, IsDamageOf, IsDamaged}
 use Rattle.std.specs.Prelude.{IfErr, IsErrOf, OnOk}
 use Rattle.ov_session.specs.declared.errors.EndErr.TheVariants as ending
+use Rattle.ov_session.proofs.Registered.{whoami_registered}
+use Rattle.ov_session.specs.Registering.{IsRegistered}
 use Rattle.ov_session.proofs.serving.answer.Goals as goal
 
 pub returns-in-Init-clause-acts : goal.returns-in-Init-clause-acts
@@ -358,7 +361,6 @@ pub returns-in-Run-clause-whole : goal.returns-in-Run-clause-whole
 returns-in-Run-clause-whole g c = λ page told.
     map_ok _ _ c.run_query.result
     (λ whole built met. whole (run_met c.args.user.now c.in-Run.text (g.T.Stage.staged c.args.stage.now) c.args.store.now.held (g.H.Host.state c.args.host.now) page
-    (subst (λ (command : Command). if_built command ≡ done command) c.in-Run.is built)
     (subst (λ (command : Command). MeetsDamage c.args.user.now command (g.T.Stage.staged c.args.stage.now) c.args.store.now.held (g.H.Host.state c.args.host.now) page) c.in-Run.is met)))
     (c.run_query.ensures.whole page told)
 
@@ -387,15 +389,14 @@ returns-in-Run-clause-idle g c =
 
 pub returns-in-Run-clause-other : goal.returns-in-Run-clause-other
 returns-in-Run-clause-other g c = λ refusal is.
-    query_other c.args.store.now.held c.args.user.now c.in-Run.text c.args.store.now (g.T.Stage.staged c.args.stage.now) (g.H.Host.state c.args.host.now) (g.H.Host.state c.run_query.new.host)
-    refusal c.run_query.result (subst (λ (command : Command). if_built command ≡ off refusal) c.in-Run.is is) c.run_query.ensures.unread c.run_query.ensures.reply c.run_query.ensures.memory
+    absurd (ok_err (asks.Run c.in-Run.text) refusal (sym (text_built c.in-Run.text) ∙ subst (λ (command : Command). if_built command ≡ off refusal) c.in-Run.is is))
 
 pub returns-in-Run-clause-acts : goal.returns-in-Run-clause-acts
 returns-in-Run-clause-acts g c = λ w built told at.
     let s = session_of (g.T.Stage.staged c.args.stage.now).files c.args.user.now
     in subst (λ (command : Command). Acts (permitted w s command) s s w c.run_query.result c.args.store.now.held c.args.store.now.held (g.H.Host.state c.args.host.now) (g.H.Host.state c.run_query.new.host)) (sym c.in-Run.is)
     (query_acts w s c.in-Run.text c.args.store.now.held (g.H.Host.state c.args.host.now) (g.H.Host.state c.run_query.new.host) at c.run_query.ensures.looked
-    (subst (λ (command : Command). if_built command ≡ done command) c.in-Run.is built) c.run_query.result (c.run_query.ensures.told w s at refl))
+    c.run_query.result (c.run_query.ensures.told w s at refl))
 
 -- ---- what a commit reads
 
@@ -512,6 +513,113 @@ returns-in-Optimize-clause-acts g c = λ w built told at.
     in subst (λ (command : Command). Acts (permitted w s command) s s w c.optimize.result c.args.store.now.held c.optimize.new.store.held (g.H.Host.state c.args.host.now) (g.H.Host.state c.optimize.new.host)) (sym c.in-Optimize.is)
     (c.optimize.ensures.acts w s at)
 
+-- ---- a plan within a budget
+
+pub returns-in-OptimizeWithin-clause-still : goal.returns-in-OptimizeWithin-clause-still
+returns-in-OptimizeWithin-clause-still g c = λ is. absurd (subst IsReadingCommand c.in-OptimizeWithin.is is)
+
+pub returns-in-OptimizeWithin-clause-fetched : goal.returns-in-OptimizeWithin-clause-fetched
+returns-in-OptimizeWithin-clause-fetched g c =
+    subst (λ (command : Command). IsFetched c.args.user.now command c.args.store.now.held c.optimize_within.new.store.held (IsErrOf c.optimize_within.result ending.Host) (g.H.Host.state c.args.host.now)
+    (g.H.Host.state c.optimize_within.new.host)) (sym c.in-OptimizeWithin.is) c.optimize_within.ensures.fetched
+
+pub returns-in-OptimizeWithin-clause-unread : goal.returns-in-OptimizeWithin-clause-unread
+returns-in-OptimizeWithin-clause-unread g c = λ is.
+    let there = within_there c.in-OptimizeWithin.cvd (set_in c.args.store.now.held.numbers c.in-OptimizeWithin.cvd)
+    (subst (λ (command : Command). is_command_off c.args.store.now.held.numbers c.args.user.now command ≡ true) c.in-OptimizeWithin.is is)
+    in ap (λ (s : State). s.fetched) (c.optimize_within.ensures.unread there.0 there.1)
+
+pub returns-in-OptimizeWithin-clause-damaged : goal.returns-in-OptimizeWithin-clause-damaged
+returns-in-OptimizeWithin-clause-damaged g c =
+    subst (λ (command : Command). IfErr c.optimize_within.result (IsDamageOf (IsDamaged c.args.user.now command (g.T.Stage.staged c.args.stage.now) c.args.store.now.held c.optimize_within.new.store.held
+    (g.H.Host.state c.optimize_within.new.host)))) (sym c.in-OptimizeWithin.is) c.optimize_within.ensures.damaged
+
+pub returns-in-OptimizeWithin-clause-begins_none : goal.returns-in-OptimizeWithin-clause-begins_none
+returns-in-OptimizeWithin-clause-begins_none g c = λ quiet none.
+    let o = set_in c.args.store.now.held.numbers c.in-OptimizeWithin.cvd
+    in let there = within_there c.in-OptimizeWithin.cvd o (not-false _ (subst (λ (command : Command). begins_plan c.args.store.now.held.numbers command ≡ false) c.in-OptimizeWithin.is quiet))
+    in refused_none c.optimize_within.result c.args.store.now c.optimize_within.new.store (c.optimize_within.ensures.begins_none (within_refuses o there.0 there.1)) none
+
+pub returns-in-OptimizeWithin-clause-whole : goal.returns-in-OptimizeWithin-clause-whole
+returns-in-OptimizeWithin-clause-whole g c = λ page told.
+    map_ok _ _ c.optimize_within.result
+    (λ whole built met. whole (subst (λ (command : Command). MeetsDamage c.args.user.now command (g.T.Stage.staged c.args.stage.now) c.args.store.now.held (g.H.Host.state c.args.host.now) page) c.in-OptimizeWithin.is met))
+    (c.optimize_within.ensures.whole page told)
+
+pub returns-in-OptimizeWithin-clause-missed : goal.returns-in-OptimizeWithin-clause-missed
+returns-in-OptimizeWithin-clause-missed g c = seen_missed _ c.optimize_within.result c.optimize_within.ensures.seen
+
+pub returns-in-OptimizeWithin-clause-idle : goal.returns-in-OptimizeWithin-clause-idle
+returns-in-OptimizeWithin-clause-idle g c =
+    subst (λ (command : Command). IfErr c.optimize_within.result (λ e. IsIdleBy command e c.args.store.now c.optimize_within.new.store (g.T.Stage.staged c.args.stage.now) (g.T.Stage.staged c.args.stage.now)
+    (g.H.Host.state c.args.host.now) (g.H.Host.state c.optimize_within.new.host))) (sym c.in-OptimizeWithin.is)
+    (idle_stored c.args.store.now c.optimize_within.new.store (g.T.Stage.staged c.args.stage.now) (g.T.Stage.staged c.args.stage.now) (g.H.Host.state c.args.host.now) (g.H.Host.state c.optimize_within.new.host)
+    c.optimize_within.result c.optimize_within.ensures.host_alone c.optimize_within.ensures.idle refl)
+
+pub returns-in-OptimizeWithin-clause-other : goal.returns-in-OptimizeWithin-clause-other
+returns-in-OptimizeWithin-clause-other g c = λ refusal is. absurd (ok_err _ refusal (subst (λ (command : Command). if_built command ≡ off refusal) c.in-OptimizeWithin.is is))
+
+pub returns-in-OptimizeWithin-clause-acts : goal.returns-in-OptimizeWithin-clause-acts
+returns-in-OptimizeWithin-clause-acts g c = λ w built told at.
+    let s = session_of (g.T.Stage.staged c.args.stage.now).files c.args.user.now
+    in subst (λ (command : Command). Acts (permitted w s command) s s w c.optimize_within.result c.args.store.now.held c.optimize_within.new.store.held (g.H.Host.state c.args.host.now)
+    (g.H.Host.state c.optimize_within.new.host)) (sym c.in-OptimizeWithin.is) (c.optimize_within.ensures.acts w s at)
+
+-- ---- an advice
+
+pub returns-in-Advise-clause-still : goal.returns-in-Advise-clause-still
+returns-in-Advise-clause-still g c = λ is. refl
+
+pub returns-in-Advise-clause-fetched : goal.returns-in-Advise-clause-fetched
+returns-in-Advise-clause-fetched g c =
+    subst (λ (command : Command). IsFetched c.args.user.now command c.args.store.now.held c.args.store.now.held (IsErrOf c.advise.result ending.Host) (g.H.Host.state c.args.host.now) (g.H.Host.state c.advise.new.host))
+    (sym c.in-Advise.is) c.advise.ensures.fetched
+
+pub returns-in-Advise-clause-unread : goal.returns-in-Advise-clause-unread
+returns-in-Advise-clause-unread g c = λ is.
+    let there = advise_there c.in-Advise.cvd c.in-Advise.a c.in-Advise.b (set_in c.args.store.now.held.numbers c.in-Advise.cvd)
+    (subst (λ (command : Command). is_command_off c.args.store.now.held.numbers c.args.user.now command ≡ true) c.in-Advise.is is)
+    in ap (λ (s : State). s.fetched) (c.advise.ensures.unread there.0 there.1)
+
+pub returns-in-Advise-clause-whole : goal.returns-in-Advise-clause-whole
+returns-in-Advise-clause-whole g c = λ page told.
+    map_ok _ _ c.advise.result
+    (λ whole built met. whole (subst (λ (command : Command). MeetsDamage c.args.user.now command (g.T.Stage.staged c.args.stage.now) c.args.store.now.held (g.H.Host.state c.args.host.now) page) c.in-Advise.is met))
+    (c.advise.ensures.whole page told)
+
+pub returns-in-Advise-clause-damaged : goal.returns-in-Advise-clause-damaged
+returns-in-Advise-clause-damaged g c =
+    subst (λ (command : Command). IfErr c.advise.result (IsDamageOf (IsDamaged c.args.user.now command (g.T.Stage.staged c.args.stage.now) c.args.store.now.held c.args.store.now.held (g.H.Host.state c.advise.new.host))))
+    (sym c.in-Advise.is) c.advise.ensures.damaged
+
+pub returns-in-Advise-clause-by_journal : goal.returns-in-Advise-clause-by_journal
+returns-in-Advise-clause-by_journal g c = λ by fine.
+    journal_looked c.args.store.now.held (g.H.Host.state c.args.host.now) (g.H.Host.state c.advise.new.host) c.advise.ensures.looked by
+
+pub returns-in-Advise-clause-at : goal.returns-in-Advise-clause-at
+returns-in-Advise-clause-at g c = λ w at.
+    on_any _ c.advise.result (at_looked w c.args.store.now.held (g.H.Host.state c.args.host.now) (g.H.Host.state c.advise.new.host) at c.advise.ensures.looked)
+
+pub returns-in-Advise-clause-missed : goal.returns-in-Advise-clause-missed
+returns-in-Advise-clause-missed g c = seen_missed _ c.advise.result c.advise.ensures.seen
+
+pub returns-in-Advise-clause-idle : goal.returns-in-Advise-clause-idle
+returns-in-Advise-clause-idle g c =
+    subst (λ (command : Command). IfErr c.advise.result (λ e. IsIdleBy command e c.args.store.now c.args.store.now (g.T.Stage.staged c.args.stage.now) (g.T.Stage.staged c.args.stage.now)
+    (g.H.Host.state c.args.host.now) (g.H.Host.state c.advise.new.host))) (sym c.in-Advise.is)
+    (result_unmoved c.args.store.now c.args.store.now (g.T.Stage.staged c.args.stage.now) (g.T.Stage.staged c.args.stage.now) (g.H.Host.state c.args.host.now) (g.H.Host.state c.advise.new.host) c.advise.result
+    (record { store = refl; looked = c.advise.ensures.looked }) refl)
+
+pub returns-in-Advise-clause-other : goal.returns-in-Advise-clause-other
+returns-in-Advise-clause-other g c = λ refusal is. absurd (ok_err _ refusal (subst (λ (command : Command). if_built command ≡ off refusal) c.in-Advise.is is))
+
+pub returns-in-Advise-clause-acts : goal.returns-in-Advise-clause-acts
+returns-in-Advise-clause-acts g c = λ w built told at.
+    let s = session_of (g.T.Stage.staged c.args.stage.now).files c.args.user.now
+    in subst (λ (command : Command). Acts (permitted w s command) s s w c.advise.result c.args.store.now.held c.args.store.now.held (g.H.Host.state c.args.host.now) (g.H.Host.state c.advise.new.host))
+    (sym c.in-Advise.is)
+    (looked_acts _ s w c.args.store.now.held (g.H.Host.state c.args.host.now) (g.H.Host.state c.advise.new.host) at c.advise.ensures.looked c.advise.result (c.advise.ensures.told w s at))
+
 -- ---- its steps
 
 pub returns-in-Migrate-clause-still : goal.returns-in-Migrate-clause-still
@@ -594,3 +702,405 @@ returns-in-Checkpoint-clause-acts g c = λ w built told at.
     let s = session_of (g.T.Stage.staged c.args.stage.now).files c.args.user.now
     in subst (λ (command : Command). Acts (permitted w s command) s s w c.checkpoint.result c.args.store.now.held c.checkpoint.new.store.held (g.H.Host.state c.args.host.now) (g.H.Host.state c.checkpoint.new.host)) (sym c.in-Checkpoint.is)
     (c.checkpoint.ensures.acts w s at)
+
+-- ---- users and staged tables
+
+pub returns-in-CreateUser-clause-goes : goal.returns-in-CreateUser-clause-goes
+returns-in-CreateUser-clause-goes g c =
+    let served = subst (λ (command : Command). IsRegistered c.args.user.now command c.create_user.result c.args.store.now c.create_user.new.store (g.H.Host.state c.args.host.now) (g.H.Host.state c.create_user.new.host)) (sym c.in-CreateUser.is)
+    (c.create_user.ensures c.args.user.now)
+    in served.goes
+
+pub returns-in-CreateUser-clause-still : goal.returns-in-CreateUser-clause-still
+returns-in-CreateUser-clause-still g c =
+    let served = subst (λ (command : Command). IsRegistered c.args.user.now command c.create_user.result c.args.store.now c.create_user.new.store (g.H.Host.state c.args.host.now) (g.H.Host.state c.create_user.new.host)) (sym c.in-CreateUser.is)
+    (c.create_user.ensures c.args.user.now)
+    in served.still
+
+pub returns-in-CreateUser-clause-fetched : goal.returns-in-CreateUser-clause-fetched
+returns-in-CreateUser-clause-fetched g c =
+    let served = subst (λ (command : Command). IsRegistered c.args.user.now command c.create_user.result c.args.store.now c.create_user.new.store (g.H.Host.state c.args.host.now) (g.H.Host.state c.create_user.new.host)) (sym c.in-CreateUser.is)
+    (c.create_user.ensures c.args.user.now)
+    in served.fetched
+
+pub returns-in-CreateUser-clause-unread : goal.returns-in-CreateUser-clause-unread
+returns-in-CreateUser-clause-unread g c =
+    let served = subst (λ (command : Command). IsRegistered c.args.user.now command c.create_user.result c.args.store.now c.create_user.new.store (g.H.Host.state c.args.host.now) (g.H.Host.state c.create_user.new.host)) (sym c.in-CreateUser.is)
+    (c.create_user.ensures c.args.user.now)
+    in served.unread
+
+pub returns-in-CreateUser-clause-cause : goal.returns-in-CreateUser-clause-cause
+returns-in-CreateUser-clause-cause g c =
+    let served = subst (λ (command : Command). IsRegistered c.args.user.now command c.create_user.result c.args.store.now c.create_user.new.store (g.H.Host.state c.args.host.now) (g.H.Host.state c.create_user.new.host)) (sym c.in-CreateUser.is)
+    (c.create_user.ensures c.args.user.now)
+    in served.cause
+
+pub returns-in-CreateUser-clause-stage : goal.returns-in-CreateUser-clause-stage
+returns-in-CreateUser-clause-stage g c =
+    let served = subst (λ (command : Command). IsRegistered c.args.user.now command c.create_user.result c.args.store.now c.create_user.new.store (g.H.Host.state c.args.host.now) (g.H.Host.state c.create_user.new.host)) (sym c.in-CreateUser.is)
+    (c.create_user.ensures c.args.user.now)
+    in (λ is. absurd (served.host_alone is))
+
+pub returns-in-CreateUser-clause-damaged : goal.returns-in-CreateUser-clause-damaged
+returns-in-CreateUser-clause-damaged g c =
+    let served = subst (λ (command : Command). IsRegistered c.args.user.now command c.create_user.result c.args.store.now c.create_user.new.store (g.H.Host.state c.args.host.now) (g.H.Host.state c.create_user.new.host)) (sym c.in-CreateUser.is)
+    (c.create_user.ensures c.args.user.now)
+    in served.damaged (g.T.Stage.staged c.args.stage.now)
+
+pub returns-in-CreateUser-clause-begins_none : goal.returns-in-CreateUser-clause-begins_none
+returns-in-CreateUser-clause-begins_none g c =
+    let served = subst (λ (command : Command). IsRegistered c.args.user.now command c.create_user.result c.args.store.now c.create_user.new.store (g.H.Host.state c.args.host.now) (g.H.Host.state c.create_user.new.host)) (sym c.in-CreateUser.is)
+    (c.create_user.ensures c.args.user.now)
+    in (λ quiet none. served.begins_none none)
+
+pub returns-in-CreateUser-clause-whole : goal.returns-in-CreateUser-clause-whole
+returns-in-CreateUser-clause-whole g c =
+    let served = subst (λ (command : Command). IsRegistered c.args.user.now command c.create_user.result c.args.store.now c.create_user.new.store (g.H.Host.state c.args.host.now) (g.H.Host.state c.create_user.new.host)) (sym c.in-CreateUser.is)
+    (c.create_user.ensures c.args.user.now)
+    in (λ page told. map_ok _ _ c.create_user.result (λ clear built met. clear met) (served.whole (g.T.Stage.staged c.args.stage.now) page told))
+
+pub returns-in-CreateUser-clause-usable : goal.returns-in-CreateUser-clause-usable
+returns-in-CreateUser-clause-usable g c =
+    let served = subst (λ (command : Command). IsRegistered c.args.user.now command c.create_user.result c.args.store.now c.create_user.new.store (g.H.Host.state c.args.host.now) (g.H.Host.state c.create_user.new.host)) (sym c.in-CreateUser.is)
+    (c.create_user.ensures c.args.user.now)
+    in served.usable
+
+pub returns-in-CreateUser-clause-by_journal : goal.returns-in-CreateUser-clause-by_journal
+returns-in-CreateUser-clause-by_journal g c =
+    let served = subst (λ (command : Command). IsRegistered c.args.user.now command c.create_user.result c.args.store.now c.create_user.new.store (g.H.Host.state c.args.host.now) (g.H.Host.state c.create_user.new.host)) (sym c.in-CreateUser.is)
+    (c.create_user.ensures c.args.user.now)
+    in served.by_journal
+
+pub returns-in-CreateUser-clause-at : goal.returns-in-CreateUser-clause-at
+returns-in-CreateUser-clause-at g c =
+    let served = subst (λ (command : Command). IsRegistered c.args.user.now command c.create_user.result c.args.store.now c.create_user.new.store (g.H.Host.state c.args.host.now) (g.H.Host.state c.create_user.new.host)) (sym c.in-CreateUser.is)
+    (c.create_user.ensures c.args.user.now)
+    in served.at
+
+pub returns-in-CreateUser-clause-missed : goal.returns-in-CreateUser-clause-missed
+returns-in-CreateUser-clause-missed g c =
+    let served = subst (λ (command : Command). IsRegistered c.args.user.now command c.create_user.result c.args.store.now c.create_user.new.store (g.H.Host.state c.args.host.now) (g.H.Host.state c.create_user.new.host)) (sym c.in-CreateUser.is)
+    (c.create_user.ensures c.args.user.now)
+    in seen_missed _ c.create_user.result served.seen
+
+pub returns-in-CreateUser-clause-undamaged : goal.returns-in-CreateUser-clause-undamaged
+returns-in-CreateUser-clause-undamaged g c =
+    let served = subst (λ (command : Command). IsRegistered c.args.user.now command c.create_user.result c.args.store.now c.create_user.new.store (g.H.Host.state c.args.host.now) (g.H.Host.state c.create_user.new.host)) (sym c.in-CreateUser.is)
+    (c.create_user.ensures c.args.user.now)
+    in served.undamaged
+
+pub returns-in-CreateUser-clause-acts : goal.returns-in-CreateUser-clause-acts
+returns-in-CreateUser-clause-acts g c =
+    let served = subst (λ (command : Command). IsRegistered c.args.user.now command c.create_user.result c.args.store.now c.create_user.new.store (g.H.Host.state c.args.host.now) (g.H.Host.state c.create_user.new.host)) (sym c.in-CreateUser.is)
+    (c.create_user.ensures c.args.user.now)
+    in (λ w built told at. served.acts w (session_of (g.T.Stage.staged c.args.stage.now).files c.args.user.now) refl at)
+
+pub returns-in-CreateUser-clause-idle : goal.returns-in-CreateUser-clause-idle
+returns-in-CreateUser-clause-idle g c =
+    let served = subst (λ (command : Command). IsRegistered c.args.user.now command c.create_user.result c.args.store.now c.create_user.new.store (g.H.Host.state c.args.host.now) (g.H.Host.state c.create_user.new.host)) (sym c.in-CreateUser.is)
+    (c.create_user.ensures c.args.user.now)
+    in subst (λ (command : Command). IfErr c.create_user.result (λ e. IsIdleBy command e c.args.store.now c.create_user.new.store (g.T.Stage.staged c.args.stage.now) (g.T.Stage.staged c.args.stage.now) (g.H.Host.state c.args.host.now) (g.H.Host.state c.create_user.new.host))) (sym c.in-CreateUser.is)
+    (idle_stored c.args.store.now c.create_user.new.store (g.T.Stage.staged c.args.stage.now) (g.T.Stage.staged c.args.stage.now) (g.H.Host.state c.args.host.now) (g.H.Host.state c.create_user.new.host) c.create_user.result served.host_alone served.idle refl)
+
+pub returns-in-CreateUser-clause-other : goal.returns-in-CreateUser-clause-other
+returns-in-CreateUser-clause-other g c = λ refusal is. absurd (ok_err _ refusal (subst (λ (command : Command). if_built command ≡ off refusal) c.in-CreateUser.is is))
+
+pub returns-in-Whoami-clause-goes : goal.returns-in-Whoami-clause-goes
+returns-in-Whoami-clause-goes g c =
+    let served = subst (λ (command : Command). IsRegistered c.args.user.now command c.whoami.result c.args.store.now c.args.store.now (g.H.Host.state c.args.host.now) (g.H.Host.state c.args.host.now)) (sym c.in-Whoami.is)
+    (whoami_registered c.args.user.now c.args.store.now (g.H.Host.state c.args.host.now) c.whoami.result c.requires.call c.whoami.ensures.reply c.whoami.ensures.memory)
+    in served.goes
+
+pub returns-in-Whoami-clause-still : goal.returns-in-Whoami-clause-still
+returns-in-Whoami-clause-still g c =
+    let served = subst (λ (command : Command). IsRegistered c.args.user.now command c.whoami.result c.args.store.now c.args.store.now (g.H.Host.state c.args.host.now) (g.H.Host.state c.args.host.now)) (sym c.in-Whoami.is)
+    (whoami_registered c.args.user.now c.args.store.now (g.H.Host.state c.args.host.now) c.whoami.result c.requires.call c.whoami.ensures.reply c.whoami.ensures.memory)
+    in served.still
+
+pub returns-in-Whoami-clause-fetched : goal.returns-in-Whoami-clause-fetched
+returns-in-Whoami-clause-fetched g c =
+    let served = subst (λ (command : Command). IsRegistered c.args.user.now command c.whoami.result c.args.store.now c.args.store.now (g.H.Host.state c.args.host.now) (g.H.Host.state c.args.host.now)) (sym c.in-Whoami.is)
+    (whoami_registered c.args.user.now c.args.store.now (g.H.Host.state c.args.host.now) c.whoami.result c.requires.call c.whoami.ensures.reply c.whoami.ensures.memory)
+    in served.fetched
+
+pub returns-in-Whoami-clause-unread : goal.returns-in-Whoami-clause-unread
+returns-in-Whoami-clause-unread g c =
+    let served = subst (λ (command : Command). IsRegistered c.args.user.now command c.whoami.result c.args.store.now c.args.store.now (g.H.Host.state c.args.host.now) (g.H.Host.state c.args.host.now)) (sym c.in-Whoami.is)
+    (whoami_registered c.args.user.now c.args.store.now (g.H.Host.state c.args.host.now) c.whoami.result c.requires.call c.whoami.ensures.reply c.whoami.ensures.memory)
+    in served.unread
+
+pub returns-in-Whoami-clause-cause : goal.returns-in-Whoami-clause-cause
+returns-in-Whoami-clause-cause g c =
+    let served = subst (λ (command : Command). IsRegistered c.args.user.now command c.whoami.result c.args.store.now c.args.store.now (g.H.Host.state c.args.host.now) (g.H.Host.state c.args.host.now)) (sym c.in-Whoami.is)
+    (whoami_registered c.args.user.now c.args.store.now (g.H.Host.state c.args.host.now) c.whoami.result c.requires.call c.whoami.ensures.reply c.whoami.ensures.memory)
+    in served.cause
+
+pub returns-in-Whoami-clause-stage : goal.returns-in-Whoami-clause-stage
+returns-in-Whoami-clause-stage g c =
+    let served = subst (λ (command : Command). IsRegistered c.args.user.now command c.whoami.result c.args.store.now c.args.store.now (g.H.Host.state c.args.host.now) (g.H.Host.state c.args.host.now)) (sym c.in-Whoami.is)
+    (whoami_registered c.args.user.now c.args.store.now (g.H.Host.state c.args.host.now) c.whoami.result c.requires.call c.whoami.ensures.reply c.whoami.ensures.memory)
+    in (λ is. absurd (served.host_alone is))
+
+pub returns-in-Whoami-clause-damaged : goal.returns-in-Whoami-clause-damaged
+returns-in-Whoami-clause-damaged g c =
+    let served = subst (λ (command : Command). IsRegistered c.args.user.now command c.whoami.result c.args.store.now c.args.store.now (g.H.Host.state c.args.host.now) (g.H.Host.state c.args.host.now)) (sym c.in-Whoami.is)
+    (whoami_registered c.args.user.now c.args.store.now (g.H.Host.state c.args.host.now) c.whoami.result c.requires.call c.whoami.ensures.reply c.whoami.ensures.memory)
+    in served.damaged (g.T.Stage.staged c.args.stage.now)
+
+pub returns-in-Whoami-clause-begins_none : goal.returns-in-Whoami-clause-begins_none
+returns-in-Whoami-clause-begins_none g c =
+    let served = subst (λ (command : Command). IsRegistered c.args.user.now command c.whoami.result c.args.store.now c.args.store.now (g.H.Host.state c.args.host.now) (g.H.Host.state c.args.host.now)) (sym c.in-Whoami.is)
+    (whoami_registered c.args.user.now c.args.store.now (g.H.Host.state c.args.host.now) c.whoami.result c.requires.call c.whoami.ensures.reply c.whoami.ensures.memory)
+    in (λ quiet none. served.begins_none none)
+
+pub returns-in-Whoami-clause-whole : goal.returns-in-Whoami-clause-whole
+returns-in-Whoami-clause-whole g c =
+    let served = subst (λ (command : Command). IsRegistered c.args.user.now command c.whoami.result c.args.store.now c.args.store.now (g.H.Host.state c.args.host.now) (g.H.Host.state c.args.host.now)) (sym c.in-Whoami.is)
+    (whoami_registered c.args.user.now c.args.store.now (g.H.Host.state c.args.host.now) c.whoami.result c.requires.call c.whoami.ensures.reply c.whoami.ensures.memory)
+    in (λ page told. map_ok _ _ c.whoami.result (λ clear built met. clear met) (served.whole (g.T.Stage.staged c.args.stage.now) page told))
+
+pub returns-in-Whoami-clause-usable : goal.returns-in-Whoami-clause-usable
+returns-in-Whoami-clause-usable g c =
+    let served = subst (λ (command : Command). IsRegistered c.args.user.now command c.whoami.result c.args.store.now c.args.store.now (g.H.Host.state c.args.host.now) (g.H.Host.state c.args.host.now)) (sym c.in-Whoami.is)
+    (whoami_registered c.args.user.now c.args.store.now (g.H.Host.state c.args.host.now) c.whoami.result c.requires.call c.whoami.ensures.reply c.whoami.ensures.memory)
+    in served.usable
+
+pub returns-in-Whoami-clause-by_journal : goal.returns-in-Whoami-clause-by_journal
+returns-in-Whoami-clause-by_journal g c =
+    let served = subst (λ (command : Command). IsRegistered c.args.user.now command c.whoami.result c.args.store.now c.args.store.now (g.H.Host.state c.args.host.now) (g.H.Host.state c.args.host.now)) (sym c.in-Whoami.is)
+    (whoami_registered c.args.user.now c.args.store.now (g.H.Host.state c.args.host.now) c.whoami.result c.requires.call c.whoami.ensures.reply c.whoami.ensures.memory)
+    in served.by_journal
+
+pub returns-in-Whoami-clause-at : goal.returns-in-Whoami-clause-at
+returns-in-Whoami-clause-at g c =
+    let served = subst (λ (command : Command). IsRegistered c.args.user.now command c.whoami.result c.args.store.now c.args.store.now (g.H.Host.state c.args.host.now) (g.H.Host.state c.args.host.now)) (sym c.in-Whoami.is)
+    (whoami_registered c.args.user.now c.args.store.now (g.H.Host.state c.args.host.now) c.whoami.result c.requires.call c.whoami.ensures.reply c.whoami.ensures.memory)
+    in served.at
+
+pub returns-in-Whoami-clause-missed : goal.returns-in-Whoami-clause-missed
+returns-in-Whoami-clause-missed g c =
+    let served = subst (λ (command : Command). IsRegistered c.args.user.now command c.whoami.result c.args.store.now c.args.store.now (g.H.Host.state c.args.host.now) (g.H.Host.state c.args.host.now)) (sym c.in-Whoami.is)
+    (whoami_registered c.args.user.now c.args.store.now (g.H.Host.state c.args.host.now) c.whoami.result c.requires.call c.whoami.ensures.reply c.whoami.ensures.memory)
+    in seen_missed _ c.whoami.result served.seen
+
+pub returns-in-Whoami-clause-undamaged : goal.returns-in-Whoami-clause-undamaged
+returns-in-Whoami-clause-undamaged g c =
+    let served = subst (λ (command : Command). IsRegistered c.args.user.now command c.whoami.result c.args.store.now c.args.store.now (g.H.Host.state c.args.host.now) (g.H.Host.state c.args.host.now)) (sym c.in-Whoami.is)
+    (whoami_registered c.args.user.now c.args.store.now (g.H.Host.state c.args.host.now) c.whoami.result c.requires.call c.whoami.ensures.reply c.whoami.ensures.memory)
+    in served.undamaged
+
+pub returns-in-Whoami-clause-acts : goal.returns-in-Whoami-clause-acts
+returns-in-Whoami-clause-acts g c =
+    let served = subst (λ (command : Command). IsRegistered c.args.user.now command c.whoami.result c.args.store.now c.args.store.now (g.H.Host.state c.args.host.now) (g.H.Host.state c.args.host.now)) (sym c.in-Whoami.is)
+    (whoami_registered c.args.user.now c.args.store.now (g.H.Host.state c.args.host.now) c.whoami.result c.requires.call c.whoami.ensures.reply c.whoami.ensures.memory)
+    in (λ w built told at. served.acts w (session_of (g.T.Stage.staged c.args.stage.now).files c.args.user.now) refl at)
+
+pub returns-in-Whoami-clause-idle : goal.returns-in-Whoami-clause-idle
+returns-in-Whoami-clause-idle g c =
+    let served = subst (λ (command : Command). IsRegistered c.args.user.now command c.whoami.result c.args.store.now c.args.store.now (g.H.Host.state c.args.host.now) (g.H.Host.state c.args.host.now)) (sym c.in-Whoami.is)
+    (whoami_registered c.args.user.now c.args.store.now (g.H.Host.state c.args.host.now) c.whoami.result c.requires.call c.whoami.ensures.reply c.whoami.ensures.memory)
+    in subst (λ (command : Command). IfErr c.whoami.result (λ e. IsIdleBy command e c.args.store.now c.args.store.now (g.T.Stage.staged c.args.stage.now) (g.T.Stage.staged c.args.stage.now) (g.H.Host.state c.args.host.now) (g.H.Host.state c.args.host.now))) (sym c.in-Whoami.is)
+    (idle_stored c.args.store.now c.args.store.now (g.T.Stage.staged c.args.stage.now) (g.T.Stage.staged c.args.stage.now) (g.H.Host.state c.args.host.now) (g.H.Host.state c.args.host.now) c.whoami.result served.host_alone served.idle refl)
+
+pub returns-in-Whoami-clause-other : goal.returns-in-Whoami-clause-other
+returns-in-Whoami-clause-other g c = λ refusal is. absurd (ok_err _ refusal (subst (λ (command : Command). if_built command ≡ off refusal) c.in-Whoami.is is))
+
+pub returns-in-Unstage-clause-goes : goal.returns-in-Unstage-clause-goes
+returns-in-Unstage-clause-goes g c =
+    let served = subst (λ (command : Command). IsRegistered c.args.user.now command c.unstage.result c.args.store.now c.unstage.new.store (g.H.Host.state c.args.host.now) (g.H.Host.state c.unstage.new.host)) (sym c.in-Unstage.is)
+    (c.unstage.ensures c.args.user.now)
+    in served.goes
+
+pub returns-in-Unstage-clause-still : goal.returns-in-Unstage-clause-still
+returns-in-Unstage-clause-still g c =
+    let served = subst (λ (command : Command). IsRegistered c.args.user.now command c.unstage.result c.args.store.now c.unstage.new.store (g.H.Host.state c.args.host.now) (g.H.Host.state c.unstage.new.host)) (sym c.in-Unstage.is)
+    (c.unstage.ensures c.args.user.now)
+    in served.still
+
+pub returns-in-Unstage-clause-fetched : goal.returns-in-Unstage-clause-fetched
+returns-in-Unstage-clause-fetched g c =
+    let served = subst (λ (command : Command). IsRegistered c.args.user.now command c.unstage.result c.args.store.now c.unstage.new.store (g.H.Host.state c.args.host.now) (g.H.Host.state c.unstage.new.host)) (sym c.in-Unstage.is)
+    (c.unstage.ensures c.args.user.now)
+    in served.fetched
+
+pub returns-in-Unstage-clause-unread : goal.returns-in-Unstage-clause-unread
+returns-in-Unstage-clause-unread g c =
+    let served = subst (λ (command : Command). IsRegistered c.args.user.now command c.unstage.result c.args.store.now c.unstage.new.store (g.H.Host.state c.args.host.now) (g.H.Host.state c.unstage.new.host)) (sym c.in-Unstage.is)
+    (c.unstage.ensures c.args.user.now)
+    in served.unread
+
+pub returns-in-Unstage-clause-cause : goal.returns-in-Unstage-clause-cause
+returns-in-Unstage-clause-cause g c =
+    let served = subst (λ (command : Command). IsRegistered c.args.user.now command c.unstage.result c.args.store.now c.unstage.new.store (g.H.Host.state c.args.host.now) (g.H.Host.state c.unstage.new.host)) (sym c.in-Unstage.is)
+    (c.unstage.ensures c.args.user.now)
+    in served.cause
+
+pub returns-in-Unstage-clause-stage : goal.returns-in-Unstage-clause-stage
+returns-in-Unstage-clause-stage g c =
+    let served = subst (λ (command : Command). IsRegistered c.args.user.now command c.unstage.result c.args.store.now c.unstage.new.store (g.H.Host.state c.args.host.now) (g.H.Host.state c.unstage.new.host)) (sym c.in-Unstage.is)
+    (c.unstage.ensures c.args.user.now)
+    in (λ is. absurd (served.host_alone is))
+
+pub returns-in-Unstage-clause-damaged : goal.returns-in-Unstage-clause-damaged
+returns-in-Unstage-clause-damaged g c =
+    let served = subst (λ (command : Command). IsRegistered c.args.user.now command c.unstage.result c.args.store.now c.unstage.new.store (g.H.Host.state c.args.host.now) (g.H.Host.state c.unstage.new.host)) (sym c.in-Unstage.is)
+    (c.unstage.ensures c.args.user.now)
+    in served.damaged (g.T.Stage.staged c.args.stage.now)
+
+pub returns-in-Unstage-clause-begins_none : goal.returns-in-Unstage-clause-begins_none
+returns-in-Unstage-clause-begins_none g c =
+    let served = subst (λ (command : Command). IsRegistered c.args.user.now command c.unstage.result c.args.store.now c.unstage.new.store (g.H.Host.state c.args.host.now) (g.H.Host.state c.unstage.new.host)) (sym c.in-Unstage.is)
+    (c.unstage.ensures c.args.user.now)
+    in (λ quiet none. served.begins_none none)
+
+pub returns-in-Unstage-clause-whole : goal.returns-in-Unstage-clause-whole
+returns-in-Unstage-clause-whole g c =
+    let served = subst (λ (command : Command). IsRegistered c.args.user.now command c.unstage.result c.args.store.now c.unstage.new.store (g.H.Host.state c.args.host.now) (g.H.Host.state c.unstage.new.host)) (sym c.in-Unstage.is)
+    (c.unstage.ensures c.args.user.now)
+    in (λ page told. map_ok _ _ c.unstage.result (λ clear built met. clear met) (served.whole (g.T.Stage.staged c.args.stage.now) page told))
+
+pub returns-in-Unstage-clause-usable : goal.returns-in-Unstage-clause-usable
+returns-in-Unstage-clause-usable g c =
+    let served = subst (λ (command : Command). IsRegistered c.args.user.now command c.unstage.result c.args.store.now c.unstage.new.store (g.H.Host.state c.args.host.now) (g.H.Host.state c.unstage.new.host)) (sym c.in-Unstage.is)
+    (c.unstage.ensures c.args.user.now)
+    in served.usable
+
+pub returns-in-Unstage-clause-by_journal : goal.returns-in-Unstage-clause-by_journal
+returns-in-Unstage-clause-by_journal g c =
+    let served = subst (λ (command : Command). IsRegistered c.args.user.now command c.unstage.result c.args.store.now c.unstage.new.store (g.H.Host.state c.args.host.now) (g.H.Host.state c.unstage.new.host)) (sym c.in-Unstage.is)
+    (c.unstage.ensures c.args.user.now)
+    in served.by_journal
+
+pub returns-in-Unstage-clause-at : goal.returns-in-Unstage-clause-at
+returns-in-Unstage-clause-at g c =
+    let served = subst (λ (command : Command). IsRegistered c.args.user.now command c.unstage.result c.args.store.now c.unstage.new.store (g.H.Host.state c.args.host.now) (g.H.Host.state c.unstage.new.host)) (sym c.in-Unstage.is)
+    (c.unstage.ensures c.args.user.now)
+    in served.at
+
+pub returns-in-Unstage-clause-missed : goal.returns-in-Unstage-clause-missed
+returns-in-Unstage-clause-missed g c =
+    let served = subst (λ (command : Command). IsRegistered c.args.user.now command c.unstage.result c.args.store.now c.unstage.new.store (g.H.Host.state c.args.host.now) (g.H.Host.state c.unstage.new.host)) (sym c.in-Unstage.is)
+    (c.unstage.ensures c.args.user.now)
+    in seen_missed _ c.unstage.result served.seen
+
+pub returns-in-Unstage-clause-undamaged : goal.returns-in-Unstage-clause-undamaged
+returns-in-Unstage-clause-undamaged g c =
+    let served = subst (λ (command : Command). IsRegistered c.args.user.now command c.unstage.result c.args.store.now c.unstage.new.store (g.H.Host.state c.args.host.now) (g.H.Host.state c.unstage.new.host)) (sym c.in-Unstage.is)
+    (c.unstage.ensures c.args.user.now)
+    in served.undamaged
+
+pub returns-in-Unstage-clause-acts : goal.returns-in-Unstage-clause-acts
+returns-in-Unstage-clause-acts g c =
+    let served = subst (λ (command : Command). IsRegistered c.args.user.now command c.unstage.result c.args.store.now c.unstage.new.store (g.H.Host.state c.args.host.now) (g.H.Host.state c.unstage.new.host)) (sym c.in-Unstage.is)
+    (c.unstage.ensures c.args.user.now)
+    in (λ w built told at. served.acts w (session_of (g.T.Stage.staged c.args.stage.now).files c.args.user.now) refl at)
+
+pub returns-in-Unstage-clause-idle : goal.returns-in-Unstage-clause-idle
+returns-in-Unstage-clause-idle g c =
+    let served = subst (λ (command : Command). IsRegistered c.args.user.now command c.unstage.result c.args.store.now c.unstage.new.store (g.H.Host.state c.args.host.now) (g.H.Host.state c.unstage.new.host)) (sym c.in-Unstage.is)
+    (c.unstage.ensures c.args.user.now)
+    in subst (λ (command : Command). IfErr c.unstage.result (λ e. IsIdleBy command e c.args.store.now c.unstage.new.store (g.T.Stage.staged c.args.stage.now) (g.T.Stage.staged c.args.stage.now) (g.H.Host.state c.args.host.now) (g.H.Host.state c.unstage.new.host))) (sym c.in-Unstage.is)
+    (idle_stored c.args.store.now c.unstage.new.store (g.T.Stage.staged c.args.stage.now) (g.T.Stage.staged c.args.stage.now) (g.H.Host.state c.args.host.now) (g.H.Host.state c.unstage.new.host) c.unstage.result served.host_alone served.idle refl)
+
+pub returns-in-Unstage-clause-other : goal.returns-in-Unstage-clause-other
+returns-in-Unstage-clause-other g c = λ refusal is. absurd (ok_err _ refusal (subst (λ (command : Command). if_built command ≡ off refusal) c.in-Unstage.is is))
+
+pub returns-in-Tables-clause-goes : goal.returns-in-Tables-clause-goes
+returns-in-Tables-clause-goes g c =
+    let served = subst (λ (command : Command). IsRegistered c.args.user.now command c.tables.result c.args.store.now c.args.store.now (g.H.Host.state c.args.host.now) (g.H.Host.state c.tables.new.host)) (sym c.in-Tables.is)
+    (c.tables.ensures)
+    in served.goes
+
+pub returns-in-Tables-clause-still : goal.returns-in-Tables-clause-still
+returns-in-Tables-clause-still g c =
+    let served = subst (λ (command : Command). IsRegistered c.args.user.now command c.tables.result c.args.store.now c.args.store.now (g.H.Host.state c.args.host.now) (g.H.Host.state c.tables.new.host)) (sym c.in-Tables.is)
+    (c.tables.ensures)
+    in served.still
+
+pub returns-in-Tables-clause-fetched : goal.returns-in-Tables-clause-fetched
+returns-in-Tables-clause-fetched g c =
+    let served = subst (λ (command : Command). IsRegistered c.args.user.now command c.tables.result c.args.store.now c.args.store.now (g.H.Host.state c.args.host.now) (g.H.Host.state c.tables.new.host)) (sym c.in-Tables.is)
+    (c.tables.ensures)
+    in served.fetched
+
+pub returns-in-Tables-clause-unread : goal.returns-in-Tables-clause-unread
+returns-in-Tables-clause-unread g c =
+    let served = subst (λ (command : Command). IsRegistered c.args.user.now command c.tables.result c.args.store.now c.args.store.now (g.H.Host.state c.args.host.now) (g.H.Host.state c.tables.new.host)) (sym c.in-Tables.is)
+    (c.tables.ensures)
+    in served.unread
+
+pub returns-in-Tables-clause-cause : goal.returns-in-Tables-clause-cause
+returns-in-Tables-clause-cause g c =
+    let served = subst (λ (command : Command). IsRegistered c.args.user.now command c.tables.result c.args.store.now c.args.store.now (g.H.Host.state c.args.host.now) (g.H.Host.state c.tables.new.host)) (sym c.in-Tables.is)
+    (c.tables.ensures)
+    in served.cause
+
+pub returns-in-Tables-clause-stage : goal.returns-in-Tables-clause-stage
+returns-in-Tables-clause-stage g c =
+    let served = subst (λ (command : Command). IsRegistered c.args.user.now command c.tables.result c.args.store.now c.args.store.now (g.H.Host.state c.args.host.now) (g.H.Host.state c.tables.new.host)) (sym c.in-Tables.is)
+    (c.tables.ensures)
+    in (λ is. absurd (served.host_alone is))
+
+pub returns-in-Tables-clause-damaged : goal.returns-in-Tables-clause-damaged
+returns-in-Tables-clause-damaged g c =
+    let served = subst (λ (command : Command). IsRegistered c.args.user.now command c.tables.result c.args.store.now c.args.store.now (g.H.Host.state c.args.host.now) (g.H.Host.state c.tables.new.host)) (sym c.in-Tables.is)
+    (c.tables.ensures)
+    in served.damaged (g.T.Stage.staged c.args.stage.now)
+
+pub returns-in-Tables-clause-begins_none : goal.returns-in-Tables-clause-begins_none
+returns-in-Tables-clause-begins_none g c =
+    let served = subst (λ (command : Command). IsRegistered c.args.user.now command c.tables.result c.args.store.now c.args.store.now (g.H.Host.state c.args.host.now) (g.H.Host.state c.tables.new.host)) (sym c.in-Tables.is)
+    (c.tables.ensures)
+    in (λ quiet none. served.begins_none none)
+
+pub returns-in-Tables-clause-whole : goal.returns-in-Tables-clause-whole
+returns-in-Tables-clause-whole g c =
+    let served = subst (λ (command : Command). IsRegistered c.args.user.now command c.tables.result c.args.store.now c.args.store.now (g.H.Host.state c.args.host.now) (g.H.Host.state c.tables.new.host)) (sym c.in-Tables.is)
+    (c.tables.ensures)
+    in (λ page told. map_ok _ _ c.tables.result (λ clear built met. clear met) (served.whole (g.T.Stage.staged c.args.stage.now) page told))
+
+pub returns-in-Tables-clause-usable : goal.returns-in-Tables-clause-usable
+returns-in-Tables-clause-usable g c =
+    let served = subst (λ (command : Command). IsRegistered c.args.user.now command c.tables.result c.args.store.now c.args.store.now (g.H.Host.state c.args.host.now) (g.H.Host.state c.tables.new.host)) (sym c.in-Tables.is)
+    (c.tables.ensures)
+    in served.usable
+
+pub returns-in-Tables-clause-by_journal : goal.returns-in-Tables-clause-by_journal
+returns-in-Tables-clause-by_journal g c =
+    let served = subst (λ (command : Command). IsRegistered c.args.user.now command c.tables.result c.args.store.now c.args.store.now (g.H.Host.state c.args.host.now) (g.H.Host.state c.tables.new.host)) (sym c.in-Tables.is)
+    (c.tables.ensures)
+    in served.by_journal
+
+pub returns-in-Tables-clause-at : goal.returns-in-Tables-clause-at
+returns-in-Tables-clause-at g c =
+    let served = subst (λ (command : Command). IsRegistered c.args.user.now command c.tables.result c.args.store.now c.args.store.now (g.H.Host.state c.args.host.now) (g.H.Host.state c.tables.new.host)) (sym c.in-Tables.is)
+    (c.tables.ensures)
+    in served.at
+
+pub returns-in-Tables-clause-missed : goal.returns-in-Tables-clause-missed
+returns-in-Tables-clause-missed g c =
+    let served = subst (λ (command : Command). IsRegistered c.args.user.now command c.tables.result c.args.store.now c.args.store.now (g.H.Host.state c.args.host.now) (g.H.Host.state c.tables.new.host)) (sym c.in-Tables.is)
+    (c.tables.ensures)
+    in seen_missed _ c.tables.result served.seen
+
+pub returns-in-Tables-clause-undamaged : goal.returns-in-Tables-clause-undamaged
+returns-in-Tables-clause-undamaged g c =
+    let served = subst (λ (command : Command). IsRegistered c.args.user.now command c.tables.result c.args.store.now c.args.store.now (g.H.Host.state c.args.host.now) (g.H.Host.state c.tables.new.host)) (sym c.in-Tables.is)
+    (c.tables.ensures)
+    in served.undamaged
+
+pub returns-in-Tables-clause-acts : goal.returns-in-Tables-clause-acts
+returns-in-Tables-clause-acts g c =
+    let served = subst (λ (command : Command). IsRegistered c.args.user.now command c.tables.result c.args.store.now c.args.store.now (g.H.Host.state c.args.host.now) (g.H.Host.state c.tables.new.host)) (sym c.in-Tables.is)
+    (c.tables.ensures)
+    in (λ w built told at. served.acts w (session_of (g.T.Stage.staged c.args.stage.now).files c.args.user.now) refl at)
+
+pub returns-in-Tables-clause-idle : goal.returns-in-Tables-clause-idle
+returns-in-Tables-clause-idle g c =
+    let served = subst (λ (command : Command). IsRegistered c.args.user.now command c.tables.result c.args.store.now c.args.store.now (g.H.Host.state c.args.host.now) (g.H.Host.state c.tables.new.host)) (sym c.in-Tables.is)
+    (c.tables.ensures)
+    in subst (λ (command : Command). IfErr c.tables.result (λ e. IsIdleBy command e c.args.store.now c.args.store.now (g.T.Stage.staged c.args.stage.now) (g.T.Stage.staged c.args.stage.now) (g.H.Host.state c.args.host.now) (g.H.Host.state c.tables.new.host))) (sym c.in-Tables.is)
+    (idle_stored c.args.store.now c.args.store.now (g.T.Stage.staged c.args.stage.now) (g.T.Stage.staged c.args.stage.now) (g.H.Host.state c.args.host.now) (g.H.Host.state c.tables.new.host) c.tables.result served.host_alone served.idle refl)
+
+pub returns-in-Tables-clause-other : goal.returns-in-Tables-clause-other
+returns-in-Tables-clause-other g c = λ refusal is. absurd (ok_err _ refusal (subst (λ (command : Command). if_built command ≡ off refusal) c.in-Tables.is is))

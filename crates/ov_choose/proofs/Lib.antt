@@ -1,0 +1,6 @@
+pub mod Numbers
+pub mod Refused
+pub mod Costs
+pub mod Tables
+pub mod Picks
+pub mod Plans

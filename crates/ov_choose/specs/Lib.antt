@@ -1,0 +1,3 @@
+pub mod Errors
+pub mod Choices
+pub mod Worlds

@@ -1,0 +1,65 @@
+// The commands on users and staged tables.
+ghost use Rattle.std.specs.Prelude.{◌≡◌, ℕ, List, IfOk, IfErr};
+ghost use Rattle.ov_model.specs.declared.command.Command.TheVariants as asks;
+ghost use Rattle.ov_model.specs.declared.reply.Reply.TheVariants as says;
+ghost use Rattle.ov_store.specs.Kept.{MayCall};
+ghost use Rattle.ov_session.specs.Registering.{IsRegistered};
+
+use crate::errors::{EndErr, ended};
+use ov_host::Host;
+use ov_model::Reply;
+use ov_staging::{create_user as create_user_in, tables as tables_in, unstage as unstage_in};
+use ov_store::Store;
+use ov_value::Txt;
+use std::alloc::Global;
+
+/// Adds a user.
+pub fn create_user<H: Host>(
+    alloc: Global,
+    store: &mut Store,
+    host: &mut H,
+    name: Txt,
+) -> Result<Reply, EndErr>
+    requires call { MayCall store.old (H.state host.old) }
+    ensures { (user : List ℕ) → IsRegistered user (asks.CreateUser name) result store.old store.new (H.state host.old) (H.state host.new) }
+{
+    ended(create_user_in(alloc, store, host, name))
+}
+
+/// Takes a staged table off.
+pub fn unstage<H: Host>(
+    alloc: Global,
+    store: &mut Store,
+    host: &mut H,
+    owner: Txt,
+    table: Txt,
+) -> Result<Reply, EndErr>
+    requires call { MayCall store.old (H.state host.old) }
+    ensures { (user : List ℕ) → IsRegistered user (asks.Unstage owner table) result store.old store.new (H.state host.old) (H.state host.new) }
+{
+    ended(unstage_in(alloc, store, host, owner, table))
+}
+
+/// The user's own staged tables.
+pub fn tables<H: Host>(
+    alloc: Global,
+    store: &Store,
+    host: &mut H,
+    user: &Txt,
+) -> Result<Reply, EndErr>
+    requires call { MayCall store.now (H.state host.old) }
+    ensures { IsRegistered user.now asks.Tables result store.now store.now (H.state host.old) (H.state host.new) }
+{
+    ended(tables_in(alloc, store, host, user.as_str()))
+}
+
+/// The user.
+pub fn whoami(alloc: Global, user: &Txt) -> Result<Reply, EndErr>
+    ensures reply { IfOk result (λ reply. reply ≡ says.Whoami user.now) }
+    ensures memory { IfErr result (λ why. why ≡ EndErr.Memory) }
+{
+    match user.copy(alloc) {
+        Ok(name) => Ok(Reply::Whoami { name }),
+        Err(_) => Err(EndErr::Memory),
+    }
+}

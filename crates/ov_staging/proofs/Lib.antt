@@ -1,0 +1,6 @@
+pub mod Looks
+pub mod Ended
+pub mod Acted
+pub mod Keys
+pub mod Behind
+pub mod Told
