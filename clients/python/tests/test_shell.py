@@ -43,7 +43,7 @@ class Words(Case):
         self.assertEqual([it.parents for it in orpheus.Store(store).log("people")][2:], [(2,), (3,), (4,)])
         self.assertEqual(self.call(store, "tag", "people", "last", "5")[1].split()[-3:], ["5", "(1", "rows)"])
         self.assertEqual(self.call("--json", store, "conflicts", "people", "1", "2", "last")[1], "[]\n")
-        self.assertRegex(self.call(store, "advise", "people", "-s", "1000")[1], r"cost \d+, best \d+, optimize (True|False)")
+        self.assertRegex(self.call(store, "advise", "people", "-s", "1000")[1], r"cost \d+, best \d+, optimize (true|false)")
         self.assertEqual(self.call(store, "optimize", "people", "-s", "1000")[0], 0)
         self.assertRegex(self.call(store, "migrate")[1], r"taken \d+, left 0")
         self.assertIn("stored", self.call(store, "layout", "people")[1])
