@@ -1,6 +1,6 @@
 -- A threshold within a budget: a plan that began, an advice, or why there is none.
 use Rattle.std.proofs.Common.{◌≡◌, ◌∙◌, ◌+◌, ◌⊎◌, inl, inr, ℕ, Bool, true, false, List, Some, None, refl, sym, ap, subst, arith}
-use Rattle.std.specs.Prelude.{◌≤◌, IfErr, IfOk, IsErrOf, OnOk, Option, Ok, Err, Result, is_some, length, nat_lt, not}
+use Rattle.std.specs.Prelude.{◌≤◌, IfErr, IfOk, IsErrOf, OnOk, Option, Ok, Err, Result, is_some, nat_lt, not}
 use Rattle.std.specs.Option.{option_or}
 use Rattle.ov_host.specs.declared.area.Area.{Area}
 use Rattle.ov_host.specs.declared.area.Area.TheVariants.{Pages}
@@ -21,8 +21,8 @@ use Rattle.law_room.specs.Room.{Entry, IsWithin, Made}
 use Rattle.law_runs.proofs.Doing.{breaks_looked, breaks_move, breaks_where, does_full, does_move, does_told}
 use Rattle.law_runs.specs.Serving.{Breaks, Does}
 use Rattle.law_runs.specs.Stops.{printed_of}
-use Rattle.ov_model.specs.Act.{Deed, Session, does, if_so, is_threshold, optimized, refuses, tells, unless}
-use Rattle.ov_model.specs.Budget.{advise_by, advise_deed, choice, is_worth, least_of, table, within_by, within_deed, within_refusal, within_reply}
+use Rattle.ov_model.specs.Act.{Deed, Session, does, if_so, is_threshold, refuses, tells, unless}
+use Rattle.ov_model.specs.Budget.{advise_by, advise_deed, is_worth, table, within_by, within_deed, within_refusal, within_reply}
 use Rattle.ov_model.specs.Moves.{BeginPlan, Move, moved}
 use Rattle.ov_model.specs.Plans.{parts_at}
 use Rattle.ov_model.specs.World.{Dataset, World, cost, set_named}
@@ -33,15 +33,13 @@ use Rattle.ov_model.specs.declared.reply.Reply.{Reply}
 use Rattle.ov_model.specs.declared.reply.Reply.TheVariants as says
 use Rattle.ov_open.specs.Opening.{IsWorld}
 use Rattle.ov_optimize.specs.Damages.{HasBadPart, IsListDamage}
-use Rattle.ov_optimize.specs.Planned.{IsReport}
-use Rattle.ov_optimize.specs.declared.report.Report.{Report}
 use Rattle.ov_read.specs.Sizes.{bytes_for, list_bytes_for}
 use Rattle.ov_session.proofs.Bounds.{fetched_allowed}
 use Rattle.ov_session.proofs.Replying.{other_refusal}
 use Rattle.ov_session.proofs.Standing.{the_end}
 use Rattle.ov_session.specs.Bounds.{if_allowed}
-use Rattle.ov_session.specs.Commands.{Acts, AreListsDamaged, IfDamaged, IfNoFile, IsAdviceDamaged, IsDamageOf, IsListsDamaged, IsNoDamage, IsSegmentsDamaged, IsWithinDamaged}
-use Rattle.ov_session.specs.Errors.{choose_end, choose_refusal, choose_reply}
+use Rattle.ov_session.specs.Commands.{Acts, AreListsDamaged, IfDamaged, IfNoFile, IsAdviceDamaged, IsDamageOf, IsListsDamaged, IsNoDamage, IsSegmentsDamaged}
+use Rattle.ov_session.specs.Errors.{choose_end, choose_reply}
 use Rattle.ov_session.specs.Reads as reads
 use Rattle.ov_session.specs.Reads.{lists_in, segments_in, within_set_off}
 use Rattle.ov_session.specs.declared.errors.EndErr.{EndErr}

@@ -1,10 +1,9 @@
 -- What the commands on users and staged tables keep to, by what `ov_staging` says of them.
-use Rattle.std.proofs.Common.{◌≡◌, ◌≤◌, ◌+◌, ◌∙◌, ◌⊎◌, inl, inr, ℕ, Bool, true, false, List, [], ◌∷◌, length, refl, sym, ap, subst, arith}
-use Rattle.std.specs.Prelude.{◌-◌, ◌^◌, min, Some, None, Option, Ok, Err, Result, IfErr, IfOk, IsErrOf, MatchResult, OnOk, is_some, not, map, filter}
-use Rattle.std.specs.Option.{option_or}
+use Rattle.std.proofs.Common.{◌≡◌, ◌≤◌, ◌+◌, ◌∙◌, inl, inr, ℕ, Bool, true, false, List, refl, sym, ap, subst, arith}
+use Rattle.std.specs.Prelude.{◌-◌, ◌^◌, min, Some, None, Option, Ok, Err, Result, IfErr, IfOk, IsErrOf, MatchResult, OnOk, is_some}
 use Rattle.std.proofs.lemmas.Option.{same_Some}
 use Rattle.ov_core.specs.AtWorld.{IsAtWorld}
-use Rattle.ov_core.specs.Held.{Held, IsByJournal}
+use Rattle.ov_core.specs.Held.{IsByJournal}
 use Rattle.ov_fetch.specs.Extents.{Looked}
 use Rattle.ov_host.specs.Host.{Rose, State}
 use Rattle.ov_host.specs.Stage.{Staged}
@@ -12,14 +11,14 @@ use Rattle.ov_model.specs.Act.{Deed, Files, Session, if_so, tells, unless}
 use Rattle.ov_model.specs.Book.{Row}
 use Rattle.ov_model.specs.Deed.{config_deed, config_refusal, permitted, tables_deed}
 use Rattle.ov_model.specs.Registry.{is_foreign, last_rows, stage_name, stage_schema, users_name}
-use Rattle.ov_model.specs.World.{Dataset, World, set_named}
+use Rattle.ov_model.specs.World.{World, set_named}
 use Rattle.ov_model.specs.declared.command.Command.{Command}
 use Rattle.ov_model.specs.declared.command.Command.TheVariants as asks
 use Rattle.ov_model.specs.declared.refusal.Refusal.{Refusal}
 use Rattle.ov_model.specs.declared.refusal.Refusal.TheVariants as no
 use Rattle.ov_model.specs.declared.reply.Reply.{Reply}
 use Rattle.ov_model.specs.declared.reply.Reply.TheVariants as says
-use Rattle.ov_registry.specs.Changing.{IsChanged, IsMade}
+use Rattle.ov_registry.specs.Changing.{IsMade}
 use Rattle.ov_registry.specs.Last.{IsLastDamaged, bytes_in, last_vid, name_of, schema_of}
 use Rattle.ov_registry.specs.declared.registry.Registry.{Registry}
 use Rattle.ov_registry.specs.declared.registry.Registry.TheVariants as registry
@@ -35,16 +34,15 @@ use Rattle.ov_store.specs.Kept.{Kept, MayCall}
 use Rattle.ov_store.specs.Scanning.{set_in}
 use Rattle.ov_store.proofs.Finishing.{may_call_later}
 use Rattle.law_runs.proofs.Doing.{breaks_looked, does_told}
-use Rattle.law_runs.specs.Serving.{Breaks, Does}
 use Rattle.law_steps.specs.Turns.{running}
 use Rattle.ov_session.proofs.Bounds.{fetched_allowed, off_there}
 use Rattle.ov_session.proofs.Idling.{committed_none, done_none}
 use Rattle.ov_session.proofs.Numbering.{journal_looked}
 use Rattle.ov_session.proofs.Replying.{stored_seen}
-use Rattle.ov_session.proofs.Standing.{at_looked, at_still, idle_same, on_any}
+use Rattle.ov_session.proofs.Standing.{at_looked, at_still, on_any}
 use Rattle.ov_session.specs.Acting.{kind_of, user_by}
 use Rattle.ov_session.specs.Bounds.{IsFetched, IsReadingCommand, if_allowed, is_command_off}
-use Rattle.ov_session.specs.Commands.{Acts, Goes, IfDamaged, IfNoFile, IsDamageOf, IsDamaged, IsNoDamage, MeetsDamage}
+use Rattle.ov_session.specs.Commands.{Acts, IfDamaged, IfNoFile, IsDamageOf, IsDamaged, IsNoDamage, MeetsDamage}
 use Rattle.ov_session.specs.Errors.{by_staging}
 use Rattle.ov_session.specs.Registering.{IsRegistered, next_by}
 use Rattle.ov_session.specs.Standing.{Idle, IsAtSilently}

@@ -9,7 +9,7 @@
 --     IsOther refusal result ..      a query of a shape that isn't built was refused, and nothing else was done
 --     IfNoFile P reply      this holds where the reply is that there is no such file
 --     Acts d s t w result ..      where the store is at a World, a command does what it means, or is stopped in it
-use Rattle.std.specs.Prelude.{◌≡◌, ◌≢◌, ◌≤◌, ◌-◌, ◌^◌, ◌⊎◌, min, ℕ, Bool, true, false, List, [], ◌∷◌, ◌++◌, length, Option, Some, None, Result, Ok, Err, MatchResult}
+use Rattle.std.specs.Prelude.{◌≡◌, ◌≤◌, ◌-◌, ◌^◌, ◌⊎◌, min, ℕ, Bool, true, false, List, [], ◌∷◌, ◌++◌, length, Option, Some, None, Result, Ok, Err, MatchResult}
 use Rattle.std.specs.List.{All}
 use Rattle.ov_host.specs.declared.area.Area.TheVariants.{Pages}
 use Rattle.ov_host.specs.Host.{Rose, State}

@@ -1,4 +1,4 @@
-use Rattle.std.proofs.Common.{sym, subst, List, ℕ}
+use Rattle.std.proofs.Common.{sym, subst}
 use Rattle.std.specs.Prelude.{Result}
 use Rattle.ov_model.specs.Registry.{users_name}
 use Rattle.ov_model.specs.declared.command.Command.TheVariants as asks
