@@ -1,6 +1,7 @@
 -- What the commands on users and staged tables keep to, by what `ov_staging` says of them.
 use Rattle.std.proofs.Common.{◌≡◌, ◌≤◌, ◌+◌, ◌∙◌, inl, inr, ℕ, Bool, true, false, List, refl, sym, ap, subst, arith}
 use Rattle.std.specs.Prelude.{◌-◌, ◌^◌, min, Some, None, Option, Ok, Err, Result, IfErr, IfOk, IsErrOf, MatchResult, OnOk, is_some}
+use Rattle.std.specs.Option.{option_or}
 use Rattle.std.proofs.lemmas.Option.{same_Some}
 use Rattle.ov_core.specs.AtWorld.{IsAtWorld}
 use Rattle.ov_core.specs.Held.{IsByJournal}
@@ -34,6 +35,7 @@ use Rattle.ov_store.specs.Kept.{Kept, MayCall}
 use Rattle.ov_store.specs.Scanning.{set_in}
 use Rattle.ov_store.proofs.Finishing.{may_call_later}
 use Rattle.law_runs.proofs.Doing.{breaks_looked, does_told}
+use Rattle.law_runs.specs.Serving.{Does}
 use Rattle.law_steps.specs.Turns.{running}
 use Rattle.ov_session.proofs.Bounds.{fetched_allowed, off_there}
 use Rattle.ov_session.proofs.Idling.{committed_none, done_none}
@@ -48,6 +50,10 @@ use Rattle.ov_session.specs.Registering.{IsRegistered, next_by}
 use Rattle.ov_session.specs.Standing.{Idle, IsAtSilently}
 use Rattle.ov_session.specs.declared.errors.EndErr.{EndErr}
 use Rattle.ov_session.specs.declared.errors.EndErr.TheVariants as ending
+use Rattle.ov_session.specs.declared.serving.Served.{Served}
+use Rattle.ov_session.specs.declared.serving.Served.TheVariants as served
+use Rattle.ov_value.specs.Naming.{is_name}
+use Rattle.std.specs.Prelude.{IsTrue}
 
 -- ---- ends
 
@@ -63,7 +69,7 @@ ok_of P (Err gone.Host) is = tt
 ok_of P (Err gone.Memory) is = tt
 ok_of P (Err (gone.Damaged area at)) is = tt
 
-if_of : (P : Reply → Type 0) (r : Result Reply StagingErr) → IfOk r P → IfOk (by_staging r) P
+pub if_of : (P : Reply → Type 0) (r : Result Reply StagingErr) → IfOk r P → IfOk (by_staging r) P
 if_of P (Ok reply) is = is
 if_of P (Err gone.Host) is = tt
 if_of P (Err gone.Memory) is = tt
@@ -490,3 +496,23 @@ module _ (user name : List ℕ) (k : Kept) (old new : State) (looked : Looked ol
     seen = if_of (IfNoFile ⊥) r (when_ok (IsConfigured name users_set old) (IfNoFile ⊥) r configured_seen said);
     acts = λ w files at. config_act w files at r (world w at);
   }
+
+-- who is done with a `config` has a name
+module _ (name : List ℕ) (set : Option Set) (s : State) where
+  refused_kind : (refusal : Refusal) (reply : Reply) → reply ≡ says.Refused refusal → kind_of reply ≡ served.Done → ⊥
+  refused_kind refusal reply is done = let two : kind_of (says.Refused refusal) ≡ served.Done = sym (ap kind_of is) ∙ done in cc
+
+  named_so : (a b : Bool) → option_or (if_so a no.ForeignRegistry) (if_so (not b) (no.NoUser name)) ≡ None → b ≡ true
+  named_so true b is = absurd cc
+  named_so false true is = refl
+  named_so false false is = absurd cc
+
+  pub done_named : (reply : Reply) → IsConfigured name set s reply → kind_of reply ≡ served.Done → IsTrue (is_name name)
+  done_named reply (inl off) done = absurd (refused_kind off.0 reply off.2 done)
+  done_named reply (inr rows) done = named_so _ (is_name name) rows.0
+
+pub next_named : (next name user now : List ℕ) (what : Served) → next ≡ name → (what ≡ served.Done → IsTrue (is_name name)) → IsTrue (is_name user)
+    → now ≡ user_by (Some next) what user → IsTrue (is_name now)
+next_named next name user now served.Comment same done named is = subst (λ (n : List ℕ). IsTrue (is_name n)) (sym is) named
+next_named next name user now served.Refused same done named is = subst (λ (n : List ℕ). IsTrue (is_name n)) (sym is) named
+next_named next name user now served.Done same done named is = subst (λ (n : List ℕ). IsTrue (is_name n)) (sym (is ∙ same)) (done refl)

@@ -1,8 +1,10 @@
 // The commands on users and staged tables.
-ghost use Rattle.std.specs.Prelude.{◌≡◌, ℕ, List, Some, IfOk, IfErr};
+ghost use Rattle.std.specs.Prelude.{◌≡◌, ℕ, List, Some, IsTrue, IfOk, IfErr};
 ghost use Rattle.ov_model.specs.declared.command.Command.TheVariants as asks;
 ghost use Rattle.ov_model.specs.declared.reply.Reply.TheVariants as says;
 ghost use Rattle.ov_store.specs.Kept.{MayCall};
+ghost use Rattle.ov_value.specs.Naming.{is_name};
+ghost use Rattle.ov_session.specs.declared.serving.Served.TheVariants as served;
 ghost use Rattle.ov_session.specs.Acting.{kind_of, user_by};
 ghost use Rattle.ov_session.specs.Registering.{IsRegistered, next_by};
 
@@ -36,7 +38,8 @@ fn configured<H: Host>(
     name: Txt,
 ) -> Result<Reply, EndErr>
     requires call { MayCall store.now (H.state host.old) }
-    ensures { (user : List ℕ) → IsRegistered user (next_by user name result) (asks.Config name) result store.now store.now (H.state host.old) (H.state host.new) }
+    ensures serves { (user : List ℕ) → IsRegistered user (next_by user name result) (asks.Config name) result store.now store.now (H.state host.old) (H.state host.new) }
+    ensures named { IfOk result (λ reply. kind_of reply ≡ served.Done → IsTrue (is_name name)) }
 {
     ended(config(alloc, store, host, name))
 }
@@ -59,8 +62,10 @@ pub fn become_user<H: Host>(
     name: Txt,
 ) -> Result<Reply, EndErr>
     requires call { MayCall store.now (H.state host.old) }
+    requires user { IsTrue (is_name user.old) }
     ensures serves { IsRegistered user.old user.new (asks.Config name) result store.now store.now (H.state host.old) (H.state host.new) }
     ensures next { user.new ≡ next_by user.old name result }
+    ensures named { IsTrue (is_name user.new) }
 {
     match name.copy(alloc) {
         Ok(next) => match configured(alloc, store, host, name) {
