@@ -53,7 +53,7 @@ use Rattle.ov_session.specs.declared.errors.EndErr.TheVariants as ending
 use Rattle.ov_session.specs.declared.serving.Served.{Served}
 use Rattle.ov_session.specs.declared.serving.Served.TheVariants as served
 use Rattle.ov_value.specs.Naming.{is_name}
-use Rattle.std.specs.Prelude.{IsTrue}
+use Rattle.std.specs.Prelude.{IsTrue, not}
 
 -- ---- ends
 

@@ -21,3 +21,6 @@ returns-in-Ok-configured-clause-named g c =
 
 pub returns-in-Err-clause-serves : goal.returns-in-Err-clause-serves
 returns-in-Err-clause-serves g c = no_memory c.args.user.now c.args.name c.args.store.now (g.H.Host.state c.args.host.now)
+
+pub returns-in-Err-configured-clause-serves : goal.returns-in-Err-configured-clause-serves
+returns-in-Err-configured-clause-serves g c = c.in-Err-configured.ensures.serves c.args.user.now

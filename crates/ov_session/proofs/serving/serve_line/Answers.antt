@@ -1,4 +1,4 @@
-use Rattle.std.proofs.Common.{◌≡◌, ◌∙◌, false, sym, ap, arith, refl, subst, rules}
+use Rattle.std.proofs.Common.{◌≡◌, ◌∙◌, false, sym, ap, arith, refl, subst, rules, inl}
 use Rattle.std.specs.Prelude.{Err, IsErrOf, Ok, Option, Result, is_ok}
 use Rattle.ov_cmd.specs.Asked.{AsksBuilt}
 use Rattle.ov_cmd.specs.Said.{said}
@@ -30,11 +30,11 @@ use Rattle.ov_session.proofs.Shaping.{user_shaped}
 use Rattle.ov_session.specs.Acting.{IsNextUser}
 use Rattle.ov_session.proofs.serving.serve_line.Goals as goal
 
-pub answer-requires-clause-asked : goal.answer-requires-clause-asked
-answer-requires-clause-asked g c = (subst AsksBuilt c.in-Ok-Some.field-0-is c.in-Ok-Some.ensures.asked).0
+pub act-requires-clause-asked : goal.act-requires-clause-asked
+act-requires-clause-asked g c = (subst AsksBuilt c.in-Ok-Some.field-0-is c.in-Ok-Some.ensures.asked).0
 
-pub answer-requires-clause-built : goal.answer-requires-clause-built
-answer-requires-clause-built g c = (subst AsksBuilt c.in-Ok-Some.field-0-is c.in-Ok-Some.ensures.asked).1
+pub act-requires-clause-built : goal.act-requires-clause-built
+act-requires-clause-built g c = (subst AsksBuilt c.in-Ok-Some.field-0-is c.in-Ok-Some.ensures.asked).1
 
 pub returns-in_err-reply-in-Ok-Some-clause-undamaged : goal.returns-in_err-reply-in-Ok-Some-clause-undamaged
 returns-in_err-reply-in-Ok-Some-clause-undamaged g c = λ w at.
