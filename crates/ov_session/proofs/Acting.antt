@@ -1,5 +1,5 @@
 -- Who acts behind a line.
-use Rattle.std.proofs.Common.{◌≡◌, ℕ, Bool, true, false, List, refl, sym, ◌∙◌, ap, subst, inl, inr}
+use Rattle.std.proofs.Common.{◌≡◌, ℕ, true, false, List, refl, sym, ◌∙◌, ap, subst, inl, inr}
 use Rattle.std.specs.Prelude.{◌⊎◌, IfOk, MatchResult, Option, Some, None, Result, Ok, Err}
 use Rattle.law_runs.specs.Serving.{is_error}
 use Rattle.ov_model.specs.Line.{Line, Comment, Asks, Refused}

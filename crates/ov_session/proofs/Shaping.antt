@@ -20,12 +20,11 @@ use Rattle.ov_model.specs.declared.command.Command.TheVariants as asks
 use Rattle.ov_model.specs.declared.refusal.Refusal.{Refusal}
 use Rattle.ov_model.specs.declared.refusal.Refusal.TheVariants as no
 use Rattle.ov_model.specs.declared.reply.Reply.{Reply}
-use Rattle.ov_model.specs.declared.reply.Reply.TheVariants as says
 use Rattle.ov_session.specs.Acting.{user_after, user_by}
 use Rattle.ov_session.specs.Reads.{becomes_of}
 use Rattle.ov_session.proofs.Dealing.{damage_wider}
 use Rattle.ov_session.proofs.Meeting.{refused_asks, same_command}
-use Rattle.ov_session.proofs.Saying.{Says, comment_none, line_unserved, says_broken, says_refusal, says_reply}
+use Rattle.ov_session.proofs.Saying.{Says, comment_none, says_broken, says_reply}
 use Rattle.ov_session.proofs.Standing.{on_any}
 use Rattle.ov_session.specs.Asking.{line_asked}
 use Rattle.ov_session.specs.Bounds.{IsFetched, IsFetchedBy, IsReading, IsReadingCommand, is_command_off, is_off}

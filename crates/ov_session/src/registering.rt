@@ -12,7 +12,9 @@ use crate::errors::{EndErr, ended};
 use ov_host::Host;
 use ov_model::Reply;
 use ov_reply::is_error;
-use ov_staging::{config, create_user as create_user_in, tables as tables_in, unstage as unstage_in};
+use ov_staging::{
+    config, create_user as create_user_in, tables as tables_in, unstage as unstage_in,
+};
 use ov_store::Store;
 use ov_value::Txt;
 use std::alloc::Global;

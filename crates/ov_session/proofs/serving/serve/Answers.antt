@@ -1,5 +1,5 @@
 use Rattle.std.proofs.Common.{◌≡◌, ◌∙◌, true, false, refl, sym, ap, subst, arith}
-use Rattle.std.specs.Prelude.{Err, IfErr, Ok, Result, is_ok}
+use Rattle.std.specs.Prelude.{Err, IfErr, Result, is_ok}
 use Rattle.law_forms.specs.BuiltShapes.{served_forms}
 use Rattle.ov_host.specs.Host.{State}
 use Rattle.law_runs.specs.Serving.{Serves, session_of}
