@@ -1,4 +1,4 @@
-use Rattle.std.proofs.Common.{◌≡◌, ◌∙◌, Bool, ℕ, List, [], true, false, refl, sym, ap, subst, arith, rules}
+use Rattle.std.proofs.Common.{◌≡◌, ◌∙◌, Bool, ℕ, List, [], true, false, refl, sym, ap, subst, arith}
 use Rattle.std.specs.Prelude.{Err, IfErr, IsTrue, Ok, Result}
 use Rattle.law_forms.specs.BuiltShapes.{served_forms}
 use Rattle.ov_host.specs.Host.{Rose}
