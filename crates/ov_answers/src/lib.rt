@@ -22,6 +22,6 @@ pub use acts::{commit_refusal, ls_line, merge_of, records_refusal};
 pub use answering::answer;
 pub use kinds_err::KindsErr;
 pub use lineage::relatives;
-pub use pairing::{Pair, pairs};
-pub use refusals::{rows_refusal, vids_refusal};
+pub use pairing::{Pair, pairs, rows_at};
+pub use refusals::{format_one, rows_refusal, vids_refusal};
 pub use typing::kinds;

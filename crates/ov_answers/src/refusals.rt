@@ -113,7 +113,7 @@ fn format_refusal(row: Option<u64>, adds: bool) -> Option<Refusal>
 }
 
 /// Why a store of a format doesn't take these rows, or the columns that are added with them.
-fn format_one(format: u32, adds: bool, rows: &[Row]) -> Option<Refusal>
+pub fn format_one(format: u32, adds: bool, rows: &[Row]) -> Option<Refusal>
     requires { length rows.now + 1 < 2 ^ 64 }
     ensures { result ≡ format_one format adds rows.now }
 {

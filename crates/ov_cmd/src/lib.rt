@@ -22,3 +22,4 @@ mod words;
 
 pub use line::{read_built_line, read_line};
 pub use line_err::LineErr;
+pub use numbers::vids_of;

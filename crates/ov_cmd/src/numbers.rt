@@ -48,8 +48,8 @@ fn numbers_between(alloc: Global, word: &str, at: char) -> Result<Option<Seq<u64
     Ok(numbers)
 }
 
-/// Numbers joined by commas.
-pub(crate) fn vids_of(alloc: Global, word: &str) -> Result<Option<Seq<u64>>, AllocError>
+/// Numbers of one digit to 18 joined by commas; `None` of any other text.
+pub fn vids_of(alloc: Global, word: &str) -> Result<Option<Seq<u64>>, AllocError>
     ensures { IfOk result (λ vids. vids ≡ vids_in_text word.now) }
 {
     numbers_between(alloc, word, ',')

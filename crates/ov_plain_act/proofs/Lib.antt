@@ -1,5 +1,6 @@
 pub mod Accepting
 pub mod Changing
+pub mod Choosing
 pub mod Counting
 pub mod Fitting
 pub mod Logging

@@ -58,15 +58,14 @@ came s next (Ok rows) = next rows
 -- Whether a command's act is computed here.
 abbrev pub is_plain : Command → Bool
 is_plain (asks.Init cvd schema file) = true
-is_plain (asks.Checkout cvd vids file None) = true
-is_plain (asks.Checkout cvd vids file (Some table)) = false
+is_plain (asks.Checkout cvd vids file table) = true
 is_plain (asks.Commit cvd vids file message None) = true
 is_plain (asks.Commit cvd vids file message (Some added)) = false
-is_plain (asks.CommitStaged user table message) = false
+is_plain (asks.CommitStaged user table message) = true
 is_plain (asks.Run text) = false
 is_plain (asks.Optimize cvd p q) = true
-is_plain (asks.OptimizeWithin cvd budget) = false
-is_plain (asks.Advise cvd budget a b) = false
+is_plain (asks.OptimizeWithin cvd budget) = true
+is_plain (asks.Advise cvd budget a b) = true
 is_plain (asks.Migrate count) = true
 is_plain (asks.Layout cvd) = true
 is_plain (asks.Log cvd) = true
@@ -74,11 +73,11 @@ is_plain asks.Ls = true
 is_plain (asks.DropCvd cvd) = true
 is_plain asks.Checkpoint = true
 is_plain (asks.Generate cvd seed rows versions) = false
-is_plain (asks.CreateUser name) = false
-is_plain (asks.Config name) = false
-is_plain asks.Whoami = false
-is_plain (asks.Unstage user table) = false
-is_plain asks.Tables = false
+is_plain (asks.CreateUser name) = true
+is_plain (asks.Config name) = true
+is_plain asks.Whoami = true
+is_plain (asks.Unstage user table) = true
+is_plain asks.Tables = true
 
 -- the lines of a log, by the records of the versions before
 abbrev pub lines_after : List (List Rec) → List Version → List LogLine

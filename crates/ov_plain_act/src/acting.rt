@@ -1,7 +1,7 @@
 //! What a command does: a dataset more, a version more, a dataset less, a checkpoint, and whichever command it is.
 
 ghost use Rattle.std.specs.Prelude.{◌≡◌, ◌+◌, ◌≤◌, ◌<◌, ◌^◌, [], length, Some, None, is_some, IfOk, IfSome};
-ghost use Rattle.ov_model.specs.Act.{does, init_refusal, init_deed, commit_refusal, commit_rows, commit_deed, drop_deed, checkpoint_deed, fresh_of, refuses};
+ghost use Rattle.ov_model.specs.Act.{does, init_refusal, init_deed, commit_refusal, commit_rows, commit_deed, drop_deed, checkpoint_deed, fresh_of, more_refusal, refuses};
 ghost use Rattle.ov_model.specs.Deed.{deed, permitted};
 ghost use Rattle.ov_model.specs.Moves.{version_of, Init};
 ghost use Rattle.ov_model.specs.World.{set_named};
@@ -11,14 +11,18 @@ ghost use Rattle.ov_plain_act.specs.Acts.{deed_of, session_of, is_plain};
 ghost use Rattle.ov_plain_act.specs.Small.{AllFit, AreSmall, AreSmallMoves, IsSmallCommand, IsSmallSet};
 
 use crate::accepted::accepted;
+use crate::budget::{advise_deed, within_deed};
 use crate::counts::count_of;
 use crate::deed::{Deed, Move, does, no_cvd, refuses};
 use crate::laying::layout_deed;
 use crate::planning::optimize_deed;
 use crate::session::Session;
 use crate::showing::checkout_deed;
+use crate::staging::{commit_staged_deed, stage_deed};
 use crate::stepping::migrate_deed;
+use crate::tables::{tables_deed, unstage_deed};
 use crate::telling::{count_fresh, log_deed, ls_deed};
+use crate::users::{config_deed, create_user_deed, whoami_deed};
 use crate::world::{World, first_named};
 use ov_answers::{commit_refusal, records_refusal};
 use ov_model::{Command, Refusal, Reply};
@@ -28,15 +32,11 @@ use ov_value::{Row, Schema, Txt};
 use sqlite_items::Items;
 use std::alloc::{AllocError, Global};
 
-/// Why there can't be a dataset of this name more.
-fn init_refusal(alloc: Global, world: &World, name: &Txt) -> Result<Option<Refusal>, AllocError>
-    requires { AreSmall world.now.sets }
-    ensures { IfOk result (λ refusal. refusal ≡ init_refusal world.now name.now) }
+/// Why there can't be a dataset more.
+pub fn more_refusal(alloc: Global, world: &World, name: &Txt) -> Result<Option<Refusal>, AllocError>
+    ensures { IfOk result (λ refusal. refusal ≡ more_refusal world.now name.now) }
 {
     let cvd = name.copy(alloc)?;
-    if first_named(world.sets.as_slice(), name).is_some() {
-        return Ok(Some(Refusal::CvdExists { cvd }));
-    }
     if 1024 <= world.sets.len() {
         return Ok(Some(Refusal::TooManyCvds));
     }
@@ -44,6 +44,18 @@ fn init_refusal(alloc: Global, world: &World, name: &Txt) -> Result<Option<Refus
         return Ok(Some(Refusal::NoNumbers { cvd }));
     }
     Ok(None)
+}
+
+/// Why there can't be a dataset of this name more.
+fn init_refusal(alloc: Global, world: &World, name: &Txt) -> Result<Option<Refusal>, AllocError>
+    requires { AreSmall world.now.sets }
+    ensures { IfOk result (λ refusal. refusal ≡ init_refusal world.now name.now) }
+{
+    if first_named(world.sets.as_slice(), name).is_some() {
+        let cvd = name.copy(alloc)?;
+        return Ok(Some(Refusal::CvdExists { cvd }));
+    }
+    more_refusal(alloc, world, name)
 }
 
 /// A dataset more, of these rows.
@@ -126,7 +138,7 @@ fn version_of(
 }
 
 /// How many records of a new version no parent gives it.
-fn fresh_of(alloc: Global, set: &Dataset, version: &Version) -> Result<u32, AllocError>
+pub fn fresh_of(alloc: Global, set: &Dataset, version: &Version) -> Result<u32, AllocError>
     requires versions { length set.now.cvd.versions < 65535 }
     requires rows { length version.now.rows ≤ 1000000 }
     ensures { IfOk result (λ fresh. fresh ≡ fresh_of set.now version.now.parents version.now.message version.now.rows) }
@@ -214,7 +226,7 @@ fn commit_file(
 }
 
 /// What a commit to this dataset does.
-fn commit_of(
+pub fn commit_of(
     alloc: Global,
     world: &World,
     session: &Session,
@@ -308,15 +320,14 @@ fn is_plain(command: &Command) -> bool
 {
     match command {
         Command::Init { .. } => true,
-        Command::Checkout { table: None, .. } => true,
-        Command::Checkout { table: Some(_), .. } => false,
+        Command::Checkout { .. } => true,
         Command::Commit { added: None, .. } => true,
         Command::Commit { added: Some(_), .. } => false,
-        Command::CommitStaged { .. } => false,
+        Command::CommitStaged { .. } => true,
         Command::Run { .. } => false,
         Command::Optimize { .. } => true,
-        Command::OptimizeWithin { .. } => false,
-        Command::Advise { .. } => false,
+        Command::OptimizeWithin { .. } => true,
+        Command::Advise { .. } => true,
         Command::Migrate { .. } => true,
         Command::Layout { .. } => true,
         Command::Log { .. } => true,
@@ -324,11 +335,69 @@ fn is_plain(command: &Command) -> bool
         Command::DropCvd { .. } => true,
         Command::Checkpoint => true,
         Command::Generate { .. } => false,
-        Command::CreateUser { .. } => false,
-        Command::Config { .. } => false,
-        Command::Whoami => false,
-        Command::Unstage { .. } => false,
-        Command::Tables => false,
+        Command::CreateUser { .. } => true,
+        Command::Config { .. } => true,
+        Command::Whoami => true,
+        Command::Unstage { .. } => true,
+        Command::Tables => true,
+    }
+}
+
+/// What a command of users and staged tables does that no rule denies. Another one is answered as want of memory.
+fn user_deed(
+    alloc: Global,
+    world: &World,
+    session: &Session,
+    command: &Command,
+) -> Result<Deed, AllocError>
+    requires world { AreSmall world.now.sets }
+    requires command { IsSmallCommand command.now }
+    ensures is { IfOk result (λ d. deed_of d ≡ permitted world.now (session_of session.now) command.now) }
+    ensures small { IfOk result (λ d. AreSmallMoves d.moves) }
+{
+    match command {
+        Command::Checkout {
+            cvd,
+            vids,
+            table: Some(table),
+            ..
+        } => stage_deed(alloc, world, session, cvd, vids.as_slice(), table),
+        Command::CommitStaged {
+            user,
+            table,
+            message,
+        } => commit_staged_deed(alloc, world, session, user, table, message),
+        Command::CreateUser { name } => create_user_deed(alloc, world, session, name),
+        Command::Config { name } => config_deed(alloc, world, session, name),
+        Command::Whoami => whoami_deed(alloc, session),
+        Command::Unstage { user, table } => unstage_deed(alloc, world, session, user, table),
+        Command::Tables => tables_deed(alloc, world, session),
+        _ => Err(AllocError),
+    }
+}
+
+/// What a command of plans, of users or of staged tables does that no rule denies. Another one is answered as want of memory.
+fn plan_deed(
+    alloc: Global,
+    world: &World,
+    session: &Session,
+    command: &Command,
+) -> Result<Deed, AllocError>
+    requires world { AreSmall world.now.sets }
+    requires command { IsSmallCommand command.now }
+    ensures is { IfOk result (λ d. deed_of d ≡ permitted world.now (session_of session.now) command.now) }
+    ensures small { IfOk result (λ d. AreSmallMoves d.moves) }
+{
+    match command {
+        Command::Optimize { cvd, p, q } => optimize_deed(alloc, world, session, cvd, *p, *q),
+        Command::OptimizeWithin { cvd, budget } => {
+            within_deed(alloc, world, session, cvd, *budget)
+        }
+        Command::Advise { cvd, budget, a, b } => {
+            advise_deed(alloc, world, session, cvd, *budget, *a, *b)
+        }
+        Command::Migrate { count } => migrate_deed(alloc, world, session, *count),
+        _ => user_deed(alloc, world, session, command),
     }
 }
 
@@ -366,10 +435,8 @@ fn permitted_deed(
         Command::Log { cvd } => log_deed(alloc, world, session, cvd),
         Command::Ls => ls_deed(alloc, world, session),
         Command::DropCvd { cvd } => drop_deed(alloc, world, session, cvd),
-        Command::Optimize { cvd, p, q } => optimize_deed(alloc, world, session, cvd, *p, *q),
-        Command::Migrate { count } => migrate_deed(alloc, world, session, *count),
         Command::Checkpoint => checkpoint_deed(alloc, world, session),
-        _ => Err(AllocError),
+        _ => plan_deed(alloc, world, session, command),
     }
 }
 

@@ -108,7 +108,7 @@ fn stored_in(alloc: Global, set: &Dataset) -> Result<u64, AllocError>
 }
 
 /// What checkouts of all versions read.
-fn cost_in(alloc: Global, set: &Dataset) -> Result<u64, AllocError>
+pub fn cost_in(alloc: Global, set: &Dataset) -> Result<u64, AllocError>
     requires parts { length set.now.parts ≤ 65535 }
     requires serve { ServeFew set.now.parts }
     ensures { IfOk result (λ all. all ≡ cost set.now) }

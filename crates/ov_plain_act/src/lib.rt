@@ -6,18 +6,23 @@
 
 mod accepted;
 mod acting;
+mod budget;
 mod changes;
 mod counts;
 mod course;
 mod deed;
 mod laying;
 mod planning;
+mod registry;
 mod running;
 mod session;
 mod showing;
 mod small;
+mod staging;
 mod stepping;
+mod tables;
 mod telling;
+mod users;
 mod world;
 
 pub use acting::plain_deed;

@@ -3,6 +3,7 @@
 ghost use Rattle.std.specs.Prelude.{◌≡◌, ◌≤◌, ◌<◌, ◌^◌, length, Some, None, IfOk};
 ghost use Rattle.ov_graph.specs.Splits.{stored, cost};
 ghost use Rattle.ov_model.specs.Act.{does, is_threshold, optimize_refusal, optimized, optimize_deed};
+ghost use Rattle.ov_model.specs.Budget.{within_refusal};
 ghost use Rattle.ov_model.specs.Moves.{BeginPlan};
 ghost use Rattle.ov_model.specs.Plans.{parts_at, plan_steps, planned, sizes_of};
 ghost use Rattle.ov_model.specs.World.{set_named};
@@ -24,10 +25,24 @@ use sqlite_items::Items;
 use std::alloc::{AllocError, Global};
 
 /// Whether p / q is a threshold.
-fn is_threshold(p: u64, q: u64) -> bool
+pub fn is_threshold(p: u64, q: u64) -> bool
     ensures { result ≡ is_threshold p q }
 {
     1 <= p && p <= q && q <= 1_000_000
+}
+
+/// Why no plan of a dataset begins, whatever its threshold.
+pub fn within_refusal(alloc: Global, set: &Dataset) -> Result<Option<Refusal>, AllocError>
+    ensures { IfOk result (λ refusal. refusal ≡ within_refusal set.now) }
+{
+    let cvd = set.cvd.name.copy(alloc)?;
+    if set.plan.is_some() {
+        return Ok(Some(Refusal::Migrating { cvd }));
+    }
+    if 4_294_000_000 < set.next_part {
+        return Ok(Some(Refusal::NoNumbers { cvd }));
+    }
+    Ok(None)
 }
 
 /// Why no plan of a dataset begins at p / q.
@@ -44,14 +59,7 @@ fn optimize_refusal(
     if !is_threshold(p, q) {
         return Ok(Some(Refusal::BadThreshold));
     }
-    let cvd = set.cvd.name.copy(alloc)?;
-    if set.plan.is_some() {
-        return Ok(Some(Refusal::Migrating { cvd }));
-    }
-    if 4_294_000_000 < set.next_part {
-        return Ok(Some(Refusal::NoNumbers { cvd }));
-    }
-    Ok(None)
+    within_refusal(alloc, set)
 }
 
 /// What partitions of these versions will store.
@@ -86,7 +94,7 @@ fn cost_in(alloc: Global, set: &Dataset, parts: &[Items<u32>]) -> Result<u64, Al
 }
 
 /// The steps of a plan at p / q.
-fn steps_at(alloc: Global, set: &Dataset, p: u32, q: u32) -> Result<u64, AllocError>
+pub fn steps_at(alloc: Global, set: &Dataset, p: u32, q: u32) -> Result<u64, AllocError>
     requires { IsSmall set.now.cvd }
     ensures { IfOk result (λ steps. steps ≡ plan_steps (planned p q set.now)) }
 {
@@ -98,7 +106,12 @@ fn steps_at(alloc: Global, set: &Dataset, p: u32, q: u32) -> Result<u64, AllocEr
 }
 
 /// How many parts the split at p / q has, what they will store, and what checkouts will read of them.
-fn split_sizes(alloc: Global, set: &Dataset, p: u32, q: u32) -> Result<(u32, u64, u64), AllocError>
+pub fn split_sizes(
+    alloc: Global,
+    set: &Dataset,
+    p: u32,
+    q: u32,
+) -> Result<(u32, u64, u64), AllocError>
     requires { IsSmall set.now.cvd }
     ensures parts { IfOk result (λ sizes. sizes.0 ≡ length (parts_at set.now p q)) }
     ensures stored { IfOk result (λ sizes. sizes.1 ≡ stored (sizes_of set.now (parts_at set.now p q))) }

@@ -89,4 +89,13 @@ impl Session {
         let files = onto(alloc, File { name, bytes }, files)?;
         Ok(Session { files, user })
     }
+
+    /// A copy of it, of this user.
+    pub fn with_user(&self, alloc: Global, name: &Txt) -> Result<Session, AllocError>
+        ensures { IfOk result (λ made. session_of made ≡ record (session_of self.now) { user = name.now }) }
+    {
+        let files = self.files.copied(alloc)?;
+        let user = name.copy(alloc)?;
+        Ok(Session { files, user })
+    }
 }

@@ -18,7 +18,7 @@ use ov_value::{Row, Txt};
 use std::alloc::{AllocError, Global};
 
 /// What is told of rows that are put into a file.
-fn to_file(alloc: Global, cvd: &Cvd, rows: &[Row], file: &Txt) -> Result<Reply, AllocError>
+pub fn to_file(alloc: Global, cvd: &Cvd, rows: &[Row], file: &Txt) -> Result<Reply, AllocError>
     requires { length rows.now < 2 ^ 32 }
     ensures { IfOk result (λ reply. reply ≡ says.ToFile cvd.now.name (length rows.now) file.now) }
 {
@@ -53,7 +53,7 @@ fn gives(
 }
 
 /// The rows that a checkout gives. There are fewer than 2^32.
-fn rows_merged(alloc: Global, set: &Dataset, vids: &[u64]) -> Result<Seq<Row>, AllocError>
+pub fn rows_merged(alloc: Global, set: &Dataset, vids: &[u64]) -> Result<Seq<Row>, AllocError>
     requires small { IsSmallSet set.now }
     requires few { length vids.now ≤ 65535 }
     ensures is { IfOk result (λ rows. rows ≡ merge_of set.now.cvd vids.now) }

@@ -48,7 +48,7 @@ pub const PEOPLE: Course = Course {
         ("checkout other -v 1 -f out.csv\n", &[]),
     ],
     probe: "ls\nlog people\nlog other\nlayout people\ncheckout people -v 1\ncheckout people -v 2,1\ncheckout people -v 3\ncheckout other -v 1\n",
-    calls: [125, 2, 15],
+    calls: [132, 2, 15],
 };
 
 /// Each version of a made dataset is a move of its own. At 2/3 there are two targets, of which the second one keeps a segment: a
@@ -71,7 +71,7 @@ pub const MADE: Course = Course {
         ("migrate 1\n", &[]),
     ],
     probe: "ls\nlog g\nlayout g\ncheckout g -v 1\ncheckout g -v 2\ncheckout g -v 3\nmigrate 9\nlayout g\ncheckout g -v 3,2\n",
-    calls: [134, 2, 0],
+    calls: [138, 2, 0],
 };
 
 /// A step comes behind each reply, a refusal too, until the plan has ended.
@@ -109,7 +109,7 @@ pub const USERS: Course = Course {
         ("create_user cy\n", &[]),
     ],
     probe: "ls\nlog orpheus_users\ncheckout orpheus_users -v 1\ncheckout orpheus_users -v 2\ncheckout orpheus_users -v 3\n",
-    calls: [0, 0, 0],
+    calls: [70, 2, 0],
 };
 
 /// Versions without a row, which take no page.
