@@ -54,6 +54,9 @@ advise_is = record {
 create_is : IsForm Any IsAsked (of_name (codes "create_user") asks.CreateUser)
 create_is = record { reads = tt; makes = λ plain v none good words. tt; whole = λ e. off e }
 
+config_is : IsForm Any IsAsked (of_name (codes "config") asks.Config)
+config_is = record { reads = tt; makes = λ plain v none good words. tt; whole = λ e. off e }
+
 unstage_is : IsForm Any IsAsked unstage_form
 unstage_is = record { reads = tt; makes = λ plain v none good words. tt; whole = λ e. off e }
 
@@ -91,8 +94,11 @@ asked_are = (
                               (
                                 create_is,
                                 (
-                                  unstage_is,
-                                  tt,
+                                  config_is,
+                                  (
+                                    unstage_is,
+                                    tt,
+                                  ),
                                 ),
                               ),
                             ),
@@ -204,6 +210,9 @@ advise_built = record {
 create_built : IsForm Few IsBuilt (of_name (codes "create_user") asks.CreateUser)
 create_built = record { reads = tt; makes = λ plain v none good words. tt; whole = λ e. off e }
 
+config_built : IsForm Few IsBuilt (of_name (codes "config") asks.Config)
+config_built = record { reads = tt; makes = λ plain v none good words. tt; whole = λ e. off e }
+
 unstage_built : IsForm Few IsBuilt unstage_form
 unstage_built = record { reads = tt; makes = λ plain v none good words. tt; whole = λ e. off e }
 
@@ -262,8 +271,11 @@ built_are = (
                               (
                                 create_built,
                                 (
-                                  unstage_built,
-                                  tt,
+                                  config_built,
+                                  (
+                                    unstage_built,
+                                    tt,
+                                  ),
                                 ),
                               ),
                             ),

@@ -13,9 +13,9 @@ built_forms =
     ∷ optimize_form threshold_or_budget ∷ advise_form ∷ migrate_form ∷ of_cvd (codes "layout") asks.Layout
     ∷ of_cvd (codes "log") asks.Log ∷ of_cvd (codes "drop") asks.DropCvd ∷ alone (codes "ls") asks.Ls
     ∷ alone (codes "checkpoint") asks.Checkpoint ∷ alone (codes "whoami") asks.Whoami ∷ alone (codes "tables") asks.Tables
-    ∷ generate_form ∷ of_name (codes "create_user") asks.CreateUser ∷ unstage_form ∷ []
+    ∷ generate_form ∷ of_name (codes "create_user") asks.CreateUser ∷ of_name (codes "config") asks.Config ∷ unstage_form ∷ []
 
--- One row for each command of the product. No table is staged yet, no column added, and no user changed.
+-- One row for each command of the product. No table is staged yet, and no column added.
 abbrev pub IsBuilt : Command → Type 0
 IsBuilt (asks.Init cvd schema file) = Unit {0}
 IsBuilt (asks.Checkout cvd vids file table) = table ≡ None
@@ -33,7 +33,7 @@ IsBuilt (asks.DropCvd cvd) = Unit {0}
 IsBuilt asks.Checkpoint = Unit {0}
 IsBuilt (asks.Generate cvd seed rows versions) = Unit {0}
 IsBuilt (asks.CreateUser name) = Unit {0}
-IsBuilt (asks.Config name) = ⊥
+IsBuilt (asks.Config name) = Unit {0}
 IsBuilt asks.Whoami = Unit {0}
 IsBuilt (asks.Unstage user table) = Unit {0}
 IsBuilt asks.Tables = Unit {0}

@@ -308,7 +308,7 @@ static ALL: [Form; 19] = [
 ];
 
 /// The commands that the program has so far.
-static BUILT: [Form; 17] = [
+static BUILT: [Form; 18] = [
     Form {
         name: "init",
         second: None,
@@ -439,6 +439,14 @@ static BUILT: [Form; 17] = [
         params: &[NAME],
         choices: &[],
         maker: Maker::CreateUser,
+    },
+    Form {
+        name: "config",
+        second: None,
+        whole: false,
+        params: &[NAME],
+        choices: &[],
+        maker: Maker::Config,
     },
     Form {
         name: "unstage",

@@ -1,45 +1,41 @@
--- Who acts behind a line: by the commands that are built, the user who asked.
-use Rattle.std.proofs.Common.{◌≡◌, ℕ, List, [], ◌∷◌, refl, sym, ◌∙◌, ap, inl, inr}
-use Rattle.std.specs.Prelude.{◌⊎◌, Option, Some, None, Result, Ok, Err}
-use Rattle.law_forms.specs.Built.{IsBuilt}
-use Rattle.law_forms.specs.BuiltShapes.{served_forms}
-use Rattle.law_forms.proofs.BuiltForms.{all_built}
-use Rattle.ov_model.specs.Formed.{AsksSo}
-use Rattle.ov_model.specs.Line.{Line, Comment, Asks, Refused, line_of}
-use Rattle.ov_model.specs.Users.{line_by, permit, unless_denied}
+-- Who acts behind a line.
+use Rattle.std.proofs.Common.{◌≡◌, ℕ, true, false, List, refl, sym, ◌∙◌, ap, subst, inl, inr}
+use Rattle.std.specs.Prelude.{◌⊎◌, IfOk, MatchResult, Option, Some, None, Result, Ok, Err}
+use Rattle.law_runs.specs.Serving.{is_error}
+use Rattle.ov_model.specs.Line.{Line, Comment, Asks, Refused}
 use Rattle.ov_model.specs.declared.command.Command.{Command}
 use Rattle.ov_model.specs.declared.command.Command.TheVariants as asks
 use Rattle.ov_model.specs.declared.refusal.Refusal.{Refusal}
-use Rattle.ov_session.specs.Acting.{IsNextUser, user_after, user_by}
-use Rattle.ov_session.specs.Asking.{line_asked}
+use Rattle.ov_model.specs.declared.reply.Reply.{Reply}
+use Rattle.ov_model.specs.declared.reply.Reply.TheVariants as says
+use Rattle.ov_session.specs.Acting.{IsNextUser, kind_of, user_after, user_by}
+use Rattle.ov_session.specs.Commands.{IsSaid}
 use Rattle.ov_session.specs.Reads.{becomes_of}
 use Rattle.ov_session.specs.declared.errors.EndErr.{EndErr}
 use Rattle.ov_session.specs.declared.serving.Served.{Served}
 use Rattle.ov_session.specs.declared.serving.Served.TheVariants as served
 
--- a command that is built makes nobody the user
-becomes_none : (command : Command) → IsBuilt command → becomes_of command ≡ None
-becomes_none (asks.Checkout cvd vids file None) built = refl
-becomes_none (asks.Checkout cvd vids file (Some table)) built = refl
-becomes_none (asks.Config name) built = absurd built
-becomes_none command built = refl
+-- no other command makes anybody the user
+pub becomes_none : (command : Command) → ((name : List ℕ) → command ≡ asks.Config name → ⊥) → becomes_of command ≡ None
+becomes_none (asks.Checkout cvd vids file None) other = refl
+becomes_none (asks.Checkout cvd vids file (Some table)) other = refl
+becomes_none (asks.Config name) other = absurd (other name refl)
+becomes_none command other = refl
 
-stays_if : (found : Option Refusal) (command : Command) (what : Served) (user : List ℕ) → IsBuilt command → user_after (unless_denied found command) what user ≡ user
-stays_if None command what user built = ap (λ (o : Option (List ℕ)). user_by o what user) (becomes_none command built)
-stays_if (Some refusal) command what user built = refl
+pub stays_so : (command : Command) (result : Result Reply EndErr) (user : List ℕ) → becomes_of command ≡ None
+    → MatchResult result (λ reply. user ≡ user_by (becomes_of command) (kind_of reply) user) (λ why. user ≡ user)
+stays_so command (Ok reply) user none = sym (ap (λ (o : Option (List ℕ)). user_by o (kind_of reply) user) none)
+stays_so command (Err why) user none = refl
 
-stays_by : (l : Line) (what : Served) (user : List ℕ) → AsksSo IsBuilt l → user_after (line_by user l) what user ≡ user
-stays_by Comment what user so = refl
-stays_by (Asks command) what user so = stays_if (permit user command) command what user so
-stays_by (Refused refusal) what user so = refl
-
-pub user_stays : (user text : List ℕ) (what : Served) → user_after (line_asked user text) what user ≡ user
-user_stays user text what = stays_by (line_of served_forms text) what user (all_built (text ∷ [])).0
-
--- so it does wherever serving a line ends
-pub next_stays : (user text next : List ℕ) (result : Result Served EndErr) → next ≡ user → IsNextUser (line_asked user text) result user next
-next_stays user text next (Ok what) same = same ∙ sym (user_stays user text what)
-next_stays user text next (Err why) same = inl same
+-- a comment, or the end of the run before anything is said
+pub comment_user : (l : Line) (user : List ℕ) → user ≡ user_after l served.Comment user
+comment_user Comment user = refl
+comment_user (Asks command) user = by (becomes_of command)
+  where
+    by : (o : Option (List ℕ)) → user ≡ user_by o served.Comment user
+    by None = refl
+    by (Some name) = refl
+comment_user (Refused refusal) user = refl
 
 -- the user behind a line is the one before, or whom a line that is done makes it
 either_by : (found : Option (List ℕ)) (what : Served) (user : List ℕ) → (user_by found what user ≡ user) ⊎ (user_by found what user ≡ user_by found served.Done user)
@@ -52,3 +48,45 @@ pub user_either : (l : Line) (what : Served) (user : List ℕ) → (user_after l
 user_either Comment what user = inl refl
 user_either (Asks command) what user = either_by (becomes_of command) what user
 user_either (Refused refusal) what user = inl refl
+
+-- a line that was broken off once it was answered
+pub either_next : (l : Line) (what : Served) (user next : List ℕ) → next ≡ user_after l what user → (next ≡ user) ⊎ (next ≡ user_after l served.Done user)
+either_next l what user next is = by (user_either l what user)
+  where
+    by : (user_after l what user ≡ user) ⊎ (user_after l what user ≡ user_after l served.Done user) → (next ≡ user) ⊎ (next ≡ user_after l served.Done user)
+    by (inl same) = inl (is ∙ same)
+    by (inr done) = inr (is ∙ done)
+
+-- whatever broke it off
+pub next_again : (l : Line) (a b : Result Served EndErr) (e f : EndErr) (user next : List ℕ) → a ≡ Err e → b ≡ Err f → IsNextUser l a user next → IsNextUser l b user next
+next_again l a b e f user next one other is =
+    subst (λ (r : Result Served EndErr). IsNextUser l r user next) (sym other)
+    (same (subst (λ (r : Result Served EndErr). IsNextUser l r user next) one is))
+  where
+    same : IsNextUser l (Err e) user next → IsNextUser l (Err f) user next
+    same x = x
+
+-- its reply was printed, or not
+module _ (l : Line) (command : Command) (user next : List ℕ) (after : (what : Served) → user_after l what user ≡ user_by (becomes_of command) what user)
+    (reply : Reply) (is : next ≡ user_by (becomes_of command) (kind_of reply) user) where
+  no_error : (r : Reply) → is_error r ≡ false → kind_of r ≡ served.Done
+  no_error (says.Refused refusal) e = cc
+  no_error r e = refl
+
+  an_error : (r : Reply) → is_error r ≡ true → kind_of r ≡ served.Refused
+  an_error (says.Refused refusal) e = refl
+  an_error r e = cc
+
+  to_kind : (what : Served) → IsSaid (is_error reply) what → kind_of reply ≡ what
+  to_kind served.Comment said = absurd said
+  to_kind served.Done said = no_error reply said
+  to_kind served.Refused said = an_error reply said
+
+  pub said_user : (result : Result Served EndErr) → IfOk result (IsSaid (is_error reply)) → IsNextUser l result user next
+  said_user (Ok what) said = is ∙ ap (λ (k : Served). user_by (becomes_of command) k user) (to_kind what said) ∙ sym (after what)
+  said_user (Err why) said = either_next l (kind_of reply) user next (is ∙ sym (after (kind_of reply)))
+
+-- a line that is refused
+pub refused_user : (refusal : Refusal) (user : List ℕ) (result : Result Served EndErr) → IsNextUser (Refused refusal) result user user
+refused_user refusal user (Ok what) = refl
+refused_user refusal user (Err why) = inl refl

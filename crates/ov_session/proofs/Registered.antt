@@ -1,15 +1,16 @@
 -- What the commands on users and staged tables keep to, by what `ov_staging` says of them.
 use Rattle.std.proofs.Common.{◌≡◌, ◌≤◌, ◌+◌, ◌∙◌, inl, inr, ℕ, Bool, true, false, List, refl, sym, ap, subst, arith}
 use Rattle.std.specs.Prelude.{◌-◌, ◌^◌, min, Some, None, Option, Ok, Err, Result, IfErr, IfOk, IsErrOf, MatchResult, OnOk, is_some}
+use Rattle.std.specs.Option.{option_or}
 use Rattle.std.proofs.lemmas.Option.{same_Some}
 use Rattle.ov_core.specs.AtWorld.{IsAtWorld}
 use Rattle.ov_core.specs.Held.{IsByJournal}
 use Rattle.ov_fetch.specs.Extents.{Looked}
 use Rattle.ov_host.specs.Host.{Rose, State}
 use Rattle.ov_host.specs.Stage.{Staged}
-use Rattle.ov_model.specs.Act.{Deed, Session, if_so, tells, unless}
+use Rattle.ov_model.specs.Act.{Deed, Files, Session, if_so, tells, unless}
 use Rattle.ov_model.specs.Book.{Row}
-use Rattle.ov_model.specs.Deed.{permitted, tables_deed}
+use Rattle.ov_model.specs.Deed.{config_deed, config_refusal, permitted, tables_deed}
 use Rattle.ov_model.specs.Registry.{is_foreign, last_rows, stage_name, stage_schema, users_name}
 use Rattle.ov_model.specs.World.{World, set_named}
 use Rattle.ov_model.specs.declared.command.Command.{Command}
@@ -26,7 +27,7 @@ use Rattle.ov_staging.specs.Changing.{Change, IsAnswered, IsChangedAs, IsDamaged
 use Rattle.ov_staging.specs.Errors as staging
 use Rattle.ov_staging.specs.Reading.{answer_or, foreign_off}
 use Rattle.ov_staging.specs.Tables.{AreShown, table_change, table_rows, tables_reply}
-use Rattle.ov_staging.specs.Users.{IsCreated, create_off, user_change, user_rows}
+use Rattle.ov_staging.specs.Users.{IsConfigured, IsCreated, config_off, config_reply, create_off, user_change, user_rows}
 use Rattle.ov_staging.specs.declared.errors.StagingErr.{StagingErr}
 use Rattle.ov_staging.specs.declared.errors.StagingErr.TheVariants as gone
 use Rattle.ov_store.specs.Committing.{Set}
@@ -34,19 +35,25 @@ use Rattle.ov_store.specs.Kept.{Kept, MayCall}
 use Rattle.ov_store.specs.Scanning.{set_in}
 use Rattle.ov_store.proofs.Finishing.{may_call_later}
 use Rattle.law_runs.proofs.Doing.{breaks_looked, does_told}
+use Rattle.law_runs.specs.Serving.{Does}
 use Rattle.law_steps.specs.Turns.{running}
 use Rattle.ov_session.proofs.Bounds.{fetched_allowed, off_there}
 use Rattle.ov_session.proofs.Idling.{committed_none, done_none}
 use Rattle.ov_session.proofs.Numbering.{journal_looked}
 use Rattle.ov_session.proofs.Replying.{stored_seen}
 use Rattle.ov_session.proofs.Standing.{at_looked, at_still, on_any}
+use Rattle.ov_session.specs.Acting.{kind_of, user_by}
 use Rattle.ov_session.specs.Bounds.{IsFetched, IsReadingCommand, if_allowed, is_command_off}
 use Rattle.ov_session.specs.Commands.{Acts, IfDamaged, IfNoFile, IsDamageOf, IsDamaged, IsNoDamage, MeetsDamage}
 use Rattle.ov_session.specs.Errors.{by_staging}
-use Rattle.ov_session.specs.Registering.{IsRegistered}
+use Rattle.ov_session.specs.Registering.{IsRegistered, next_by}
 use Rattle.ov_session.specs.Standing.{Idle, IsAtSilently}
 use Rattle.ov_session.specs.declared.errors.EndErr.{EndErr}
 use Rattle.ov_session.specs.declared.errors.EndErr.TheVariants as ending
+use Rattle.ov_session.specs.declared.serving.Served.{Served}
+use Rattle.ov_session.specs.declared.serving.Served.TheVariants as served
+use Rattle.ov_value.specs.Naming.{is_name}
+use Rattle.std.specs.Prelude.{IsTrue, not}
 
 -- ---- ends
 
@@ -62,7 +69,7 @@ ok_of P (Err gone.Host) is = tt
 ok_of P (Err gone.Memory) is = tt
 ok_of P (Err (gone.Damaged area at)) is = tt
 
-if_of : (P : Reply → Type 0) (r : Result Reply StagingErr) → IfOk r P → IfOk (by_staging r) P
+pub if_of : (P : Reply → Type 0) (r : Result Reply StagingErr) → IfOk r P → IfOk (by_staging r) P
 if_of P (Ok reply) is = is
 if_of P (Err gone.Host) is = tt
 if_of P (Err gone.Memory) is = tt
@@ -199,7 +206,7 @@ module _ (user : List ℕ) (command : Command) (which : Registry) (off : Option 
       → (IsByJournal before.held old → OnOk r (IsByJournal now.held new))
       → ((w : World) → IsAtWorld w before.held old → IfErr r staging.IsNoDamage)
       → ((w : World) (s : Session) → IsAtWorld w before.held old → staging.Acts (permitted w s command) s w r before.held now.held old new)
-      → IsRegistered user command (by_staging r) before now old new
+      → IsRegistered user user command (by_staging r) before now old new
   changed_registered row told kept faults counted fetched unread seen why whole stays usable by_journal undamaged acts = record {
     goes = record { told = told; kept = kept; faults = faults; fetched = counted };
     still = λ reads. absurd (row.changes reads);
@@ -217,7 +224,9 @@ module _ (user : List ℕ) (command : Command) (which : Registry) (off : Option 
     undamaged = λ w at. fine_of r (undamaged w at);
     at = λ w at. ok_of _ r (at_of before now old new (permitted w (nobody user) command) (nobody user) w r (acts w (nobody user) at));
     seen = if_of (IfNoFile ⊥) r (when_ok _ (IfNoFile ⊥) r (λ reply both. both.0) seen);
-    acts = λ w s is at. acts_of before now old new (permitted w s command) s w r (acts w s at);
+    acts = λ w files at.
+        let s : Session = record { files = files; user = user }
+        in acts_of before now old new (permitted w s command) s w r (acts w s at);
   }
     where
       nobody : List ℕ → Session
@@ -319,7 +328,7 @@ module _ (user : List ℕ) (k : Kept) (old new : State) (looked : Looked old new
       → ((refusal : Refusal) → staged_off ≡ Some refusal → new ≡ old) → IfOk r (AreShown user staged_set old) → IfErr r (staging.IsEnd staged_damage old new)
       → ((page : ℕ) → old.tells ≡ true → OnOk r (staged_off ≡ None → IsLastDamaged staged_set old page → ⊥))
       → ((w : World) → IsAtWorld w k.held old → MatchResult r (IsTold w) staging.IsNoDamage)
-      → IsRegistered user asks.Tables (by_staging r) k k old new
+      → IsRegistered user user asks.Tables (by_staging r) k k old new
   tables_registered r may fetched unread shown why whole world = record {
     goes = record { told = looked.told; kept = looked.kept; faults = looked.faults; fetched = looked.fetched };
     still = λ reads. refl;
@@ -336,7 +345,7 @@ module _ (user : List ℕ) (k : Kept) (old new : State) (looked : Looked old new
     undamaged = λ w at. fine_of r (fine_in w r (world w at));
     at = λ w at. on_any _ (by_staging r) (at_looked w k.held old new at looked);
     seen = if_of (IfNoFile ⊥) r (when_ok (AreShown user staged_set old) (IfNoFile ⊥) r shown_seen shown);
-    acts = λ w s is at. tables_act w s is at r (world w at);
+    acts = λ w files at. tables_act w (record { files = files; user = user }) refl at r (world w at);
   }
 
 -- ---- the user
@@ -364,7 +373,7 @@ module _ (user : List ℕ) (k : Kept) (s : State) where
   seen_who (Err e) is = tt
 
   pub whoami_registered : (r : Result Reply EndErr) → MayCall k s → IfOk r (λ reply. reply ≡ says.Whoami user) → IfErr r (λ e. e ≡ ending.Memory)
-      → IsRegistered user asks.Whoami r k k s s
+      → IsRegistered user user asks.Whoami r k k s s
   whoami_registered r may said memory = record {
     goes = record { told = refl; kept = refl; faults = omega arith; fetched = omega arith };
     still = λ reads. refl;
@@ -381,5 +390,129 @@ module _ (user : List ℕ) (k : Kept) (s : State) where
     undamaged = λ w at. of_memory IsNoDamage r tt memory;
     at = λ w at. on_any _ r (at_still w k.held s at);
     seen = seen_who r said;
-    acts = λ w t named at. whoami_act w t named at r said;
+    acts = λ w files at. whoami_act w (record { files = files; user = user }) refl at r said;
   }
+
+-- ---- who acts from here on
+
+-- there was no memory for the name
+pub no_memory : (user name : List ℕ) (k : Kept) (s : State) → IsRegistered user user (asks.Config name) (Err ending.Memory) k k s s
+no_memory user name k s = record {
+  goes = record { told = refl; kept = refl; faults = omega arith; fetched = omega arith };
+  still = λ reads. refl;
+  fetched = omega arith;
+  unread = λ is. refl;
+  cause = λ host. absurd cc;
+  host_alone = λ stage. cc;
+  damaged = λ stage. tt;
+  begins_none = λ none. tt;
+  whole = λ stage page told. tt;
+  usable = tt;
+  by_journal = λ by fine. by;
+  idle = tt;
+  undamaged = λ w at. tt;
+  at = λ w at. tt;
+  seen = tt;
+  acts = λ w files at. breaks_looked (permitted w (record { files = files; user = user }) (asks.Config name)) (record { files = files; user = user }) w k.held s s at refl;
+}
+
+module _ (user name : List ℕ) (k : Kept) (old new : State) (looked : Looked old new) where
+  abbrev users_set : Option Set
+  users_set = set_in k.held.numbers users_name
+
+  abbrev users_off : Option Refusal
+  users_off = config_off name users_set
+
+  abbrev users_bytes : ℕ
+  users_bytes = bytes_in users_set (last_vid users_set)
+
+  abbrev users_damage : ℕ → Type 0
+  users_damage page = (users_off ≡ None) × IsLastDamaged users_set new page
+
+  abbrev IsNamed : World → Reply → Type 0
+  IsNamed w reply = reply ≡ answer_or (config_refusal name (set_named w users_name)) (says.User name)
+
+  answered : (w : World) (files : Files) → IsAtWorld w k.held old → (o : Option Refusal) (reply : Reply) → reply ≡ answer_or o (says.User name)
+      → Does (unless (record { files = files; user = user }) o (tells (record { files = files; user = name }) (says.User name))) (record { files = files; user = user })
+      (record { files = files; user = user_by (Some name) (kind_of reply) user }) w reply k.held k.held old new
+  answered w files at None reply is =
+      let s : Session = record { files = files; user = user }
+      in let d : Deed = tells (record { files = files; user = name }) (says.User name)
+      in subst (λ (r : Reply). Does d s (record { files = files; user = user_by (Some name) (kind_of r) user }) w r k.held k.held old new) (sym is)
+      (does_told d s (record { files = files; user = name }) w (says.User name) k.held old new refl at looked.told (looked.tape at.at.told))
+  answered w files at (Some refusal) reply is =
+      let s : Session = record { files = files; user = user }
+      in let d : Deed = tells s (says.Refused refusal)
+      in subst (λ (r : Reply). Does d s (record { files = files; user = user_by (Some name) (kind_of r) user }) w r k.held k.held old new) (sym is)
+      (does_told d s s w (says.Refused refusal) k.held old new refl at looked.told (looked.tape at.at.told))
+
+  config_act : (w : World) (files : Files) → IsAtWorld w k.held old → (r : Result Reply StagingErr) → MatchResult r (IsNamed w) staging.IsNoDamage
+      → Acts (config_deed (record { files = files; user = user }) name (set_named w users_name)) (record { files = files; user = user })
+      (record { files = files; user = next_by user name (by_staging r) }) w (by_staging r) k.held k.held old new
+  config_act w files at (Ok reply) is = answered w files at (config_refusal name (set_named w users_name)) reply is
+  config_act w files at (Err gone.Host) is =
+      breaks_looked (config_deed (record { files = files; user = user }) name (set_named w users_name)) (record { files = files; user = user }) w k.held old new at (looked.tape at.at.told)
+  config_act w files at (Err gone.Memory) is =
+      breaks_looked (config_deed (record { files = files; user = user }) name (set_named w users_name)) (record { files = files; user = user }) w k.held old new at (looked.tape at.at.told)
+  config_act w files at (Err (gone.Damaged area place)) is =
+      breaks_looked (config_deed (record { files = files; user = user }) name (set_named w users_name)) (record { files = files; user = user }) w k.held old new at (looked.tape at.at.told)
+
+  off_seen : (a b : Bool) (refusal : Refusal) → option_or (if_so a no.ForeignRegistry) (if_so b (no.NoUser name)) ≡ Some refusal → IfNoFile ⊥ (says.Refused refusal)
+  off_seen true b refusal is = seen_so true no.ForeignRegistry refusal (λ file e. cc) is
+  off_seen false b refusal is = seen_so b (no.NoUser name) refusal (λ file e. cc) is
+
+  said_seen : (b : Bool) → IfNoFile ⊥ (answer_or (if_so b (no.NoUser name)) (says.User name))
+  said_seen true = no_file (no.NoUser name) (λ file e. cc)
+  said_seen false = λ file e. cc
+
+  configured_seen : (reply : Reply) → IsConfigured name users_set old reply → IfNoFile ⊥ reply
+  configured_seen reply (inl off) = seen_as (says.Refused off.0) reply off.2 (off_seen _ _ off.0 off.1)
+  configured_seen reply (inr rows) = seen_as (config_reply name rows.1) reply rows.3 (said_seen _)
+
+  fine_config : (w : World) (r : Result Reply StagingErr) → MatchResult r (IsNamed w) staging.IsNoDamage → IfErr r staging.IsNoDamage
+  fine_config w (Ok reply) is = tt
+  fine_config w (Err e) is = is
+
+  pub config_registered : (r : Result Reply StagingErr) → MayCall k old → new.fetched ≤ old.fetched + users_bytes
+      → ((refusal : Refusal) → users_off ≡ Some refusal → new ≡ old) → IfOk r (IsConfigured name users_set old) → IfErr r (staging.IsEnd users_damage old new)
+      → ((page : ℕ) → old.tells ≡ true → OnOk r (users_off ≡ None → IsLastDamaged users_set old page → ⊥))
+      → ((w : World) → IsAtWorld w k.held old → MatchResult r (IsNamed w) staging.IsNoDamage)
+      → IsRegistered user (next_by user name (by_staging r)) (asks.Config name) (by_staging r) k k old new
+  config_registered r may fetched unread said why whole world = record {
+    goes = record { told = looked.told; kept = looked.kept; faults = looked.faults; fetched = looked.fetched };
+    still = λ reads. refl;
+    fetched = fetched_allowed users_off users_bytes old.fetched new.fetched fetched (λ refusal is. ap (λ (s : State). s.fetched) (unread refusal is));
+    unread = λ is. let there = off_there users_off is in ap (λ (s : State). s.fetched) (unread there.0 there.1);
+    cause = cause_of users_damage old new r why;
+    host_alone = alone_of r;
+    damaged = λ stage. damaged_of users_damage old new (λ page. IsDamaged user (asks.Config name) stage k.held k.held new page) r (λ page is. is) why;
+    begins_none = λ none. on_any _ (by_staging r) none;
+    whole = λ stage page tells_. ok_of _ r (map_on _ _ r (λ clear met. clear met.0 met.1) (whole page tells_));
+    usable = on_any _ (by_staging r) (may_call_later k old new looked may);
+    by_journal = λ by fine. journal_looked k.held old new looked by;
+    idle = idle_of k k old new r (stays_in user k old new looked r);
+    undamaged = λ w at. fine_of r (fine_config w r (world w at));
+    at = λ w at. on_any _ (by_staging r) (at_looked w k.held old new at looked);
+    seen = if_of (IfNoFile ⊥) r (when_ok (IsConfigured name users_set old) (IfNoFile ⊥) r configured_seen said);
+    acts = λ w files at. config_act w files at r (world w at);
+  }
+
+-- who is done with a `config` has a name
+module _ (name : List ℕ) (set : Option Set) (s : State) where
+  refused_kind : (refusal : Refusal) (reply : Reply) → reply ≡ says.Refused refusal → kind_of reply ≡ served.Done → ⊥
+  refused_kind refusal reply is done = let two : kind_of (says.Refused refusal) ≡ served.Done = sym (ap kind_of is) ∙ done in cc
+
+  named_so : (a b : Bool) → option_or (if_so a no.ForeignRegistry) (if_so (not b) (no.NoUser name)) ≡ None → b ≡ true
+  named_so true b is = absurd cc
+  named_so false true is = refl
+  named_so false false is = absurd cc
+
+  pub done_named : (reply : Reply) → IsConfigured name set s reply → kind_of reply ≡ served.Done → IsTrue (is_name name)
+  done_named reply (inl off) done = absurd (refused_kind off.0 reply off.2 done)
+  done_named reply (inr rows) done = named_so _ (is_name name) rows.0
+
+pub next_named : (next name user now : List ℕ) (what : Served) → next ≡ name → (what ≡ served.Done → IsTrue (is_name name)) → IsTrue (is_name user)
+    → now ≡ user_by (Some next) what user → IsTrue (is_name now)
+next_named next name user now served.Comment same done named is = subst (λ (n : List ℕ). IsTrue (is_name n)) (sym is) named
+next_named next name user now served.Refused same done named is = subst (λ (n : List ℕ). IsTrue (is_name n)) (sym is) named
+next_named next name user now served.Done same done named is = subst (λ (n : List ℕ). IsTrue (is_name n)) (sym (is ∙ same)) (done refl)

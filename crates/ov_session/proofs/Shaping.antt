@@ -20,10 +20,11 @@ use Rattle.ov_model.specs.declared.command.Command.TheVariants as asks
 use Rattle.ov_model.specs.declared.refusal.Refusal.{Refusal}
 use Rattle.ov_model.specs.declared.refusal.Refusal.TheVariants as no
 use Rattle.ov_model.specs.declared.reply.Reply.{Reply}
-use Rattle.ov_model.specs.declared.reply.Reply.TheVariants as says
+use Rattle.ov_session.specs.Acting.{user_after, user_by}
+use Rattle.ov_session.specs.Reads.{becomes_of}
 use Rattle.ov_session.proofs.Dealing.{damage_wider}
 use Rattle.ov_session.proofs.Meeting.{refused_asks, same_command}
-use Rattle.ov_session.proofs.Saying.{Says, comment_none, line_unserved, says_broken, says_refusal, says_reply}
+use Rattle.ov_session.proofs.Saying.{Says, comment_none, says_broken, says_reply}
 use Rattle.ov_session.proofs.Standing.{on_any}
 use Rattle.ov_session.specs.Asking.{line_asked}
 use Rattle.ov_session.specs.Bounds.{IsFetched, IsFetchedBy, IsReading, IsReadingCommand, is_command_off, is_off}
@@ -66,6 +67,10 @@ text_built text = by (asked_of text)
     by NoQuery = refl
     by (AsksQuery query) = refl
     by (AsksJoin join) = refl
+
+pub no_other : (command : Command) (refusal : Refusal) → if_built command ≡ off refusal → ⊥
+no_other (asks.Run text) refusal is = ok_err (asks.Run text) refusal (sym (text_built text) ∙ is)
+no_other command refusal is = ok_err command refusal is
 
 -- ---- what a user's line comes to
 
@@ -178,20 +183,15 @@ module _ (user : List ℕ) (command : Command) (l : Line) (is : l ≡ served_lin
       abbrev s : Session
       s = session_of stage.files user
 
-      pub served_shaped : (if_built command ≡ done command → Does (permitted w s command) s (session_of staged.files user) w reply before.held now.held old mid)
-          → Serves served_forms 0 w s (session_of staged.files user) line (is_ok result) (is_refused result) before.held now.held old new
-      served_shaped does = by (line_shape l command is)
+      -- `next` is who acts behind it
+      pub served_shaped : (next : List ℕ) → (if_built command ≡ done command → Does (permitted w s command) s (session_of staged.files next) w reply before.held now.held old mid)
+          → Serves served_forms 0 w s (session_of staged.files next) line (is_ok result) (is_refused result) before.held now.held old new
+      served_shaped next does = by (line_shape l command is)
         where
-          by : Shape l command → Serves served_forms 0 w s (session_of staged.files user) line (is_ok result) (is_refused result) before.held now.held old new
+          by : Shape l command → Serves served_forms 0 w s (session_of staged.files next) line (is_ok result) (is_refused result) before.held now.held old new
           by (inl asks_) =
-              says_reply w s (session_of staged.files user) line command reply before.held now.held old mid new (asked ∙ asks_.0) (does asks_.1) result says_
-          by (inr other) =
-              let is_ = others other.0 other.2
-              in let told : Says (says.Refused other.0) result old new =
-              subst (λ (r : Reply). Says r result old new) is_.reply (subst (λ (x : State). Says reply result x new) is_.host says_)
-              in subst (λ (k : Kept). Serves served_forms 0 w s (session_of staged.files user) line (is_ok result) (is_refused result) before.held k.held old new) (sym is_.store)
-              (subst (λ (u : Staged). Serves served_forms 0 w s (session_of u.files user) line (is_ok result) (is_refused result) before.held before.held old new) (sym is_.stage_same)
-              (says_refusal w s line other.0 before.held old new (asked ∙ other.1) at result told))
+              says_reply w s (session_of staged.files next) line command reply before.held now.held old mid new (asked ∙ asks_.0) (does asks_.1) result says_
+          by (inr other) = absurd (no_other command other.0 other.2)
 
   -- the run ends in it
   module _ (before now : Kept) (stage staged : Staged) (old new : State) (why : EndErr)
@@ -216,15 +216,19 @@ module _ (user : List ℕ) (command : Command) (l : Line) (is : l ≡ served_lin
             (subst (λ (e : EndErr). IsIdle e before now stage staged old new) (sym (others other.0 other.2).reply) tt)
 
     module _ (w : World) (line : List ℕ) (asked : line_asked user line ≡ l) (at : IsAtWorld w before.held old) where
-      pub broken_shaped : (if_built command ≡ done command → Breaks (permitted w (session_of stage.files user) command) (session_of stage.files user) w old new)
-          → Serves served_forms 0 w (session_of stage.files user) (session_of staged.files user) line false false before.held now.held old new
-      broken_shaped breaks = by (line_shape l command is)
+      pub broken_shaped : (next : List ℕ) → (if_built command ≡ done command → Breaks (permitted w (session_of stage.files user) command) (session_of stage.files user) w old new)
+          → Serves served_forms 0 w (session_of stage.files user) (session_of staged.files next) line false false before.held now.held old new
+      broken_shaped next breaks = by (line_shape l command is)
         where
-          by : Shape l command → Serves served_forms 0 w (session_of stage.files user) (session_of staged.files user) line false false before.held now.held old new
-          by (inl asks_) = says_broken w (session_of stage.files user) (session_of staged.files user) line command before.held now.held old new (asked ∙ asks_.0) (breaks asks_.1)
-          by (inr other) =
-              let is_ = others other.0 other.2
-              in subst (λ (x : State). Serves served_forms 0 w (session_of stage.files user) (session_of staged.files user) line false false before.held now.held old x) (sym is_.host)
-              (subst (λ (k : Kept). Serves served_forms 0 w (session_of stage.files user) (session_of staged.files user) line false false before.held k.held old old) (sym is_.store)
-              (subst (λ (u : Staged). Serves served_forms 0 w (session_of stage.files user) (session_of u.files user) line false false before.held before.held old old) (sym is_.stage_same)
-              (line_unserved w (session_of stage.files user) line before.held old at)))
+          by : Shape l command → Serves served_forms 0 w (session_of stage.files user) (session_of staged.files next) line false false before.held now.held old new
+          by (inl asks_) = says_broken w (session_of stage.files user) (session_of staged.files next) line command before.held now.held old new (asked ∙ asks_.0) (breaks asks_.1)
+          by (inr other) = absurd (no_other command other.0 other.2)
+
+  -- ---- who acts behind it
+
+  pub user_shaped : (what : Served) → user_after l what user ≡ user_by (becomes_of command) what user
+  user_shaped what = by (line_shape l command is)
+    where
+      by : Shape l command → user_after l what user ≡ user_by (becomes_of command) what user
+      by (inl asks_) = ap (λ (x : Line). user_after x what user) asks_.0
+      by (inr other) = absurd (no_other command other.0 other.2)

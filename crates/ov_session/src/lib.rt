@@ -15,8 +15,6 @@ mod reading;
 mod registering;
 mod serving;
 mod stepping;
-mod users;
 
 pub use errors::EndErr;
 pub use serving::{Served, serve};
-pub use users::the_user_stays;

@@ -1,5 +1,5 @@
 // A line and its reply.
-ghost use Rattle.std.specs.Prelude.{◌≡◌, ◌≢◌, ◌≤◌, ◌+◌, ℕ, true, false, None, Ok, Err, IsErrOf, IsTrue, IfOk, IfErr, OnOk, is_ok};
+ghost use Rattle.std.specs.Prelude.{◌≡◌, ◌≢◌, ◌≤◌, ◌+◌, ℕ, true, false, None, Ok, Err, IsErrOf, IsTrue, IfOk, IfErr, MatchResult, OnOk, is_ok};
 ghost use Rattle.ov_host.specs.Host.{Calls, Rose, State};
 ghost use Rattle.ov_host.specs.Tape.{Prints};
 ghost use Rattle.law_forms.specs.Built.{IsBuilt};
@@ -16,11 +16,12 @@ ghost use Rattle.ov_core.specs.AtWorld.{IsAtWorld};
 ghost use Rattle.ov_core.specs.Held.{IsByJournal};
 ghost use Rattle.law_runs.specs.Serving.{Serves, is_error as is_error_of, session_of};
 ghost use Rattle.ov_store.specs.Kept.{Kept, MayCall};
-ghost use Rattle.ov_session.specs.Acting.{IsNextUser};
+ghost use Rattle.ov_session.specs.Acting.{IsNextUser, kind_of, user_by};
 ghost use Rattle.ov_session.specs.Asking.{line_asked};
 ghost use Rattle.ov_session.specs.Bounds.{IsFetched, IsFetchedBy, IsReading, IsReadingCommand, is_command_off, is_off};
 ghost use Rattle.law_steps.specs.Turns.{running};
 ghost use Rattle.ov_session.specs.Replying.{IsReplied, IsSaidBy};
+ghost use Rattle.ov_session.specs.Reads.{becomes_of};
 ghost use Rattle.ov_session.specs.Damages.{IsLineDamaged, IsMetBy};
 ghost use Rattle.ov_session.specs.Standing.{IsAtSilently, IsAtSome, IsIdleBy, IsIdleOn};
 ghost use Rattle.ov_session.specs.Stepping.{NoneBehind, begins_plan, line_begins};
@@ -34,7 +35,7 @@ use crate::generating::make_versions;
 use crate::lines::{asked, refusal};
 use crate::planning::{migrate, optimize};
 use crate::reading::{checkout, layout, log, ls, run_query};
-use crate::registering::{create_user, tables, unstage, whoami};
+use crate::registering::{become_user, create_user, tables, unstage, whoami};
 use crate::stepping::take_steps;
 use ov_generate::Wanted;
 use ov_host::{Host, Stage};
@@ -55,7 +56,7 @@ pub enum Served {
     Refused,
 }
 
-// Does what a command asks that no rule denies. Its reply isn't printed yet.
+// Does what a command asks that no rule denies, and that makes nobody the user. Its reply isn't printed yet.
 fn answer<H: Host, T: Stage>(
     alloc: Global,
     store: &mut Store,
@@ -67,6 +68,7 @@ fn answer<H: Host, T: Stage>(
     requires call { MayCall store.old (H.state host.old) }
     requires asked { IsAsked command }
     requires built { IsBuilt command }
+    requires stays { becomes_of command ≡ None }
     ensures goes { Goes (H.state host.old) (H.state host.new) }
     ensures attended { Attended (T.staged stage.old) (T.staged stage.new) }
     ensures still { IsReadingCommand command → store.new.held ≡ store.old.held }
@@ -146,6 +148,51 @@ fn answer<H: Host, T: Stage>(
     }
 }
 
+// Does what a command asks that no rule denies. The user is the one that it names from here on, where it isn't refused. Its reply isn't
+// printed yet.
+fn act<H: Host, T: Stage>(
+    alloc: Global,
+    store: &mut Store,
+    host: &mut H,
+    stage: &mut T,
+    user: &mut Txt,
+    command: Command,
+) -> Result<Reply, EndErr>
+    requires call { MayCall store.old (H.state host.old) }
+    requires asked { IsAsked command }
+    requires built { IsBuilt command }
+    requires user { IsTrue (is_name user.old) }
+    ensures goes { Goes (H.state host.old) (H.state host.new) }
+    ensures attended { Attended (T.staged stage.old) (T.staged stage.new) }
+    ensures still { IsReadingCommand command → store.new.held ≡ store.old.held }
+    ensures fetched { IsFetched user.old command store.old.held store.new.held (IsErrOf result EndErr.Host) (H.state host.old) (H.state host.new) }
+    ensures unread { is_command_off store.old.held.numbers user.old command ≡ true → (H.state host.new).fetched ≡ (H.state host.old).fetched }
+    ensures cause { IsErrOf result EndErr.Host → Rose (H.state host.old).faults (H.state host.new).faults }
+    ensures stage { IsErrOf result EndErr.Stage → Rose (T.staged stage.old).faults (T.staged stage.new).faults }
+    ensures damaged { IfErr result (IsDamageOf (IsDamaged user.old command (T.staged stage.old) store.old.held store.new.held (H.state host.new))) }
+    ensures begins_none { begins_plan store.old.held.numbers command ≡ false → running store.old.held.numbers ≡ None → OnOk result (running store.new.held.numbers ≡ None) }
+    ensures whole { (page : ℕ) → (H.state host.old).tells ≡ true
+        → OnOk result (if_built command ≡ Ok command → MeetsDamage user.old command (T.staged stage.old) store.old.held (H.state host.old) page → ⊥) }
+    ensures usable { OnOk result (MayCall store.new (H.state host.new)) }
+    ensures by_journal { IsByJournal store.old.held (H.state host.old) → (IsErrOf result EndErr.Host → ⊥) → IsByJournal store.new.held (H.state host.new) }
+    ensures at { (w : World) → IsAtWorld w store.old.held (H.state host.old) → OnOk result (IsAtSilently store.new.held (H.state host.old) (H.state host.new)) }
+    ensures missed { IfOk result (IfNoFile (Rose (T.staged stage.old).misses (T.staged stage.new).misses)) }
+    ensures idle { IfErr result (λ why. IsIdleBy command why store.old store.new (T.staged stage.old) (T.staged stage.new) (H.state host.old) (H.state host.new)) }
+    ensures undamaged { (w : World) → IsAtWorld w store.old.held (H.state host.old) → IfErr result IsNoDamage }
+    ensures other { (refusal : Refusal) → if_built command ≡ Err refusal → IsOther refusal result store.old store.new
+        (T.staged stage.old) (T.staged stage.new) (H.state host.old) (H.state host.new) }
+    ensures user { MatchResult result (λ reply. user.new ≡ user_by (becomes_of command) (kind_of reply) user.old) (λ why. user.new ≡ user.old) }
+    ensures named { IsTrue (is_name user.new) }
+    ensures acts { (w : World) → if_built command ≡ Ok command → (T.staged stage.old).tells ≡ true → IsAtWorld w store.old.held (H.state host.old)
+        → Acts (permitted w (session_of (T.staged stage.old).files user.old) command) (session_of (T.staged stage.old).files user.old)
+        (session_of (T.staged stage.new).files user.new) w result store.old.held store.new.held (H.state host.old) (H.state host.new) }
+{
+    match command {
+        Command::Config { name } => become_user(alloc, store, host, user, name),
+        _ => answer(alloc, store, host, stage, user, command),
+    }
+}
+
 // Prints a reply, in one print.
 fn print_reply<H: Host>(alloc: Global, host: &mut H, reply: &Reply) -> Result<Served, EndErr>
     ensures goes { Goes (H.state host.old) (H.state host.new) }
@@ -188,41 +235,43 @@ fn serve_line<H: Host, T: Stage>(
     host: &mut H,
     stage: &mut T,
     line: &[u8],
-    user: &Txt,
+    user: &mut Txt,
 ) -> Result<Served, EndErr>
     requires call { MayCall store.old (H.state host.old) }
-    requires user { IsTrue (is_name user.now) }
+    requires user { IsTrue (is_name user.old) }
     ensures goes { Goes (H.state host.old) (H.state host.new) }
     ensures attended { Attended (T.staged stage.old) (T.staged stage.new) }
-    ensures still { IsReading (line_asked user.now line.now) → store.new.held ≡ store.old.held }
-    ensures fetched { IsFetchedBy user.now (line_asked user.now line.now) store.old.held store.new.held (IsErrOf result EndErr.Host)
+    ensures still { IsReading (line_asked user.old line.now) → store.new.held ≡ store.old.held }
+    ensures fetched { IsFetchedBy user.old (line_asked user.old line.now) store.old.held store.new.held (IsErrOf result EndErr.Host)
         (H.state host.old) (H.state host.new) }
-    ensures unread { is_off store.old.held.numbers user.now (line_asked user.now line.now) ≡ true
+    ensures unread { is_off store.old.held.numbers user.old (line_asked user.old line.now) ≡ true
         → (H.state host.new).fetched ≡ (H.state host.old).fetched }
     ensures cause { IsErrOf result EndErr.Host → Rose (H.state host.old).faults (H.state host.new).faults }
     ensures stage { IsErrOf result EndErr.Stage → Rose (T.staged stage.old).faults (T.staged stage.new).faults }
-    ensures damaged { IfErr result (IsDamageOf (IsLineDamaged user.now (line_asked user.now line.now) (T.staged stage.old)
+    ensures damaged { IfErr result (IsDamageOf (IsLineDamaged user.old (line_asked user.old line.now) (T.staged stage.old)
         store.old.held store.new.held (H.state host.new))) }
-    ensures begins_none { line_begins store.old.held.numbers (line_asked user.now line.now) ≡ false → running store.old.held.numbers ≡ None → OnOk result (running store.new.held.numbers ≡ None) }
-    ensures whole { (command : CommandValue) (page : ℕ) → line_asked user.now line.now ≡ Asks command → (H.state host.old).tells ≡ true
-        → OnOk result (MeetsDamage user.now command (T.staged stage.old) store.old.held (H.state host.old) page → ⊥) }
-    ensures idle { IfErr result (λ why. IsIdleOn (line_asked user.now line.now) why store.old store.new
+    ensures begins_none { line_begins store.old.held.numbers (line_asked user.old line.now) ≡ false → running store.old.held.numbers ≡ None → OnOk result (running store.new.held.numbers ≡ None) }
+    ensures whole { (command : CommandValue) (page : ℕ) → line_asked user.old line.now ≡ Asks command → (H.state host.old).tells ≡ true
+        → OnOk result (MeetsDamage user.old command (T.staged stage.old) store.old.held (H.state host.old) page → ⊥) }
+    ensures idle { IfErr result (λ why. IsIdleOn (line_asked user.old line.now) why store.old store.new
         (T.staged stage.old) (T.staged stage.new) (H.state host.old) (H.state host.new)) }
     ensures undamaged { (w : World) → IsAtWorld w store.old.held (H.state host.old) → IfErr result IsNoDamage }
     ensures usable { OnOk result (MayCall store.new (H.state host.new)) }
     ensures by_journal { IsByJournal store.old.held (H.state host.old) → (IsErrOf result EndErr.Host → ⊥) → IsByJournal store.new.held (H.state host.new) }
     ensures at { (w : World) → IsAtWorld w store.old.held (H.state host.old) → OnOk result (IsAtSome store.new.held (H.state host.new)) }
-    ensures comment { IfOk result (λ served. is_comment_of served ≡ is_comment_in (line_asked user.now line.now)) }
-    ensures replied { IfOk result (λ served. IsSaidBy (line_asked user.now line.now) served store.old.held
+    ensures user { IsNextUser (line_asked user.old line.now) result user.old user.new }
+    ensures named { IsTrue (is_name user.new) }
+    ensures comment { IfOk result (λ served. is_comment_of served ≡ is_comment_in (line_asked user.old line.now)) }
+    ensures replied { IfOk result (λ served. IsSaidBy (line_asked user.old line.now) served store.old.held
         (T.staged stage.old) (T.staged stage.new) (H.state host.old) (H.state host.new)) }
     ensures serves { (w : World) → (T.staged stage.old).tells ≡ true → IsAtWorld w store.old.held (H.state host.old)
-        → Serves served_forms 0 w (session_of (T.staged stage.old).files user.now) (session_of (T.staged stage.new).files user.now) line.now
+        → Serves served_forms 0 w (session_of (T.staged stage.old).files user.old) (session_of (T.staged stage.new).files user.new) line.now
         (is_ok result) (is_refused result) store.old.held store.new.held (H.state host.old) (H.state host.new) }
 {
     match asked(alloc, line, user) {
         Ok(None) => Ok(Served::Comment),
         Ok(Some(command)) => {
-            let reply = answer(alloc, store, host, stage, user, command)?;
+            let reply = act(alloc, store, host, stage, user, command)?;
             say(alloc, host, reply)
         }
         Err(off) => {

@@ -33,7 +33,7 @@ use Rattle.ov_store.specs.Scanning.{set_in}
 use Rattle.ov_session.specs.Acting.{user_after}
 use Rattle.ov_session.specs.Asking.{line_asked}
 use Rattle.ov_session.specs.Bounds.{IsFetchedBy, IsReading, IsReadingCommand, may_fetch}
-use Rattle.ov_session.proofs.Acting.{user_either, user_stays}
+use Rattle.ov_session.proofs.Acting.{user_either}
 use Rattle.ov_session.proofs.Bounds.{reading_fetched}
 use Rattle.ov_session.specs.Commands.{AreAnyBad, AreBad, AreRowsOf, DamagedBy, IsBad, IsDamageOf, IsDamaged, IsNoDamage, IsParentsDamaged, IsWideDamagedIn, is_comment_in, is_comment_of}
 use Rattle.ov_session.specs.Reads.{Own, Nought, Versions, Steps, File, Unused, Taken, Given, GivenBehind, Later, Reads, Source, RowsOf, ParentsOf, PlanOf, ListsOf, SegmentsOf, LastOf, ChangeOf, Wanted, file_of, reads_of}
@@ -368,17 +368,3 @@ unharmed ending.Host is = tt
 unharmed ending.Stage is = tt
 unharmed ending.Memory is = tt
 unharmed (ending.Damaged area at) is = absurd is
-
--- ---- by the commands that are built there is one user
-
-pub one_user : (lines : List (List ℕ)) (user next : List ℕ) → ActsAfter lines user next → next ≡ user
-one_user [] user next is = is
-one_user (line ∷ lines) user next acts = one_user lines (user_after (line_asked user line) acts.0 user) next acts.1 ∙ user_stays user line acts.0
-
-pub one_reading : (user line : List ℕ) (lines : List (List ℕ)) → IsReading (line_asked user line) → AreReading user lines → AreReading user (line ∷ lines)
-one_reading user line lines is are = (is, λ what. subst (λ (u : List ℕ). AreReading u lines) (sym (user_stays user line what)) are)
-
-pub one_reads : (n : Numbers Extent Extent) (user line : List ℕ) (lines : List (List ℕ)) → reads n user (line ∷ lines) ≡ may_fetch n user (line_asked user line) + reads n user lines
-one_reads n user line lines =
-    let same : reads n (user_after (line_asked user line) served.Done user) lines ≡ reads n user lines = ap (λ (u : List ℕ). reads n u lines) (user_stays user line served.Done)
-    in omega (arith, same)

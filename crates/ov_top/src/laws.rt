@@ -1,5 +1,5 @@
 // Laws of runs, each the contract of a function that does nothing.
-ghost use Rattle.std.specs.Prelude.{◌≡◌, ◌+◌, ◌∷◌, ℕ, Bool, List};
+ghost use Rattle.std.specs.Prelude.{◌≡◌, ℕ, Bool};
 ghost use Rattle.ov_host.specs.declared.area.Extent.{Extent};
 ghost use Rattle.ov_host.specs.Disk.{Disk, Image};
 ghost use Rattle.ov_host.specs.Tape.{clock, left_since};
@@ -9,13 +9,10 @@ ghost use Rattle.ov_model.specs.World.{World};
 ghost use Rattle.ov_open.specs.declared.errors.OpenErr.{OpenErr as OpenErrValue};
 ghost use Rattle.ov_open.specs.Opening.{IsOutside};
 ghost use Rattle.ov_open.specs.Refusing.{Refuses};
-ghost use Rattle.ov_session.specs.Asking.{line_asked};
-ghost use Rattle.ov_session.specs.Bounds.{IsReading, may_fetch};
 ghost use Rattle.ov_top.specs.declared.status.Status.{Status as StatusValue};
 ghost use Rattle.ov_top.specs.Bytes.{Opens, OpensAs};
 ghost use Rattle.ov_top.specs.Composing.{BeginsFrom, Continues};
 ghost use Rattle.ov_top.specs.Ending.{Ends, IsTold, Keeps, Played, PlayedTaken, Plays, Stops, course_of, course_taken};
-ghost use Rattle.ov_top.specs.Running.{ActsAfter, AreReading, reads};
 
 /// Bytes that open are refused for nothing: not as no store's, not for a format number, and not as damaged.
 pub fn bytes_that_open_are_not_refused()
@@ -42,14 +39,4 @@ pub fn a_run_goes_on_after_a_stop()
     ensures { (status : StatusValue) (steps : ℕ) (w : World) (old new next : Ends) (c : Image) → Plays status steps w old new
         → (left : left_since new.host.tape (clock old.host.tape) c) → BeginsFrom c next
         → (stops : Stops steps w old new) × IsTold (world_at w (course_of steps w old stops.space).items (stops.stops c left).k) next }
-{}
-
-/// By the commands that the program has so far a run has one user, the one that it begins as: so its lines read where each does by
-/// itself, and fetch no more than all of them do.
-pub fn a_run_has_one_user()
-    ensures acts { (lines : List (List ℕ)) (user next : List ℕ) → ActsAfter lines user next → next ≡ user }
-    ensures reading { (user line : List ℕ) (lines : List (List ℕ)) → IsReading (line_asked user line) → AreReading user lines
-        → AreReading user (line ∷ lines) }
-    ensures reads { (n : Numbers Extent Extent) (user line : List ℕ) (lines : List (List ℕ))
-        → reads n user (line ∷ lines) ≡ may_fetch n user (line_asked user line) + reads n user lines }
 {}

@@ -17,7 +17,7 @@ returns g c = λ user.
     in let old = g.H.Host.state c.args.host.now
     in let new = g.H.Host.state c.create_user.new.host
     in let f = c.create_user.ensures
-    in subst (λ (r : Result Reply EndErr). IsRegistered user (asks.CreateUser c.args.name) r c.args.store.now c.create_user.new.store old new) (sym c.ended.ensures)
+    in subst (λ (r : Result Reply EndErr). IsRegistered user user (asks.CreateUser c.args.name) r c.args.store.now c.create_user.new.store old new) (sym c.ended.ensures)
     (changed_registered user (asks.CreateUser c.args.name) registry.Users (create_off c.args.name set) (user_rows c.args.name) c.create_user.result c.args.store.now c.create_user.new.store old new
     (create_row user c.args.name c.create_user.result c.args.store.now c.create_user.new.store old new)
     f.told f.kept f.faults f.counted f.fetched f.unread

@@ -13,7 +13,7 @@ returns g c =
     let old = g.H.Host.state c.args.host.now
     in let new = g.H.Host.state c.tables.new.host
     in let f = c.tables.ensures
-    in let made : IsRegistered c.as_str.result.now asks.Tables (by_staging c.tables.result) c.args.store.now c.args.store.now old new
+    in let made : IsRegistered c.as_str.result.now c.as_str.result.now asks.Tables (by_staging c.tables.result) c.args.store.now c.args.store.now old new
     = tables_registered c.as_str.result.now c.args.store.now old new f.looked c.tables.result c.requires.call f.fetched f.unread f.reply f.why f.whole f.world
-    in subst (λ (r : Result Reply EndErr). IsRegistered c.args.user.now asks.Tables r c.args.store.now c.args.store.now old new) (sym c.ended.ensures)
-    (subst (λ (u : List ℕ). IsRegistered u asks.Tables (by_staging c.tables.result) c.args.store.now c.args.store.now old new) c.as_str.ensures.text made)
+    in subst (λ (r : Result Reply EndErr). IsRegistered c.args.user.now c.args.user.now asks.Tables r c.args.store.now c.args.store.now old new) (sym c.ended.ensures)
+    (subst (λ (u : List ℕ). IsRegistered u u asks.Tables (by_staging c.tables.result) c.args.store.now c.args.store.now old new) c.as_str.ensures.text made)

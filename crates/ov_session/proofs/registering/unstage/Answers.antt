@@ -18,7 +18,7 @@ returns g c = λ user.
     in let old = g.H.Host.state c.args.host.now
     in let new = g.H.Host.state c.unstage.new.host
     in let f = c.unstage.ensures
-    in subst (λ (r : Result Reply EndErr). IsRegistered user (asks.Unstage c.args.owner c.args.table) r c.args.store.now c.unstage.new.store old new) (sym c.ended.ensures)
+    in subst (λ (r : Result Reply EndErr). IsRegistered user user (asks.Unstage c.args.owner c.args.table) r c.args.store.now c.unstage.new.store old new) (sym c.ended.ensures)
     (changed_registered user (asks.Unstage c.args.owner c.args.table) registry.Stage (foreign_off stage_schema set) (table_rows c.args.owner c.args.table) c.unstage.result c.args.store.now c.unstage.new.store old new
     (unstage_row user c.args.owner c.args.table c.unstage.result c.args.store.now c.unstage.new.store old new)
     f.told f.kept f.faults f.counted f.fetched f.unread

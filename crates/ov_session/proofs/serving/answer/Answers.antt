@@ -707,97 +707,97 @@ returns-in-Checkpoint-clause-acts g c = λ w built told at.
 
 pub returns-in-CreateUser-clause-goes : goal.returns-in-CreateUser-clause-goes
 returns-in-CreateUser-clause-goes g c =
-    let served = subst (λ (command : Command). IsRegistered c.args.user.now command c.create_user.result c.args.store.now c.create_user.new.store (g.H.Host.state c.args.host.now) (g.H.Host.state c.create_user.new.host)) (sym c.in-CreateUser.is)
+    let served = subst (λ (command : Command). IsRegistered c.args.user.now c.args.user.now command c.create_user.result c.args.store.now c.create_user.new.store (g.H.Host.state c.args.host.now) (g.H.Host.state c.create_user.new.host)) (sym c.in-CreateUser.is)
     (c.create_user.ensures c.args.user.now)
     in served.goes
 
 pub returns-in-CreateUser-clause-still : goal.returns-in-CreateUser-clause-still
 returns-in-CreateUser-clause-still g c =
-    let served = subst (λ (command : Command). IsRegistered c.args.user.now command c.create_user.result c.args.store.now c.create_user.new.store (g.H.Host.state c.args.host.now) (g.H.Host.state c.create_user.new.host)) (sym c.in-CreateUser.is)
+    let served = subst (λ (command : Command). IsRegistered c.args.user.now c.args.user.now command c.create_user.result c.args.store.now c.create_user.new.store (g.H.Host.state c.args.host.now) (g.H.Host.state c.create_user.new.host)) (sym c.in-CreateUser.is)
     (c.create_user.ensures c.args.user.now)
     in served.still
 
 pub returns-in-CreateUser-clause-fetched : goal.returns-in-CreateUser-clause-fetched
 returns-in-CreateUser-clause-fetched g c =
-    let served = subst (λ (command : Command). IsRegistered c.args.user.now command c.create_user.result c.args.store.now c.create_user.new.store (g.H.Host.state c.args.host.now) (g.H.Host.state c.create_user.new.host)) (sym c.in-CreateUser.is)
+    let served = subst (λ (command : Command). IsRegistered c.args.user.now c.args.user.now command c.create_user.result c.args.store.now c.create_user.new.store (g.H.Host.state c.args.host.now) (g.H.Host.state c.create_user.new.host)) (sym c.in-CreateUser.is)
     (c.create_user.ensures c.args.user.now)
     in served.fetched
 
 pub returns-in-CreateUser-clause-unread : goal.returns-in-CreateUser-clause-unread
 returns-in-CreateUser-clause-unread g c =
-    let served = subst (λ (command : Command). IsRegistered c.args.user.now command c.create_user.result c.args.store.now c.create_user.new.store (g.H.Host.state c.args.host.now) (g.H.Host.state c.create_user.new.host)) (sym c.in-CreateUser.is)
+    let served = subst (λ (command : Command). IsRegistered c.args.user.now c.args.user.now command c.create_user.result c.args.store.now c.create_user.new.store (g.H.Host.state c.args.host.now) (g.H.Host.state c.create_user.new.host)) (sym c.in-CreateUser.is)
     (c.create_user.ensures c.args.user.now)
     in served.unread
 
 pub returns-in-CreateUser-clause-cause : goal.returns-in-CreateUser-clause-cause
 returns-in-CreateUser-clause-cause g c =
-    let served = subst (λ (command : Command). IsRegistered c.args.user.now command c.create_user.result c.args.store.now c.create_user.new.store (g.H.Host.state c.args.host.now) (g.H.Host.state c.create_user.new.host)) (sym c.in-CreateUser.is)
+    let served = subst (λ (command : Command). IsRegistered c.args.user.now c.args.user.now command c.create_user.result c.args.store.now c.create_user.new.store (g.H.Host.state c.args.host.now) (g.H.Host.state c.create_user.new.host)) (sym c.in-CreateUser.is)
     (c.create_user.ensures c.args.user.now)
     in served.cause
 
 pub returns-in-CreateUser-clause-stage : goal.returns-in-CreateUser-clause-stage
 returns-in-CreateUser-clause-stage g c =
-    let served = subst (λ (command : Command). IsRegistered c.args.user.now command c.create_user.result c.args.store.now c.create_user.new.store (g.H.Host.state c.args.host.now) (g.H.Host.state c.create_user.new.host)) (sym c.in-CreateUser.is)
+    let served = subst (λ (command : Command). IsRegistered c.args.user.now c.args.user.now command c.create_user.result c.args.store.now c.create_user.new.store (g.H.Host.state c.args.host.now) (g.H.Host.state c.create_user.new.host)) (sym c.in-CreateUser.is)
     (c.create_user.ensures c.args.user.now)
     in (λ is. absurd (served.host_alone is))
 
 pub returns-in-CreateUser-clause-damaged : goal.returns-in-CreateUser-clause-damaged
 returns-in-CreateUser-clause-damaged g c =
-    let served = subst (λ (command : Command). IsRegistered c.args.user.now command c.create_user.result c.args.store.now c.create_user.new.store (g.H.Host.state c.args.host.now) (g.H.Host.state c.create_user.new.host)) (sym c.in-CreateUser.is)
+    let served = subst (λ (command : Command). IsRegistered c.args.user.now c.args.user.now command c.create_user.result c.args.store.now c.create_user.new.store (g.H.Host.state c.args.host.now) (g.H.Host.state c.create_user.new.host)) (sym c.in-CreateUser.is)
     (c.create_user.ensures c.args.user.now)
     in served.damaged (g.T.Stage.staged c.args.stage.now)
 
 pub returns-in-CreateUser-clause-begins_none : goal.returns-in-CreateUser-clause-begins_none
 returns-in-CreateUser-clause-begins_none g c =
-    let served = subst (λ (command : Command). IsRegistered c.args.user.now command c.create_user.result c.args.store.now c.create_user.new.store (g.H.Host.state c.args.host.now) (g.H.Host.state c.create_user.new.host)) (sym c.in-CreateUser.is)
+    let served = subst (λ (command : Command). IsRegistered c.args.user.now c.args.user.now command c.create_user.result c.args.store.now c.create_user.new.store (g.H.Host.state c.args.host.now) (g.H.Host.state c.create_user.new.host)) (sym c.in-CreateUser.is)
     (c.create_user.ensures c.args.user.now)
     in (λ quiet none. served.begins_none none)
 
 pub returns-in-CreateUser-clause-whole : goal.returns-in-CreateUser-clause-whole
 returns-in-CreateUser-clause-whole g c =
-    let served = subst (λ (command : Command). IsRegistered c.args.user.now command c.create_user.result c.args.store.now c.create_user.new.store (g.H.Host.state c.args.host.now) (g.H.Host.state c.create_user.new.host)) (sym c.in-CreateUser.is)
+    let served = subst (λ (command : Command). IsRegistered c.args.user.now c.args.user.now command c.create_user.result c.args.store.now c.create_user.new.store (g.H.Host.state c.args.host.now) (g.H.Host.state c.create_user.new.host)) (sym c.in-CreateUser.is)
     (c.create_user.ensures c.args.user.now)
     in (λ page told. map_ok _ _ c.create_user.result (λ clear built met. clear met) (served.whole (g.T.Stage.staged c.args.stage.now) page told))
 
 pub returns-in-CreateUser-clause-usable : goal.returns-in-CreateUser-clause-usable
 returns-in-CreateUser-clause-usable g c =
-    let served = subst (λ (command : Command). IsRegistered c.args.user.now command c.create_user.result c.args.store.now c.create_user.new.store (g.H.Host.state c.args.host.now) (g.H.Host.state c.create_user.new.host)) (sym c.in-CreateUser.is)
+    let served = subst (λ (command : Command). IsRegistered c.args.user.now c.args.user.now command c.create_user.result c.args.store.now c.create_user.new.store (g.H.Host.state c.args.host.now) (g.H.Host.state c.create_user.new.host)) (sym c.in-CreateUser.is)
     (c.create_user.ensures c.args.user.now)
     in served.usable
 
 pub returns-in-CreateUser-clause-by_journal : goal.returns-in-CreateUser-clause-by_journal
 returns-in-CreateUser-clause-by_journal g c =
-    let served = subst (λ (command : Command). IsRegistered c.args.user.now command c.create_user.result c.args.store.now c.create_user.new.store (g.H.Host.state c.args.host.now) (g.H.Host.state c.create_user.new.host)) (sym c.in-CreateUser.is)
+    let served = subst (λ (command : Command). IsRegistered c.args.user.now c.args.user.now command c.create_user.result c.args.store.now c.create_user.new.store (g.H.Host.state c.args.host.now) (g.H.Host.state c.create_user.new.host)) (sym c.in-CreateUser.is)
     (c.create_user.ensures c.args.user.now)
     in served.by_journal
 
 pub returns-in-CreateUser-clause-at : goal.returns-in-CreateUser-clause-at
 returns-in-CreateUser-clause-at g c =
-    let served = subst (λ (command : Command). IsRegistered c.args.user.now command c.create_user.result c.args.store.now c.create_user.new.store (g.H.Host.state c.args.host.now) (g.H.Host.state c.create_user.new.host)) (sym c.in-CreateUser.is)
+    let served = subst (λ (command : Command). IsRegistered c.args.user.now c.args.user.now command c.create_user.result c.args.store.now c.create_user.new.store (g.H.Host.state c.args.host.now) (g.H.Host.state c.create_user.new.host)) (sym c.in-CreateUser.is)
     (c.create_user.ensures c.args.user.now)
     in served.at
 
 pub returns-in-CreateUser-clause-missed : goal.returns-in-CreateUser-clause-missed
 returns-in-CreateUser-clause-missed g c =
-    let served = subst (λ (command : Command). IsRegistered c.args.user.now command c.create_user.result c.args.store.now c.create_user.new.store (g.H.Host.state c.args.host.now) (g.H.Host.state c.create_user.new.host)) (sym c.in-CreateUser.is)
+    let served = subst (λ (command : Command). IsRegistered c.args.user.now c.args.user.now command c.create_user.result c.args.store.now c.create_user.new.store (g.H.Host.state c.args.host.now) (g.H.Host.state c.create_user.new.host)) (sym c.in-CreateUser.is)
     (c.create_user.ensures c.args.user.now)
     in seen_missed _ c.create_user.result served.seen
 
 pub returns-in-CreateUser-clause-undamaged : goal.returns-in-CreateUser-clause-undamaged
 returns-in-CreateUser-clause-undamaged g c =
-    let served = subst (λ (command : Command). IsRegistered c.args.user.now command c.create_user.result c.args.store.now c.create_user.new.store (g.H.Host.state c.args.host.now) (g.H.Host.state c.create_user.new.host)) (sym c.in-CreateUser.is)
+    let served = subst (λ (command : Command). IsRegistered c.args.user.now c.args.user.now command c.create_user.result c.args.store.now c.create_user.new.store (g.H.Host.state c.args.host.now) (g.H.Host.state c.create_user.new.host)) (sym c.in-CreateUser.is)
     (c.create_user.ensures c.args.user.now)
     in served.undamaged
 
 pub returns-in-CreateUser-clause-acts : goal.returns-in-CreateUser-clause-acts
 returns-in-CreateUser-clause-acts g c =
-    let served = subst (λ (command : Command). IsRegistered c.args.user.now command c.create_user.result c.args.store.now c.create_user.new.store (g.H.Host.state c.args.host.now) (g.H.Host.state c.create_user.new.host)) (sym c.in-CreateUser.is)
+    let served = subst (λ (command : Command). IsRegistered c.args.user.now c.args.user.now command c.create_user.result c.args.store.now c.create_user.new.store (g.H.Host.state c.args.host.now) (g.H.Host.state c.create_user.new.host)) (sym c.in-CreateUser.is)
     (c.create_user.ensures c.args.user.now)
-    in (λ w built told at. served.acts w (session_of (g.T.Stage.staged c.args.stage.now).files c.args.user.now) refl at)
+    in (λ w built told at. served.acts w (session_of (g.T.Stage.staged c.args.stage.now).files c.args.user.now).files at)
 
 pub returns-in-CreateUser-clause-idle : goal.returns-in-CreateUser-clause-idle
 returns-in-CreateUser-clause-idle g c =
-    let served = subst (λ (command : Command). IsRegistered c.args.user.now command c.create_user.result c.args.store.now c.create_user.new.store (g.H.Host.state c.args.host.now) (g.H.Host.state c.create_user.new.host)) (sym c.in-CreateUser.is)
+    let served = subst (λ (command : Command). IsRegistered c.args.user.now c.args.user.now command c.create_user.result c.args.store.now c.create_user.new.store (g.H.Host.state c.args.host.now) (g.H.Host.state c.create_user.new.host)) (sym c.in-CreateUser.is)
     (c.create_user.ensures c.args.user.now)
     in subst (λ (command : Command). IfErr c.create_user.result (λ e. IsIdleBy command e c.args.store.now c.create_user.new.store (g.T.Stage.staged c.args.stage.now) (g.T.Stage.staged c.args.stage.now) (g.H.Host.state c.args.host.now) (g.H.Host.state c.create_user.new.host))) (sym c.in-CreateUser.is)
     (idle_stored c.args.store.now c.create_user.new.store (g.T.Stage.staged c.args.stage.now) (g.T.Stage.staged c.args.stage.now) (g.H.Host.state c.args.host.now) (g.H.Host.state c.create_user.new.host) c.create_user.result served.host_alone served.idle refl)
@@ -807,97 +807,97 @@ returns-in-CreateUser-clause-other g c = λ refusal is. absurd (ok_err _ refusal
 
 pub returns-in-Whoami-clause-goes : goal.returns-in-Whoami-clause-goes
 returns-in-Whoami-clause-goes g c =
-    let served = subst (λ (command : Command). IsRegistered c.args.user.now command c.whoami.result c.args.store.now c.args.store.now (g.H.Host.state c.args.host.now) (g.H.Host.state c.args.host.now)) (sym c.in-Whoami.is)
+    let served = subst (λ (command : Command). IsRegistered c.args.user.now c.args.user.now command c.whoami.result c.args.store.now c.args.store.now (g.H.Host.state c.args.host.now) (g.H.Host.state c.args.host.now)) (sym c.in-Whoami.is)
     (whoami_registered c.args.user.now c.args.store.now (g.H.Host.state c.args.host.now) c.whoami.result c.requires.call c.whoami.ensures.reply c.whoami.ensures.memory)
     in served.goes
 
 pub returns-in-Whoami-clause-still : goal.returns-in-Whoami-clause-still
 returns-in-Whoami-clause-still g c =
-    let served = subst (λ (command : Command). IsRegistered c.args.user.now command c.whoami.result c.args.store.now c.args.store.now (g.H.Host.state c.args.host.now) (g.H.Host.state c.args.host.now)) (sym c.in-Whoami.is)
+    let served = subst (λ (command : Command). IsRegistered c.args.user.now c.args.user.now command c.whoami.result c.args.store.now c.args.store.now (g.H.Host.state c.args.host.now) (g.H.Host.state c.args.host.now)) (sym c.in-Whoami.is)
     (whoami_registered c.args.user.now c.args.store.now (g.H.Host.state c.args.host.now) c.whoami.result c.requires.call c.whoami.ensures.reply c.whoami.ensures.memory)
     in served.still
 
 pub returns-in-Whoami-clause-fetched : goal.returns-in-Whoami-clause-fetched
 returns-in-Whoami-clause-fetched g c =
-    let served = subst (λ (command : Command). IsRegistered c.args.user.now command c.whoami.result c.args.store.now c.args.store.now (g.H.Host.state c.args.host.now) (g.H.Host.state c.args.host.now)) (sym c.in-Whoami.is)
+    let served = subst (λ (command : Command). IsRegistered c.args.user.now c.args.user.now command c.whoami.result c.args.store.now c.args.store.now (g.H.Host.state c.args.host.now) (g.H.Host.state c.args.host.now)) (sym c.in-Whoami.is)
     (whoami_registered c.args.user.now c.args.store.now (g.H.Host.state c.args.host.now) c.whoami.result c.requires.call c.whoami.ensures.reply c.whoami.ensures.memory)
     in served.fetched
 
 pub returns-in-Whoami-clause-unread : goal.returns-in-Whoami-clause-unread
 returns-in-Whoami-clause-unread g c =
-    let served = subst (λ (command : Command). IsRegistered c.args.user.now command c.whoami.result c.args.store.now c.args.store.now (g.H.Host.state c.args.host.now) (g.H.Host.state c.args.host.now)) (sym c.in-Whoami.is)
+    let served = subst (λ (command : Command). IsRegistered c.args.user.now c.args.user.now command c.whoami.result c.args.store.now c.args.store.now (g.H.Host.state c.args.host.now) (g.H.Host.state c.args.host.now)) (sym c.in-Whoami.is)
     (whoami_registered c.args.user.now c.args.store.now (g.H.Host.state c.args.host.now) c.whoami.result c.requires.call c.whoami.ensures.reply c.whoami.ensures.memory)
     in served.unread
 
 pub returns-in-Whoami-clause-cause : goal.returns-in-Whoami-clause-cause
 returns-in-Whoami-clause-cause g c =
-    let served = subst (λ (command : Command). IsRegistered c.args.user.now command c.whoami.result c.args.store.now c.args.store.now (g.H.Host.state c.args.host.now) (g.H.Host.state c.args.host.now)) (sym c.in-Whoami.is)
+    let served = subst (λ (command : Command). IsRegistered c.args.user.now c.args.user.now command c.whoami.result c.args.store.now c.args.store.now (g.H.Host.state c.args.host.now) (g.H.Host.state c.args.host.now)) (sym c.in-Whoami.is)
     (whoami_registered c.args.user.now c.args.store.now (g.H.Host.state c.args.host.now) c.whoami.result c.requires.call c.whoami.ensures.reply c.whoami.ensures.memory)
     in served.cause
 
 pub returns-in-Whoami-clause-stage : goal.returns-in-Whoami-clause-stage
 returns-in-Whoami-clause-stage g c =
-    let served = subst (λ (command : Command). IsRegistered c.args.user.now command c.whoami.result c.args.store.now c.args.store.now (g.H.Host.state c.args.host.now) (g.H.Host.state c.args.host.now)) (sym c.in-Whoami.is)
+    let served = subst (λ (command : Command). IsRegistered c.args.user.now c.args.user.now command c.whoami.result c.args.store.now c.args.store.now (g.H.Host.state c.args.host.now) (g.H.Host.state c.args.host.now)) (sym c.in-Whoami.is)
     (whoami_registered c.args.user.now c.args.store.now (g.H.Host.state c.args.host.now) c.whoami.result c.requires.call c.whoami.ensures.reply c.whoami.ensures.memory)
     in (λ is. absurd (served.host_alone is))
 
 pub returns-in-Whoami-clause-damaged : goal.returns-in-Whoami-clause-damaged
 returns-in-Whoami-clause-damaged g c =
-    let served = subst (λ (command : Command). IsRegistered c.args.user.now command c.whoami.result c.args.store.now c.args.store.now (g.H.Host.state c.args.host.now) (g.H.Host.state c.args.host.now)) (sym c.in-Whoami.is)
+    let served = subst (λ (command : Command). IsRegistered c.args.user.now c.args.user.now command c.whoami.result c.args.store.now c.args.store.now (g.H.Host.state c.args.host.now) (g.H.Host.state c.args.host.now)) (sym c.in-Whoami.is)
     (whoami_registered c.args.user.now c.args.store.now (g.H.Host.state c.args.host.now) c.whoami.result c.requires.call c.whoami.ensures.reply c.whoami.ensures.memory)
     in served.damaged (g.T.Stage.staged c.args.stage.now)
 
 pub returns-in-Whoami-clause-begins_none : goal.returns-in-Whoami-clause-begins_none
 returns-in-Whoami-clause-begins_none g c =
-    let served = subst (λ (command : Command). IsRegistered c.args.user.now command c.whoami.result c.args.store.now c.args.store.now (g.H.Host.state c.args.host.now) (g.H.Host.state c.args.host.now)) (sym c.in-Whoami.is)
+    let served = subst (λ (command : Command). IsRegistered c.args.user.now c.args.user.now command c.whoami.result c.args.store.now c.args.store.now (g.H.Host.state c.args.host.now) (g.H.Host.state c.args.host.now)) (sym c.in-Whoami.is)
     (whoami_registered c.args.user.now c.args.store.now (g.H.Host.state c.args.host.now) c.whoami.result c.requires.call c.whoami.ensures.reply c.whoami.ensures.memory)
     in (λ quiet none. served.begins_none none)
 
 pub returns-in-Whoami-clause-whole : goal.returns-in-Whoami-clause-whole
 returns-in-Whoami-clause-whole g c =
-    let served = subst (λ (command : Command). IsRegistered c.args.user.now command c.whoami.result c.args.store.now c.args.store.now (g.H.Host.state c.args.host.now) (g.H.Host.state c.args.host.now)) (sym c.in-Whoami.is)
+    let served = subst (λ (command : Command). IsRegistered c.args.user.now c.args.user.now command c.whoami.result c.args.store.now c.args.store.now (g.H.Host.state c.args.host.now) (g.H.Host.state c.args.host.now)) (sym c.in-Whoami.is)
     (whoami_registered c.args.user.now c.args.store.now (g.H.Host.state c.args.host.now) c.whoami.result c.requires.call c.whoami.ensures.reply c.whoami.ensures.memory)
     in (λ page told. map_ok _ _ c.whoami.result (λ clear built met. clear met) (served.whole (g.T.Stage.staged c.args.stage.now) page told))
 
 pub returns-in-Whoami-clause-usable : goal.returns-in-Whoami-clause-usable
 returns-in-Whoami-clause-usable g c =
-    let served = subst (λ (command : Command). IsRegistered c.args.user.now command c.whoami.result c.args.store.now c.args.store.now (g.H.Host.state c.args.host.now) (g.H.Host.state c.args.host.now)) (sym c.in-Whoami.is)
+    let served = subst (λ (command : Command). IsRegistered c.args.user.now c.args.user.now command c.whoami.result c.args.store.now c.args.store.now (g.H.Host.state c.args.host.now) (g.H.Host.state c.args.host.now)) (sym c.in-Whoami.is)
     (whoami_registered c.args.user.now c.args.store.now (g.H.Host.state c.args.host.now) c.whoami.result c.requires.call c.whoami.ensures.reply c.whoami.ensures.memory)
     in served.usable
 
 pub returns-in-Whoami-clause-by_journal : goal.returns-in-Whoami-clause-by_journal
 returns-in-Whoami-clause-by_journal g c =
-    let served = subst (λ (command : Command). IsRegistered c.args.user.now command c.whoami.result c.args.store.now c.args.store.now (g.H.Host.state c.args.host.now) (g.H.Host.state c.args.host.now)) (sym c.in-Whoami.is)
+    let served = subst (λ (command : Command). IsRegistered c.args.user.now c.args.user.now command c.whoami.result c.args.store.now c.args.store.now (g.H.Host.state c.args.host.now) (g.H.Host.state c.args.host.now)) (sym c.in-Whoami.is)
     (whoami_registered c.args.user.now c.args.store.now (g.H.Host.state c.args.host.now) c.whoami.result c.requires.call c.whoami.ensures.reply c.whoami.ensures.memory)
     in served.by_journal
 
 pub returns-in-Whoami-clause-at : goal.returns-in-Whoami-clause-at
 returns-in-Whoami-clause-at g c =
-    let served = subst (λ (command : Command). IsRegistered c.args.user.now command c.whoami.result c.args.store.now c.args.store.now (g.H.Host.state c.args.host.now) (g.H.Host.state c.args.host.now)) (sym c.in-Whoami.is)
+    let served = subst (λ (command : Command). IsRegistered c.args.user.now c.args.user.now command c.whoami.result c.args.store.now c.args.store.now (g.H.Host.state c.args.host.now) (g.H.Host.state c.args.host.now)) (sym c.in-Whoami.is)
     (whoami_registered c.args.user.now c.args.store.now (g.H.Host.state c.args.host.now) c.whoami.result c.requires.call c.whoami.ensures.reply c.whoami.ensures.memory)
     in served.at
 
 pub returns-in-Whoami-clause-missed : goal.returns-in-Whoami-clause-missed
 returns-in-Whoami-clause-missed g c =
-    let served = subst (λ (command : Command). IsRegistered c.args.user.now command c.whoami.result c.args.store.now c.args.store.now (g.H.Host.state c.args.host.now) (g.H.Host.state c.args.host.now)) (sym c.in-Whoami.is)
+    let served = subst (λ (command : Command). IsRegistered c.args.user.now c.args.user.now command c.whoami.result c.args.store.now c.args.store.now (g.H.Host.state c.args.host.now) (g.H.Host.state c.args.host.now)) (sym c.in-Whoami.is)
     (whoami_registered c.args.user.now c.args.store.now (g.H.Host.state c.args.host.now) c.whoami.result c.requires.call c.whoami.ensures.reply c.whoami.ensures.memory)
     in seen_missed _ c.whoami.result served.seen
 
 pub returns-in-Whoami-clause-undamaged : goal.returns-in-Whoami-clause-undamaged
 returns-in-Whoami-clause-undamaged g c =
-    let served = subst (λ (command : Command). IsRegistered c.args.user.now command c.whoami.result c.args.store.now c.args.store.now (g.H.Host.state c.args.host.now) (g.H.Host.state c.args.host.now)) (sym c.in-Whoami.is)
+    let served = subst (λ (command : Command). IsRegistered c.args.user.now c.args.user.now command c.whoami.result c.args.store.now c.args.store.now (g.H.Host.state c.args.host.now) (g.H.Host.state c.args.host.now)) (sym c.in-Whoami.is)
     (whoami_registered c.args.user.now c.args.store.now (g.H.Host.state c.args.host.now) c.whoami.result c.requires.call c.whoami.ensures.reply c.whoami.ensures.memory)
     in served.undamaged
 
 pub returns-in-Whoami-clause-acts : goal.returns-in-Whoami-clause-acts
 returns-in-Whoami-clause-acts g c =
-    let served = subst (λ (command : Command). IsRegistered c.args.user.now command c.whoami.result c.args.store.now c.args.store.now (g.H.Host.state c.args.host.now) (g.H.Host.state c.args.host.now)) (sym c.in-Whoami.is)
+    let served = subst (λ (command : Command). IsRegistered c.args.user.now c.args.user.now command c.whoami.result c.args.store.now c.args.store.now (g.H.Host.state c.args.host.now) (g.H.Host.state c.args.host.now)) (sym c.in-Whoami.is)
     (whoami_registered c.args.user.now c.args.store.now (g.H.Host.state c.args.host.now) c.whoami.result c.requires.call c.whoami.ensures.reply c.whoami.ensures.memory)
-    in (λ w built told at. served.acts w (session_of (g.T.Stage.staged c.args.stage.now).files c.args.user.now) refl at)
+    in (λ w built told at. served.acts w (session_of (g.T.Stage.staged c.args.stage.now).files c.args.user.now).files at)
 
 pub returns-in-Whoami-clause-idle : goal.returns-in-Whoami-clause-idle
 returns-in-Whoami-clause-idle g c =
-    let served = subst (λ (command : Command). IsRegistered c.args.user.now command c.whoami.result c.args.store.now c.args.store.now (g.H.Host.state c.args.host.now) (g.H.Host.state c.args.host.now)) (sym c.in-Whoami.is)
+    let served = subst (λ (command : Command). IsRegistered c.args.user.now c.args.user.now command c.whoami.result c.args.store.now c.args.store.now (g.H.Host.state c.args.host.now) (g.H.Host.state c.args.host.now)) (sym c.in-Whoami.is)
     (whoami_registered c.args.user.now c.args.store.now (g.H.Host.state c.args.host.now) c.whoami.result c.requires.call c.whoami.ensures.reply c.whoami.ensures.memory)
     in subst (λ (command : Command). IfErr c.whoami.result (λ e. IsIdleBy command e c.args.store.now c.args.store.now (g.T.Stage.staged c.args.stage.now) (g.T.Stage.staged c.args.stage.now) (g.H.Host.state c.args.host.now) (g.H.Host.state c.args.host.now))) (sym c.in-Whoami.is)
     (idle_stored c.args.store.now c.args.store.now (g.T.Stage.staged c.args.stage.now) (g.T.Stage.staged c.args.stage.now) (g.H.Host.state c.args.host.now) (g.H.Host.state c.args.host.now) c.whoami.result served.host_alone served.idle refl)
@@ -907,97 +907,97 @@ returns-in-Whoami-clause-other g c = λ refusal is. absurd (ok_err _ refusal (su
 
 pub returns-in-Unstage-clause-goes : goal.returns-in-Unstage-clause-goes
 returns-in-Unstage-clause-goes g c =
-    let served = subst (λ (command : Command). IsRegistered c.args.user.now command c.unstage.result c.args.store.now c.unstage.new.store (g.H.Host.state c.args.host.now) (g.H.Host.state c.unstage.new.host)) (sym c.in-Unstage.is)
+    let served = subst (λ (command : Command). IsRegistered c.args.user.now c.args.user.now command c.unstage.result c.args.store.now c.unstage.new.store (g.H.Host.state c.args.host.now) (g.H.Host.state c.unstage.new.host)) (sym c.in-Unstage.is)
     (c.unstage.ensures c.args.user.now)
     in served.goes
 
 pub returns-in-Unstage-clause-still : goal.returns-in-Unstage-clause-still
 returns-in-Unstage-clause-still g c =
-    let served = subst (λ (command : Command). IsRegistered c.args.user.now command c.unstage.result c.args.store.now c.unstage.new.store (g.H.Host.state c.args.host.now) (g.H.Host.state c.unstage.new.host)) (sym c.in-Unstage.is)
+    let served = subst (λ (command : Command). IsRegistered c.args.user.now c.args.user.now command c.unstage.result c.args.store.now c.unstage.new.store (g.H.Host.state c.args.host.now) (g.H.Host.state c.unstage.new.host)) (sym c.in-Unstage.is)
     (c.unstage.ensures c.args.user.now)
     in served.still
 
 pub returns-in-Unstage-clause-fetched : goal.returns-in-Unstage-clause-fetched
 returns-in-Unstage-clause-fetched g c =
-    let served = subst (λ (command : Command). IsRegistered c.args.user.now command c.unstage.result c.args.store.now c.unstage.new.store (g.H.Host.state c.args.host.now) (g.H.Host.state c.unstage.new.host)) (sym c.in-Unstage.is)
+    let served = subst (λ (command : Command). IsRegistered c.args.user.now c.args.user.now command c.unstage.result c.args.store.now c.unstage.new.store (g.H.Host.state c.args.host.now) (g.H.Host.state c.unstage.new.host)) (sym c.in-Unstage.is)
     (c.unstage.ensures c.args.user.now)
     in served.fetched
 
 pub returns-in-Unstage-clause-unread : goal.returns-in-Unstage-clause-unread
 returns-in-Unstage-clause-unread g c =
-    let served = subst (λ (command : Command). IsRegistered c.args.user.now command c.unstage.result c.args.store.now c.unstage.new.store (g.H.Host.state c.args.host.now) (g.H.Host.state c.unstage.new.host)) (sym c.in-Unstage.is)
+    let served = subst (λ (command : Command). IsRegistered c.args.user.now c.args.user.now command c.unstage.result c.args.store.now c.unstage.new.store (g.H.Host.state c.args.host.now) (g.H.Host.state c.unstage.new.host)) (sym c.in-Unstage.is)
     (c.unstage.ensures c.args.user.now)
     in served.unread
 
 pub returns-in-Unstage-clause-cause : goal.returns-in-Unstage-clause-cause
 returns-in-Unstage-clause-cause g c =
-    let served = subst (λ (command : Command). IsRegistered c.args.user.now command c.unstage.result c.args.store.now c.unstage.new.store (g.H.Host.state c.args.host.now) (g.H.Host.state c.unstage.new.host)) (sym c.in-Unstage.is)
+    let served = subst (λ (command : Command). IsRegistered c.args.user.now c.args.user.now command c.unstage.result c.args.store.now c.unstage.new.store (g.H.Host.state c.args.host.now) (g.H.Host.state c.unstage.new.host)) (sym c.in-Unstage.is)
     (c.unstage.ensures c.args.user.now)
     in served.cause
 
 pub returns-in-Unstage-clause-stage : goal.returns-in-Unstage-clause-stage
 returns-in-Unstage-clause-stage g c =
-    let served = subst (λ (command : Command). IsRegistered c.args.user.now command c.unstage.result c.args.store.now c.unstage.new.store (g.H.Host.state c.args.host.now) (g.H.Host.state c.unstage.new.host)) (sym c.in-Unstage.is)
+    let served = subst (λ (command : Command). IsRegistered c.args.user.now c.args.user.now command c.unstage.result c.args.store.now c.unstage.new.store (g.H.Host.state c.args.host.now) (g.H.Host.state c.unstage.new.host)) (sym c.in-Unstage.is)
     (c.unstage.ensures c.args.user.now)
     in (λ is. absurd (served.host_alone is))
 
 pub returns-in-Unstage-clause-damaged : goal.returns-in-Unstage-clause-damaged
 returns-in-Unstage-clause-damaged g c =
-    let served = subst (λ (command : Command). IsRegistered c.args.user.now command c.unstage.result c.args.store.now c.unstage.new.store (g.H.Host.state c.args.host.now) (g.H.Host.state c.unstage.new.host)) (sym c.in-Unstage.is)
+    let served = subst (λ (command : Command). IsRegistered c.args.user.now c.args.user.now command c.unstage.result c.args.store.now c.unstage.new.store (g.H.Host.state c.args.host.now) (g.H.Host.state c.unstage.new.host)) (sym c.in-Unstage.is)
     (c.unstage.ensures c.args.user.now)
     in served.damaged (g.T.Stage.staged c.args.stage.now)
 
 pub returns-in-Unstage-clause-begins_none : goal.returns-in-Unstage-clause-begins_none
 returns-in-Unstage-clause-begins_none g c =
-    let served = subst (λ (command : Command). IsRegistered c.args.user.now command c.unstage.result c.args.store.now c.unstage.new.store (g.H.Host.state c.args.host.now) (g.H.Host.state c.unstage.new.host)) (sym c.in-Unstage.is)
+    let served = subst (λ (command : Command). IsRegistered c.args.user.now c.args.user.now command c.unstage.result c.args.store.now c.unstage.new.store (g.H.Host.state c.args.host.now) (g.H.Host.state c.unstage.new.host)) (sym c.in-Unstage.is)
     (c.unstage.ensures c.args.user.now)
     in (λ quiet none. served.begins_none none)
 
 pub returns-in-Unstage-clause-whole : goal.returns-in-Unstage-clause-whole
 returns-in-Unstage-clause-whole g c =
-    let served = subst (λ (command : Command). IsRegistered c.args.user.now command c.unstage.result c.args.store.now c.unstage.new.store (g.H.Host.state c.args.host.now) (g.H.Host.state c.unstage.new.host)) (sym c.in-Unstage.is)
+    let served = subst (λ (command : Command). IsRegistered c.args.user.now c.args.user.now command c.unstage.result c.args.store.now c.unstage.new.store (g.H.Host.state c.args.host.now) (g.H.Host.state c.unstage.new.host)) (sym c.in-Unstage.is)
     (c.unstage.ensures c.args.user.now)
     in (λ page told. map_ok _ _ c.unstage.result (λ clear built met. clear met) (served.whole (g.T.Stage.staged c.args.stage.now) page told))
 
 pub returns-in-Unstage-clause-usable : goal.returns-in-Unstage-clause-usable
 returns-in-Unstage-clause-usable g c =
-    let served = subst (λ (command : Command). IsRegistered c.args.user.now command c.unstage.result c.args.store.now c.unstage.new.store (g.H.Host.state c.args.host.now) (g.H.Host.state c.unstage.new.host)) (sym c.in-Unstage.is)
+    let served = subst (λ (command : Command). IsRegistered c.args.user.now c.args.user.now command c.unstage.result c.args.store.now c.unstage.new.store (g.H.Host.state c.args.host.now) (g.H.Host.state c.unstage.new.host)) (sym c.in-Unstage.is)
     (c.unstage.ensures c.args.user.now)
     in served.usable
 
 pub returns-in-Unstage-clause-by_journal : goal.returns-in-Unstage-clause-by_journal
 returns-in-Unstage-clause-by_journal g c =
-    let served = subst (λ (command : Command). IsRegistered c.args.user.now command c.unstage.result c.args.store.now c.unstage.new.store (g.H.Host.state c.args.host.now) (g.H.Host.state c.unstage.new.host)) (sym c.in-Unstage.is)
+    let served = subst (λ (command : Command). IsRegistered c.args.user.now c.args.user.now command c.unstage.result c.args.store.now c.unstage.new.store (g.H.Host.state c.args.host.now) (g.H.Host.state c.unstage.new.host)) (sym c.in-Unstage.is)
     (c.unstage.ensures c.args.user.now)
     in served.by_journal
 
 pub returns-in-Unstage-clause-at : goal.returns-in-Unstage-clause-at
 returns-in-Unstage-clause-at g c =
-    let served = subst (λ (command : Command). IsRegistered c.args.user.now command c.unstage.result c.args.store.now c.unstage.new.store (g.H.Host.state c.args.host.now) (g.H.Host.state c.unstage.new.host)) (sym c.in-Unstage.is)
+    let served = subst (λ (command : Command). IsRegistered c.args.user.now c.args.user.now command c.unstage.result c.args.store.now c.unstage.new.store (g.H.Host.state c.args.host.now) (g.H.Host.state c.unstage.new.host)) (sym c.in-Unstage.is)
     (c.unstage.ensures c.args.user.now)
     in served.at
 
 pub returns-in-Unstage-clause-missed : goal.returns-in-Unstage-clause-missed
 returns-in-Unstage-clause-missed g c =
-    let served = subst (λ (command : Command). IsRegistered c.args.user.now command c.unstage.result c.args.store.now c.unstage.new.store (g.H.Host.state c.args.host.now) (g.H.Host.state c.unstage.new.host)) (sym c.in-Unstage.is)
+    let served = subst (λ (command : Command). IsRegistered c.args.user.now c.args.user.now command c.unstage.result c.args.store.now c.unstage.new.store (g.H.Host.state c.args.host.now) (g.H.Host.state c.unstage.new.host)) (sym c.in-Unstage.is)
     (c.unstage.ensures c.args.user.now)
     in seen_missed _ c.unstage.result served.seen
 
 pub returns-in-Unstage-clause-undamaged : goal.returns-in-Unstage-clause-undamaged
 returns-in-Unstage-clause-undamaged g c =
-    let served = subst (λ (command : Command). IsRegistered c.args.user.now command c.unstage.result c.args.store.now c.unstage.new.store (g.H.Host.state c.args.host.now) (g.H.Host.state c.unstage.new.host)) (sym c.in-Unstage.is)
+    let served = subst (λ (command : Command). IsRegistered c.args.user.now c.args.user.now command c.unstage.result c.args.store.now c.unstage.new.store (g.H.Host.state c.args.host.now) (g.H.Host.state c.unstage.new.host)) (sym c.in-Unstage.is)
     (c.unstage.ensures c.args.user.now)
     in served.undamaged
 
 pub returns-in-Unstage-clause-acts : goal.returns-in-Unstage-clause-acts
 returns-in-Unstage-clause-acts g c =
-    let served = subst (λ (command : Command). IsRegistered c.args.user.now command c.unstage.result c.args.store.now c.unstage.new.store (g.H.Host.state c.args.host.now) (g.H.Host.state c.unstage.new.host)) (sym c.in-Unstage.is)
+    let served = subst (λ (command : Command). IsRegistered c.args.user.now c.args.user.now command c.unstage.result c.args.store.now c.unstage.new.store (g.H.Host.state c.args.host.now) (g.H.Host.state c.unstage.new.host)) (sym c.in-Unstage.is)
     (c.unstage.ensures c.args.user.now)
-    in (λ w built told at. served.acts w (session_of (g.T.Stage.staged c.args.stage.now).files c.args.user.now) refl at)
+    in (λ w built told at. served.acts w (session_of (g.T.Stage.staged c.args.stage.now).files c.args.user.now).files at)
 
 pub returns-in-Unstage-clause-idle : goal.returns-in-Unstage-clause-idle
 returns-in-Unstage-clause-idle g c =
-    let served = subst (λ (command : Command). IsRegistered c.args.user.now command c.unstage.result c.args.store.now c.unstage.new.store (g.H.Host.state c.args.host.now) (g.H.Host.state c.unstage.new.host)) (sym c.in-Unstage.is)
+    let served = subst (λ (command : Command). IsRegistered c.args.user.now c.args.user.now command c.unstage.result c.args.store.now c.unstage.new.store (g.H.Host.state c.args.host.now) (g.H.Host.state c.unstage.new.host)) (sym c.in-Unstage.is)
     (c.unstage.ensures c.args.user.now)
     in subst (λ (command : Command). IfErr c.unstage.result (λ e. IsIdleBy command e c.args.store.now c.unstage.new.store (g.T.Stage.staged c.args.stage.now) (g.T.Stage.staged c.args.stage.now) (g.H.Host.state c.args.host.now) (g.H.Host.state c.unstage.new.host))) (sym c.in-Unstage.is)
     (idle_stored c.args.store.now c.unstage.new.store (g.T.Stage.staged c.args.stage.now) (g.T.Stage.staged c.args.stage.now) (g.H.Host.state c.args.host.now) (g.H.Host.state c.unstage.new.host) c.unstage.result served.host_alone served.idle refl)
@@ -1007,97 +1007,97 @@ returns-in-Unstage-clause-other g c = λ refusal is. absurd (ok_err _ refusal (s
 
 pub returns-in-Tables-clause-goes : goal.returns-in-Tables-clause-goes
 returns-in-Tables-clause-goes g c =
-    let served = subst (λ (command : Command). IsRegistered c.args.user.now command c.tables.result c.args.store.now c.args.store.now (g.H.Host.state c.args.host.now) (g.H.Host.state c.tables.new.host)) (sym c.in-Tables.is)
+    let served = subst (λ (command : Command). IsRegistered c.args.user.now c.args.user.now command c.tables.result c.args.store.now c.args.store.now (g.H.Host.state c.args.host.now) (g.H.Host.state c.tables.new.host)) (sym c.in-Tables.is)
     (c.tables.ensures)
     in served.goes
 
 pub returns-in-Tables-clause-still : goal.returns-in-Tables-clause-still
 returns-in-Tables-clause-still g c =
-    let served = subst (λ (command : Command). IsRegistered c.args.user.now command c.tables.result c.args.store.now c.args.store.now (g.H.Host.state c.args.host.now) (g.H.Host.state c.tables.new.host)) (sym c.in-Tables.is)
+    let served = subst (λ (command : Command). IsRegistered c.args.user.now c.args.user.now command c.tables.result c.args.store.now c.args.store.now (g.H.Host.state c.args.host.now) (g.H.Host.state c.tables.new.host)) (sym c.in-Tables.is)
     (c.tables.ensures)
     in served.still
 
 pub returns-in-Tables-clause-fetched : goal.returns-in-Tables-clause-fetched
 returns-in-Tables-clause-fetched g c =
-    let served = subst (λ (command : Command). IsRegistered c.args.user.now command c.tables.result c.args.store.now c.args.store.now (g.H.Host.state c.args.host.now) (g.H.Host.state c.tables.new.host)) (sym c.in-Tables.is)
+    let served = subst (λ (command : Command). IsRegistered c.args.user.now c.args.user.now command c.tables.result c.args.store.now c.args.store.now (g.H.Host.state c.args.host.now) (g.H.Host.state c.tables.new.host)) (sym c.in-Tables.is)
     (c.tables.ensures)
     in served.fetched
 
 pub returns-in-Tables-clause-unread : goal.returns-in-Tables-clause-unread
 returns-in-Tables-clause-unread g c =
-    let served = subst (λ (command : Command). IsRegistered c.args.user.now command c.tables.result c.args.store.now c.args.store.now (g.H.Host.state c.args.host.now) (g.H.Host.state c.tables.new.host)) (sym c.in-Tables.is)
+    let served = subst (λ (command : Command). IsRegistered c.args.user.now c.args.user.now command c.tables.result c.args.store.now c.args.store.now (g.H.Host.state c.args.host.now) (g.H.Host.state c.tables.new.host)) (sym c.in-Tables.is)
     (c.tables.ensures)
     in served.unread
 
 pub returns-in-Tables-clause-cause : goal.returns-in-Tables-clause-cause
 returns-in-Tables-clause-cause g c =
-    let served = subst (λ (command : Command). IsRegistered c.args.user.now command c.tables.result c.args.store.now c.args.store.now (g.H.Host.state c.args.host.now) (g.H.Host.state c.tables.new.host)) (sym c.in-Tables.is)
+    let served = subst (λ (command : Command). IsRegistered c.args.user.now c.args.user.now command c.tables.result c.args.store.now c.args.store.now (g.H.Host.state c.args.host.now) (g.H.Host.state c.tables.new.host)) (sym c.in-Tables.is)
     (c.tables.ensures)
     in served.cause
 
 pub returns-in-Tables-clause-stage : goal.returns-in-Tables-clause-stage
 returns-in-Tables-clause-stage g c =
-    let served = subst (λ (command : Command). IsRegistered c.args.user.now command c.tables.result c.args.store.now c.args.store.now (g.H.Host.state c.args.host.now) (g.H.Host.state c.tables.new.host)) (sym c.in-Tables.is)
+    let served = subst (λ (command : Command). IsRegistered c.args.user.now c.args.user.now command c.tables.result c.args.store.now c.args.store.now (g.H.Host.state c.args.host.now) (g.H.Host.state c.tables.new.host)) (sym c.in-Tables.is)
     (c.tables.ensures)
     in (λ is. absurd (served.host_alone is))
 
 pub returns-in-Tables-clause-damaged : goal.returns-in-Tables-clause-damaged
 returns-in-Tables-clause-damaged g c =
-    let served = subst (λ (command : Command). IsRegistered c.args.user.now command c.tables.result c.args.store.now c.args.store.now (g.H.Host.state c.args.host.now) (g.H.Host.state c.tables.new.host)) (sym c.in-Tables.is)
+    let served = subst (λ (command : Command). IsRegistered c.args.user.now c.args.user.now command c.tables.result c.args.store.now c.args.store.now (g.H.Host.state c.args.host.now) (g.H.Host.state c.tables.new.host)) (sym c.in-Tables.is)
     (c.tables.ensures)
     in served.damaged (g.T.Stage.staged c.args.stage.now)
 
 pub returns-in-Tables-clause-begins_none : goal.returns-in-Tables-clause-begins_none
 returns-in-Tables-clause-begins_none g c =
-    let served = subst (λ (command : Command). IsRegistered c.args.user.now command c.tables.result c.args.store.now c.args.store.now (g.H.Host.state c.args.host.now) (g.H.Host.state c.tables.new.host)) (sym c.in-Tables.is)
+    let served = subst (λ (command : Command). IsRegistered c.args.user.now c.args.user.now command c.tables.result c.args.store.now c.args.store.now (g.H.Host.state c.args.host.now) (g.H.Host.state c.tables.new.host)) (sym c.in-Tables.is)
     (c.tables.ensures)
     in (λ quiet none. served.begins_none none)
 
 pub returns-in-Tables-clause-whole : goal.returns-in-Tables-clause-whole
 returns-in-Tables-clause-whole g c =
-    let served = subst (λ (command : Command). IsRegistered c.args.user.now command c.tables.result c.args.store.now c.args.store.now (g.H.Host.state c.args.host.now) (g.H.Host.state c.tables.new.host)) (sym c.in-Tables.is)
+    let served = subst (λ (command : Command). IsRegistered c.args.user.now c.args.user.now command c.tables.result c.args.store.now c.args.store.now (g.H.Host.state c.args.host.now) (g.H.Host.state c.tables.new.host)) (sym c.in-Tables.is)
     (c.tables.ensures)
     in (λ page told. map_ok _ _ c.tables.result (λ clear built met. clear met) (served.whole (g.T.Stage.staged c.args.stage.now) page told))
 
 pub returns-in-Tables-clause-usable : goal.returns-in-Tables-clause-usable
 returns-in-Tables-clause-usable g c =
-    let served = subst (λ (command : Command). IsRegistered c.args.user.now command c.tables.result c.args.store.now c.args.store.now (g.H.Host.state c.args.host.now) (g.H.Host.state c.tables.new.host)) (sym c.in-Tables.is)
+    let served = subst (λ (command : Command). IsRegistered c.args.user.now c.args.user.now command c.tables.result c.args.store.now c.args.store.now (g.H.Host.state c.args.host.now) (g.H.Host.state c.tables.new.host)) (sym c.in-Tables.is)
     (c.tables.ensures)
     in served.usable
 
 pub returns-in-Tables-clause-by_journal : goal.returns-in-Tables-clause-by_journal
 returns-in-Tables-clause-by_journal g c =
-    let served = subst (λ (command : Command). IsRegistered c.args.user.now command c.tables.result c.args.store.now c.args.store.now (g.H.Host.state c.args.host.now) (g.H.Host.state c.tables.new.host)) (sym c.in-Tables.is)
+    let served = subst (λ (command : Command). IsRegistered c.args.user.now c.args.user.now command c.tables.result c.args.store.now c.args.store.now (g.H.Host.state c.args.host.now) (g.H.Host.state c.tables.new.host)) (sym c.in-Tables.is)
     (c.tables.ensures)
     in served.by_journal
 
 pub returns-in-Tables-clause-at : goal.returns-in-Tables-clause-at
 returns-in-Tables-clause-at g c =
-    let served = subst (λ (command : Command). IsRegistered c.args.user.now command c.tables.result c.args.store.now c.args.store.now (g.H.Host.state c.args.host.now) (g.H.Host.state c.tables.new.host)) (sym c.in-Tables.is)
+    let served = subst (λ (command : Command). IsRegistered c.args.user.now c.args.user.now command c.tables.result c.args.store.now c.args.store.now (g.H.Host.state c.args.host.now) (g.H.Host.state c.tables.new.host)) (sym c.in-Tables.is)
     (c.tables.ensures)
     in served.at
 
 pub returns-in-Tables-clause-missed : goal.returns-in-Tables-clause-missed
 returns-in-Tables-clause-missed g c =
-    let served = subst (λ (command : Command). IsRegistered c.args.user.now command c.tables.result c.args.store.now c.args.store.now (g.H.Host.state c.args.host.now) (g.H.Host.state c.tables.new.host)) (sym c.in-Tables.is)
+    let served = subst (λ (command : Command). IsRegistered c.args.user.now c.args.user.now command c.tables.result c.args.store.now c.args.store.now (g.H.Host.state c.args.host.now) (g.H.Host.state c.tables.new.host)) (sym c.in-Tables.is)
     (c.tables.ensures)
     in seen_missed _ c.tables.result served.seen
 
 pub returns-in-Tables-clause-undamaged : goal.returns-in-Tables-clause-undamaged
 returns-in-Tables-clause-undamaged g c =
-    let served = subst (λ (command : Command). IsRegistered c.args.user.now command c.tables.result c.args.store.now c.args.store.now (g.H.Host.state c.args.host.now) (g.H.Host.state c.tables.new.host)) (sym c.in-Tables.is)
+    let served = subst (λ (command : Command). IsRegistered c.args.user.now c.args.user.now command c.tables.result c.args.store.now c.args.store.now (g.H.Host.state c.args.host.now) (g.H.Host.state c.tables.new.host)) (sym c.in-Tables.is)
     (c.tables.ensures)
     in served.undamaged
 
 pub returns-in-Tables-clause-acts : goal.returns-in-Tables-clause-acts
 returns-in-Tables-clause-acts g c =
-    let served = subst (λ (command : Command). IsRegistered c.args.user.now command c.tables.result c.args.store.now c.args.store.now (g.H.Host.state c.args.host.now) (g.H.Host.state c.tables.new.host)) (sym c.in-Tables.is)
+    let served = subst (λ (command : Command). IsRegistered c.args.user.now c.args.user.now command c.tables.result c.args.store.now c.args.store.now (g.H.Host.state c.args.host.now) (g.H.Host.state c.tables.new.host)) (sym c.in-Tables.is)
     (c.tables.ensures)
-    in (λ w built told at. served.acts w (session_of (g.T.Stage.staged c.args.stage.now).files c.args.user.now) refl at)
+    in (λ w built told at. served.acts w (session_of (g.T.Stage.staged c.args.stage.now).files c.args.user.now).files at)
 
 pub returns-in-Tables-clause-idle : goal.returns-in-Tables-clause-idle
 returns-in-Tables-clause-idle g c =
-    let served = subst (λ (command : Command). IsRegistered c.args.user.now command c.tables.result c.args.store.now c.args.store.now (g.H.Host.state c.args.host.now) (g.H.Host.state c.tables.new.host)) (sym c.in-Tables.is)
+    let served = subst (λ (command : Command). IsRegistered c.args.user.now c.args.user.now command c.tables.result c.args.store.now c.args.store.now (g.H.Host.state c.args.host.now) (g.H.Host.state c.tables.new.host)) (sym c.in-Tables.is)
     (c.tables.ensures)
     in subst (λ (command : Command). IfErr c.tables.result (λ e. IsIdleBy command e c.args.store.now c.args.store.now (g.T.Stage.staged c.args.stage.now) (g.T.Stage.staged c.args.stage.now) (g.H.Host.state c.args.host.now) (g.H.Host.state c.tables.new.host))) (sym c.in-Tables.is)
     (idle_stored c.args.store.now c.args.store.now (g.T.Stage.staged c.args.stage.now) (g.T.Stage.staged c.args.stage.now) (g.H.Host.state c.args.host.now) (g.H.Host.state c.tables.new.host) c.tables.result served.host_alone served.idle refl)

@@ -1,5 +1,5 @@
 use Rattle.std.proofs.Common.{◌≡◌, ◌∙◌, true, false, refl, sym, ap, subst, arith}
-use Rattle.std.specs.Prelude.{Err, IfErr, Ok, Result, is_ok}
+use Rattle.std.specs.Prelude.{Err, IfErr, Result, is_ok}
 use Rattle.law_forms.specs.BuiltShapes.{served_forms}
 use Rattle.ov_host.specs.Host.{State}
 use Rattle.law_runs.specs.Serving.{Serves, session_of}
@@ -14,20 +14,28 @@ use Rattle.ov_session.specs.declared.serving.Served.{Served}
 use Rattle.ov_session.proofs.Bounds.{printed_line}
 use Rattle.ov_session.proofs.Taking.{end_is, err_is}
 use Rattle.ov_session.proofs.Following.{behind_damaged, behind_done, ends_same, fetched_then, line_met, no_end, no_line, no_step, replied_none, replied_then, rose_behind, serves_halted, serves_none, serves_off, serves_steps, some_line, step_met}
-use Rattle.ov_session.proofs.Acting.{next_stays}
+use Rattle.ov_session.proofs.Acting.{either_next, next_again}
+use Rattle.ov_session.specs.Acting.{IsNextUser}
 use Rattle.ov_session.proofs.serving.serve.Goals as goal
 
 pub returns-in_err-served-clause-user : goal.returns-in_err-served-clause-user
-returns-in_err-served-clause-user g c = next_stays c.args.user.now c.args.line.now c.args.user.now c.from_residual.result refl
+returns-in_err-served-clause-user g c =
+    let is = err_is c.from_residual.result c.in_err-served.field-0.0 c.from_residual.ensures.0 c.from_residual.ensures.1
+    in next_again (line_asked c.args.user.now c.args.line.now) (Err c.in_err-served.field-0.0) c.from_residual.result c.in_err-served.field-0.0 c.in_err-served.field-0.0
+    c.args.user.now c.serve_line.new.user refl is c.in_err-served.ensures.user
 
 pub returns-then-is_comment-clause-user : goal.returns-then-is_comment-clause-user
-returns-then-is_comment-clause-user g c = next_stays c.args.user.now c.args.line.now c.args.user.now (Ok c.in_ok-served.served) refl
+returns-then-is_comment-clause-user g c = c.in_ok-served.ensures.user
 
 pub returns-in_err-take_steps-clause-user : goal.returns-in_err-take_steps-clause-user
-returns-in_err-take_steps-clause-user g c = next_stays c.args.user.now c.args.line.now c.args.user.now c.from_residual-in_err-take_steps.result refl
+returns-in_err-take_steps-clause-user g c =
+    let l = line_asked c.args.user.now c.args.line.now
+    in let is = err_is c.from_residual-in_err-take_steps.result c.in_err-take_steps.field-0.0 c.from_residual-in_err-take_steps.ensures.0 c.from_residual-in_err-take_steps.ensures.1
+    in subst (λ (r : Result Served EndErr). IsNextUser l r c.args.user.now c.serve_line.new.user) (sym is)
+    (either_next l c.in_ok-served.served c.args.user.now c.serve_line.new.user c.in_ok-served.ensures.user)
 
 pub returns-clause-user : goal.returns-clause-user
-returns-clause-user g c = next_stays c.args.user.now c.args.line.now c.args.user.now (Ok c.in_ok-served.served) refl
+returns-clause-user g c = c.in_ok-served.ensures.user
 
 pub returns-in_err-served-clause-damaged : goal.returns-in_err-served-clause-damaged
 returns-in_err-served-clause-damaged g c =
@@ -66,7 +74,7 @@ returns-in_err-served-clause-unread g c = λ none off. c.serve_line.ensures.unre
 pub returns-in_err-served-clause-serves : goal.returns-in_err-served-clause-serves
 returns-in_err-served-clause-serves g c = λ w told at.
     let s = session_of (g.T.Stage.staged c.args.stage.now).files c.args.user.now
-    in let t = session_of (g.T.Stage.staged c.serve_line.new.stage).files c.args.user.now
+    in let t = session_of (g.T.Stage.staged c.serve_line.new.stage).files c.serve_line.new.user
     in let is = err_is c.from_residual.result c.in_err-served.field-0.0 c.from_residual.ensures.0 c.from_residual.ensures.1
     in let line : Serves served_forms 0 w s t c.args.line.now false false c.args.store.now.held c.serve_line.new.store.held (g.H.Host.state c.args.host.now) (g.H.Host.state c.serve_line.new.host) = c.in_err-served.ensures.serves w told at
     in subst (λ (r : Result Served EndErr). Serves served_forms c.args.steps w s t c.args.line.now (is_ok r) (is_refused r) c.args.store.now.held c.serve_line.new.store.held (g.H.Host.state c.args.host.now) (g.H.Host.state c.serve_line.new.host)) (sym is)
@@ -100,7 +108,7 @@ returns-then-is_comment-clause-replied g c =
 pub returns-then-is_comment-clause-serves : goal.returns-then-is_comment-clause-serves
 returns-then-is_comment-clause-serves g c = λ w told at.
     let s = session_of (g.T.Stage.staged c.args.stage.now).files c.args.user.now
-    in let t = session_of (g.T.Stage.staged c.serve_line.new.stage).files c.args.user.now
+    in let t = session_of (g.T.Stage.staged c.serve_line.new.stage).files c.serve_line.new.user
     in let none : is_comment_of c.in_ok-served.served ≡ true = sym c.is_comment.ensures ∙ c.if-is_comment.true
     in let line : Serves served_forms 0 w s t c.args.line.now true (is_refusal_of c.in_ok-served.served) c.args.store.now.held c.serve_line.new.store.held (g.H.Host.state c.args.host.now) (g.H.Host.state c.serve_line.new.host) = c.in_ok-served.ensures.serves w told at
     in serves_none c.args.steps w s t c.args.line.now true (is_refusal_of c.in_ok-served.served) c.args.store.now.held c.serve_line.new.store.held (g.H.Host.state c.args.host.now) (g.H.Host.state c.serve_line.new.host) (no_line c.args.user.now c.args.line.now (sym c.in_ok-served.ensures.comment ∙ none)) line
@@ -166,7 +174,7 @@ returns-in_err-take_steps-clause-damaged g c =
 pub returns-in_err-take_steps-clause-serves : goal.returns-in_err-take_steps-clause-serves
 returns-in_err-take_steps-clause-serves g c = λ w told at.
     let s = session_of (g.T.Stage.staged c.args.stage.now).files c.args.user.now
-    in let t = session_of (g.T.Stage.staged c.serve_line.new.stage).files c.args.user.now
+    in let t = session_of (g.T.Stage.staged c.serve_line.new.stage).files c.serve_line.new.user
     in let some : is_comment_of c.in_ok-served.served ≡ false = sym c.is_comment.ensures ∙ c.if-is_comment.false
     in let is = err_is c.from_residual-in_err-take_steps.result c.in_err-take_steps.field-0.0 c.from_residual-in_err-take_steps.ensures.0 c.from_residual-in_err-take_steps.ensures.1
     in let line : Serves served_forms 0 w s t c.args.line.now true (is_refusal_of c.in_ok-served.served) c.args.store.now.held c.serve_line.new.store.held (g.H.Host.state c.args.host.now) (g.H.Host.state c.serve_line.new.host) = c.in_ok-served.ensures.serves w told at
@@ -215,7 +223,7 @@ returns-clause-replied g c =
 pub returns-clause-serves : goal.returns-clause-serves
 returns-clause-serves g c = λ w told at.
     let s = session_of (g.T.Stage.staged c.args.stage.now).files c.args.user.now
-    in let t = session_of (g.T.Stage.staged c.serve_line.new.stage).files c.args.user.now
+    in let t = session_of (g.T.Stage.staged c.serve_line.new.stage).files c.serve_line.new.user
     in let some : is_comment_of c.in_ok-served.served ≡ false = sym c.is_comment.ensures ∙ c.if-is_comment.false
     in let line : Serves served_forms 0 w s t c.args.line.now true (is_refusal_of c.in_ok-served.served) c.args.store.now.held c.serve_line.new.store.held (g.H.Host.state c.args.host.now) (g.H.Host.state c.serve_line.new.host) = c.in_ok-served.ensures.serves w told at
     in serves_steps c.args.steps w s t c.args.line.now (some_line c.args.user.now c.args.line.now (sym c.in_ok-served.ensures.comment ∙ some)) (is_refusal_of c.in_ok-served.served) c.args.store.now.held c.serve_line.new.store.held c.take_steps.new.store.held (g.H.Host.state c.args.host.now) (g.H.Host.state c.serve_line.new.host) (g.H.Host.state c.take_steps.new.host) line true

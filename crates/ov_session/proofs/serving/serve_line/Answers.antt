@@ -1,4 +1,4 @@
-use Rattle.std.proofs.Common.{◌≡◌, ◌∙◌, false, sym, ap, arith, refl, subst, rules}
+use Rattle.std.proofs.Common.{◌≡◌, ◌∙◌, false, sym, ap, arith, refl, subst, rules, inl}
 use Rattle.std.specs.Prelude.{Err, IsErrOf, Ok, Option, Result, is_ok}
 use Rattle.ov_cmd.specs.Asked.{AsksBuilt}
 use Rattle.ov_cmd.specs.Said.{said}
@@ -25,13 +25,16 @@ use Rattle.ov_session.proofs.Meeting.{comment_asks, refused_asks}
 use Rattle.ov_model.specs.declared.command.Command.{Command}
 use Rattle.std.specs.Prelude.{IfErr}
 use Rattle.ov_session.specs.Commands.{IsDamageOf, IsDamaged}
+use Rattle.ov_session.proofs.Acting.{comment_user, refused_user, said_user}
+use Rattle.ov_session.proofs.Shaping.{user_shaped}
+use Rattle.ov_session.specs.Acting.{IsNextUser}
 use Rattle.ov_session.proofs.serving.serve_line.Goals as goal
 
-pub answer-requires-clause-asked : goal.answer-requires-clause-asked
-answer-requires-clause-asked g c = (subst AsksBuilt c.in-Ok-Some.field-0-is c.in-Ok-Some.ensures.asked).0
+pub act-requires-clause-asked : goal.act-requires-clause-asked
+act-requires-clause-asked g c = (subst AsksBuilt c.in-Ok-Some.field-0-is c.in-Ok-Some.ensures.asked).0
 
-pub answer-requires-clause-built : goal.answer-requires-clause-built
-answer-requires-clause-built g c = (subst AsksBuilt c.in-Ok-Some.field-0-is c.in-Ok-Some.ensures.asked).1
+pub act-requires-clause-built : goal.act-requires-clause-built
+act-requires-clause-built g c = (subst AsksBuilt c.in-Ok-Some.field-0-is c.in-Ok-Some.ensures.asked).1
 
 pub returns-in_err-reply-in-Ok-Some-clause-undamaged : goal.returns-in_err-reply-in-Ok-Some-clause-undamaged
 returns-in_err-reply-in-Ok-Some-clause-undamaged g c = λ w at.
@@ -41,24 +44,24 @@ returns-in_err-reply-in-Ok-Some-clause-undamaged g c = λ w at.
 pub returns-in_err-reply-in-Ok-Some-clause-damaged : goal.returns-in_err-reply-in-Ok-Some-clause-damaged
 returns-in_err-reply-in-Ok-Some-clause-damaged g c =
     let IsMet : ℕ → Type 0 = λ page. (command : Command) × (line_asked c.args.user.now c.args.line.now ≡ Asks command)
-    × IsDamaged c.args.user.now command (g.T.Stage.staged c.args.stage.now) c.args.store.now.held c.answer.new.store.held (g.H.Host.state c.answer.new.host) page
+    × IsDamaged c.args.user.now command (g.T.Stage.staged c.args.stage.now) c.args.store.now.held c.act.new.store.held (g.H.Host.state c.act.new.host) page
     in let fact : IsDamageOf IsMet c.in_err-reply-in-Ok-Some.field-0.0
     = damaged_shaped c.args.user.now c.in-Ok-Some.command (line_asked c.args.user.now c.args.line.now) (c.in-Ok-Some.ensures.ok ∙ ap (λ (o : Option Command). served_line (said o)) c.in-Ok-Some.field-0-is)
-    c.args.store.now c.answer.new.store (g.T.Stage.staged c.args.stage.now) (g.T.Stage.staged c.answer.new.stage) (g.H.Host.state c.args.host.now) (g.H.Host.state c.answer.new.host) c.in_err-reply-in-Ok-Some.field-0.0 c.in_err-reply-in-Ok-Some.ensures.other c.in_err-reply-in-Ok-Some.ensures.damaged
+    c.args.store.now c.act.new.store (g.T.Stage.staged c.args.stage.now) (g.T.Stage.staged c.act.new.stage) (g.H.Host.state c.args.host.now) (g.H.Host.state c.act.new.host) c.in_err-reply-in-Ok-Some.field-0.0 c.in_err-reply-in-Ok-Some.ensures.other c.in_err-reply-in-Ok-Some.ensures.damaged
     in let is : c.from_residual.result ≡ Err c.in_err-reply-in-Ok-Some.field-0.0 = search rules
     in subst (λ (r : Result Served EndErr). IfErr r (IsDamageOf IsMet)) (sym is) fact
 
 pub returns-in_err-reply-in-Ok-Some-clause-serves : goal.returns-in_err-reply-in-Ok-Some-clause-serves
 returns-in_err-reply-in-Ok-Some-clause-serves g c = λ w told at.
     let s = session_of (g.T.Stage.staged c.args.stage.now).files c.args.user.now
-    in let t = session_of (g.T.Stage.staged c.answer.new.stage).files c.args.user.now
-    in let fact : Serves served_forms 0 w s t c.args.line.now false false c.args.store.now.held c.answer.new.store.held (g.H.Host.state c.args.host.now) (g.H.Host.state c.answer.new.host)
+    in let t = session_of (g.T.Stage.staged c.act.new.stage).files c.act.new.user
+    in let fact : Serves served_forms 0 w s t c.args.line.now false false c.args.store.now.held c.act.new.store.held (g.H.Host.state c.args.host.now) (g.H.Host.state c.act.new.host)
     = broken_shaped c.args.user.now c.in-Ok-Some.command (line_asked c.args.user.now c.args.line.now) (c.in-Ok-Some.ensures.ok ∙ ap (λ (o : Option Command). served_line (said o)) c.in-Ok-Some.field-0-is)
-    c.args.store.now c.answer.new.store (g.T.Stage.staged c.args.stage.now) (g.T.Stage.staged c.answer.new.stage) (g.H.Host.state c.args.host.now) (g.H.Host.state c.answer.new.host) c.in_err-reply-in-Ok-Some.field-0.0 c.in_err-reply-in-Ok-Some.ensures.other
-    w c.args.line.now refl at (λ built. c.in_err-reply-in-Ok-Some.ensures.acts w built told at)
+    c.args.store.now c.act.new.store (g.T.Stage.staged c.args.stage.now) (g.T.Stage.staged c.act.new.stage) (g.H.Host.state c.args.host.now) (g.H.Host.state c.act.new.host) c.in_err-reply-in-Ok-Some.field-0.0 c.in_err-reply-in-Ok-Some.ensures.other
+    w c.args.line.now refl at c.act.new.user (λ built. c.in_err-reply-in-Ok-Some.ensures.acts w built told at)
     in let is : c.from_residual.result ≡ Err c.in_err-reply-in-Ok-Some.field-0.0 = search rules
-    in subst (λ (r : Result Served EndErr). Serves served_forms 0 w s t c.args.line.now (is_ok r) (is_refused r) c.args.store.now.held c.answer.new.store.held
-    (g.H.Host.state c.args.host.now) (g.H.Host.state c.answer.new.host)) (sym is) fact
+    in subst (λ (r : Result Served EndErr). Serves served_forms 0 w s t c.args.line.now (is_ok r) (is_refused r) c.args.store.now.held c.act.new.store.held
+    (g.H.Host.state c.args.host.now) (g.H.Host.state c.act.new.host)) (sym is) fact
 
 pub returns-in_err-refusal-in-Err-clause-serves : goal.returns-in_err-refusal-in-Err-clause-serves
 returns-in_err-refusal-in-Err-clause-serves g c = λ w told at.
@@ -84,10 +87,10 @@ returns-in_ok-reply-in-Ok-Some-clause-comment g c =
 pub returns-in_ok-reply-in-Ok-Some-clause-serves : goal.returns-in_ok-reply-in-Ok-Some-clause-serves
 returns-in_ok-reply-in-Ok-Some-clause-serves g c = λ w told at.
     served_shaped c.args.user.now c.in-Ok-Some.command (line_asked c.args.user.now c.args.line.now) (c.in-Ok-Some.ensures.ok ∙ ap (λ (o : Option Command). served_line (said o)) c.in-Ok-Some.field-0-is)
-    c.args.store.now c.answer.new.store (g.T.Stage.staged c.args.stage.now) (g.T.Stage.staged c.answer.new.stage) (g.H.Host.state c.args.host.now) (g.H.Host.state c.answer.new.host) c.in_ok-reply-in-Ok-Some.reply c.in_ok-reply-in-Ok-Some.ensures.other
+    c.args.store.now c.act.new.store (g.T.Stage.staged c.args.stage.now) (g.T.Stage.staged c.act.new.stage) (g.H.Host.state c.args.host.now) (g.H.Host.state c.act.new.host) c.in_ok-reply-in-Ok-Some.reply c.in_ok-reply-in-Ok-Some.ensures.other
     w c.args.line.now refl at (g.H.Host.state c.say.new.host) c.say.result
     (record { answer = c.say.ensures.served; why = c.say.ensures.host_alone; silent = c.say.ensures.unsaid; printed = c.say.ensures.said })
-    (λ built. c.in_ok-reply-in-Ok-Some.ensures.acts w built told at)
+    c.act.new.user (λ built. c.in_ok-reply-in-Ok-Some.ensures.acts w built told at)
 
 pub returns-in_ok-refusal-in-Err-clause-comment : goal.returns-in_ok-refusal-in-Err-clause-comment
 returns-in_ok-refusal-in-Err-clause-comment g c =
@@ -104,22 +107,22 @@ returns-in_ok-refusal-in-Err-clause-serves g c = λ w told at.
 
 pub returns-in_ok-reply-in-Ok-Some-clause-goes : goal.returns-in_ok-reply-in-Ok-Some-clause-goes
 returns-in_ok-reply-in-Ok-Some-clause-goes g c = record {
-  told = c.say.ensures.goes.told ∙ c.answer.ensures.goes.told;
-  kept = c.say.ensures.goes.kept ∙ c.answer.ensures.goes.kept;
-  faults = omega (arith, c.answer.ensures.goes.faults, c.say.ensures.goes.faults);
-  fetched = omega (arith, c.answer.ensures.goes.fetched, c.say.ensures.goes.fetched);
+  told = c.say.ensures.goes.told ∙ c.act.ensures.goes.told;
+  kept = c.say.ensures.goes.kept ∙ c.act.ensures.goes.kept;
+  faults = omega (arith, c.act.ensures.goes.faults, c.say.ensures.goes.faults);
+  fetched = omega (arith, c.act.ensures.goes.fetched, c.say.ensures.goes.fetched);
 }
 
 pub returns-in_err-reply-in-Ok-Some-clause-fetched : goal.returns-in_err-reply-in-Ok-Some-clause-fetched
 returns-in_err-reply-in-Ok-Some-clause-fetched g c =
     let same : c.from_residual.result ≡ Err c.in_err-reply-in-Ok-Some.field-0.0 = search rules
-    in let result : c.answer.result ≡ Err c.in_err-reply-in-Ok-Some.field-0.0 = search rules
-    in printed_line c.args.user.now (line_asked c.args.user.now c.args.line.now) c.args.store.now.held c.answer.new.store.held (IsErrOf c.answer.result ending.Host) _
-    (g.H.Host.state c.args.host.now) (g.H.Host.state c.answer.new.host) (g.H.Host.state c.answer.new.host)
-    (λ is. host_again c.answer.result c.from_residual.result c.in_err-reply-in-Ok-Some.field-0.0 result same is) refl
+    in let result : c.act.result ≡ Err c.in_err-reply-in-Ok-Some.field-0.0 = search rules
+    in printed_line c.args.user.now (line_asked c.args.user.now c.args.line.now) c.args.store.now.held c.act.new.store.held (IsErrOf c.act.result ending.Host) _
+    (g.H.Host.state c.args.host.now) (g.H.Host.state c.act.new.host) (g.H.Host.state c.act.new.host)
+    (λ is. host_again c.act.result c.from_residual.result c.in_err-reply-in-Ok-Some.field-0.0 result same is) refl
     (fetched_shaped c.args.user.now c.in-Ok-Some.command (line_asked c.args.user.now c.args.line.now) (c.in-Ok-Some.ensures.ok ∙ ap (λ (o : Option Command). served_line (said o)) c.in-Ok-Some.field-0-is)
-    c.args.store.now c.answer.new.store (g.T.Stage.staged c.args.stage.now) (g.T.Stage.staged c.answer.new.stage) (g.H.Host.state c.args.host.now) (g.H.Host.state c.answer.new.host) c.answer.result c.answer.ensures.other
-    (IsErrOf c.answer.result ending.Host) c.answer.ensures.fetched)
+    c.args.store.now c.act.new.store (g.T.Stage.staged c.args.stage.now) (g.T.Stage.staged c.act.new.stage) (g.H.Host.state c.args.host.now) (g.H.Host.state c.act.new.host) c.act.result c.act.ensures.other
+    (IsErrOf c.act.result ending.Host) c.act.ensures.fetched)
 
 pub returns-in_err-refusal-in-Err-clause-fetched : goal.returns-in_err-refusal-in-Err-clause-fetched
 returns-in_err-refusal-in-Err-clause-fetched g c = unread_line c.args.user.now (line_asked c.args.user.now c.args.line.now) c.args.store.now.held _ (g.H.Host.state c.args.host.now)
@@ -129,12 +132,12 @@ returns-in-Ok-None-clause-fetched g c = unread_line c.args.user.now (line_asked 
 
 pub returns-in_ok-reply-in-Ok-Some-clause-fetched : goal.returns-in_ok-reply-in-Ok-Some-clause-fetched
 returns-in_ok-reply-in-Ok-Some-clause-fetched g c =
-    let result : c.answer.result ≡ Ok c.in_ok-reply-in-Ok-Some.reply = search rules
-    in printed_line c.args.user.now (line_asked c.args.user.now c.args.line.now) c.args.store.now.held c.answer.new.store.held (IsErrOf c.answer.result ending.Host) _
-    (g.H.Host.state c.args.host.now) (g.H.Host.state c.answer.new.host) (g.H.Host.state c.say.new.host) (λ is. absurd (ok_no_host c.answer.result c.in_ok-reply-in-Ok-Some.reply result is)) c.say.ensures.fetched
+    let result : c.act.result ≡ Ok c.in_ok-reply-in-Ok-Some.reply = search rules
+    in printed_line c.args.user.now (line_asked c.args.user.now c.args.line.now) c.args.store.now.held c.act.new.store.held (IsErrOf c.act.result ending.Host) _
+    (g.H.Host.state c.args.host.now) (g.H.Host.state c.act.new.host) (g.H.Host.state c.say.new.host) (λ is. absurd (ok_no_host c.act.result c.in_ok-reply-in-Ok-Some.reply result is)) c.say.ensures.fetched
     (fetched_shaped c.args.user.now c.in-Ok-Some.command (line_asked c.args.user.now c.args.line.now) (c.in-Ok-Some.ensures.ok ∙ ap (λ (o : Option Command). served_line (said o)) c.in-Ok-Some.field-0-is)
-    c.args.store.now c.answer.new.store (g.T.Stage.staged c.args.stage.now) (g.T.Stage.staged c.answer.new.stage) (g.H.Host.state c.args.host.now) (g.H.Host.state c.answer.new.host) c.answer.result c.answer.ensures.other
-    (IsErrOf c.answer.result ending.Host) c.answer.ensures.fetched)
+    c.args.store.now c.act.new.store (g.T.Stage.staged c.args.stage.now) (g.T.Stage.staged c.act.new.stage) (g.H.Host.state c.args.host.now) (g.H.Host.state c.act.new.host) c.act.result c.act.ensures.other
+    (IsErrOf c.act.result ending.Host) c.act.ensures.fetched)
 
 pub returns-in_ok-refusal-in-Err-clause-fetched : goal.returns-in_ok-refusal-in-Err-clause-fetched
 returns-in_ok-refusal-in-Err-clause-fetched g c =
@@ -144,12 +147,12 @@ returns-in_ok-refusal-in-Err-clause-fetched g c =
 pub returns-in_err-reply-in-Ok-Some-clause-unread : goal.returns-in_err-reply-in-Ok-Some-clause-unread
 returns-in_err-reply-in-Ok-Some-clause-unread g c =
     unread_shaped c.args.user.now c.in-Ok-Some.command (line_asked c.args.user.now c.args.line.now) (c.in-Ok-Some.ensures.ok ∙ ap (λ (o : Option Command). served_line (said o)) c.in-Ok-Some.field-0-is)
-    c.args.store.now c.answer.new.store (g.T.Stage.staged c.args.stage.now) (g.T.Stage.staged c.answer.new.stage) (g.H.Host.state c.args.host.now) (g.H.Host.state c.answer.new.host) c.answer.result c.answer.ensures.other c.answer.ensures.unread
+    c.args.store.now c.act.new.store (g.T.Stage.staged c.args.stage.now) (g.T.Stage.staged c.act.new.stage) (g.H.Host.state c.args.host.now) (g.H.Host.state c.act.new.host) c.act.result c.act.ensures.other c.act.ensures.unread
 
 pub returns-in_ok-reply-in-Ok-Some-clause-unread : goal.returns-in_ok-reply-in-Ok-Some-clause-unread
 returns-in_ok-reply-in-Ok-Some-clause-unread g c = λ is.
     c.say.ensures.fetched ∙ unread_shaped c.args.user.now c.in-Ok-Some.command (line_asked c.args.user.now c.args.line.now) (c.in-Ok-Some.ensures.ok ∙ ap (λ (o : Option Command). served_line (said o)) c.in-Ok-Some.field-0-is)
-    c.args.store.now c.answer.new.store (g.T.Stage.staged c.args.stage.now) (g.T.Stage.staged c.answer.new.stage) (g.H.Host.state c.args.host.now) (g.H.Host.state c.answer.new.host) c.answer.result c.answer.ensures.other c.answer.ensures.unread is
+    c.args.store.now c.act.new.store (g.T.Stage.staged c.args.stage.now) (g.T.Stage.staged c.act.new.stage) (g.H.Host.state c.args.host.now) (g.H.Host.state c.act.new.host) c.act.result c.act.ensures.other c.act.ensures.unread is
 
 pub returns-in_ok-refusal-in-Err-clause-unread : goal.returns-in_ok-refusal-in-Err-clause-unread
 returns-in_ok-refusal-in-Err-clause-unread g c = λ is. c.say-in-Err.ensures.fetched
@@ -158,12 +161,12 @@ returns-in_ok-refusal-in-Err-clause-unread g c = λ is. c.say-in-Err.ensures.fet
 
 pub returns-in_err-reply-in-Ok-Some-clause-idle : goal.returns-in_err-reply-in-Ok-Some-clause-idle
 returns-in_err-reply-in-Ok-Some-clause-idle g c =
-    let fact : IsIdleOn (line_asked c.args.user.now c.args.line.now) c.in_err-reply-in-Ok-Some.field-0.0 c.args.store.now c.answer.new.store (g.T.Stage.staged c.args.stage.now) (g.T.Stage.staged c.answer.new.stage) (g.H.Host.state c.args.host.now) (g.H.Host.state c.answer.new.host)
+    let fact : IsIdleOn (line_asked c.args.user.now c.args.line.now) c.in_err-reply-in-Ok-Some.field-0.0 c.args.store.now c.act.new.store (g.T.Stage.staged c.args.stage.now) (g.T.Stage.staged c.act.new.stage) (g.H.Host.state c.args.host.now) (g.H.Host.state c.act.new.host)
     = idle_shaped c.args.user.now c.in-Ok-Some.command (line_asked c.args.user.now c.args.line.now) (c.in-Ok-Some.ensures.ok ∙ ap (λ (o : Option Command). served_line (said o)) c.in-Ok-Some.field-0-is)
-    c.args.store.now c.answer.new.store (g.T.Stage.staged c.args.stage.now) (g.T.Stage.staged c.answer.new.stage) (g.H.Host.state c.args.host.now) (g.H.Host.state c.answer.new.host) c.in_err-reply-in-Ok-Some.field-0.0 c.in_err-reply-in-Ok-Some.ensures.other
+    c.args.store.now c.act.new.store (g.T.Stage.staged c.args.stage.now) (g.T.Stage.staged c.act.new.stage) (g.H.Host.state c.args.host.now) (g.H.Host.state c.act.new.host) c.in_err-reply-in-Ok-Some.field-0.0 c.in_err-reply-in-Ok-Some.ensures.other
     c.in_err-reply-in-Ok-Some.ensures.idle
     in let is : c.from_residual.result ≡ Err c.in_err-reply-in-Ok-Some.field-0.0 = search rules
-    in subst (λ (r : Result Served EndErr). IfErr r (λ e. IsIdleOn (line_asked c.args.user.now c.args.line.now) e c.args.store.now c.answer.new.store (g.T.Stage.staged c.args.stage.now) (g.T.Stage.staged c.answer.new.stage) (g.H.Host.state c.args.host.now) (g.H.Host.state c.answer.new.host))) (sym is) fact
+    in subst (λ (r : Result Served EndErr). IfErr r (λ e. IsIdleOn (line_asked c.args.user.now c.args.line.now) e c.args.store.now c.act.new.store (g.T.Stage.staged c.args.stage.now) (g.T.Stage.staged c.act.new.stage) (g.H.Host.state c.args.host.now) (g.H.Host.state c.act.new.host))) (sym is) fact
 
 pub returns-in_err-refusal-in-Err-clause-idle : goal.returns-in_err-refusal-in-Err-clause-idle
 returns-in_err-refusal-in-Err-clause-idle g c =
@@ -173,7 +176,7 @@ returns-in_err-refusal-in-Err-clause-idle g c =
 
 pub returns-in_ok-reply-in-Ok-Some-clause-idle : goal.returns-in_ok-reply-in-Ok-Some-clause-idle
 returns-in_ok-reply-in-Ok-Some-clause-idle g c =
-    idle_unsaid_on c.args.store.now c.answer.new.store (g.T.Stage.staged c.args.stage.now) (g.T.Stage.staged c.answer.new.stage) (g.H.Host.state c.args.host.now) (g.H.Host.state c.say.new.host) (line_asked c.args.user.now c.args.line.now) c.say.result c.say.ensures.host_alone
+    idle_unsaid_on c.args.store.now c.act.new.store (g.T.Stage.staged c.args.stage.now) (g.T.Stage.staged c.act.new.stage) (g.H.Host.state c.args.host.now) (g.H.Host.state c.say.new.host) (line_asked c.args.user.now c.args.line.now) c.say.result c.say.ensures.host_alone
 
 pub returns-in_ok-refusal-in-Err-clause-idle : goal.returns-in_ok-refusal-in-Err-clause-idle
 returns-in_ok-refusal-in-Err-clause-idle g c =
@@ -184,7 +187,7 @@ returns-in-Ok-None-clause-at g c = λ w at. (w, at)
 
 pub returns-in_ok-reply-in-Ok-Some-clause-at : goal.returns-in_ok-reply-in-Ok-Some-clause-at
 returns-in_ok-reply-in-Ok-Some-clause-at g c = λ w at.
-    at_said c.answer.new.store.held (g.H.Host.state c.answer.new.host) (g.H.Host.state c.say.new.host) c.in_ok-reply-in-Ok-Some.reply c.say.result
+    at_said c.act.new.store.held (g.H.Host.state c.act.new.host) (g.H.Host.state c.say.new.host) c.in_ok-reply-in-Ok-Some.reply c.say.result
     (record { answer = c.say.ensures.served; why = c.say.ensures.host_alone; silent = c.say.ensures.unsaid; printed = c.say.ensures.said })
     (c.in_ok-reply-in-Ok-Some.ensures.at w at).at
 
@@ -200,9 +203,9 @@ returns-in-Ok-None-clause-replied g c = refl
 
 pub returns-in_ok-reply-in-Ok-Some-clause-replied : goal.returns-in_ok-reply-in-Ok-Some-clause-replied
 returns-in_ok-reply-in-Ok-Some-clause-replied g c =
-    is_replied (line_asked c.args.user.now c.args.line.now) c.in_ok-reply-in-Ok-Some.reply c.args.store.now.held (g.T.Stage.staged c.args.stage.now) (g.T.Stage.staged c.answer.new.stage) (g.H.Host.state c.args.host.now) (g.H.Host.state c.answer.new.host) (g.H.Host.state c.say.new.host)
+    is_replied (line_asked c.args.user.now c.args.line.now) c.in_ok-reply-in-Ok-Some.reply c.args.store.now.held (g.T.Stage.staged c.args.stage.now) (g.T.Stage.staged c.act.new.stage) (g.H.Host.state c.args.host.now) (g.H.Host.state c.act.new.host) (g.H.Host.state c.say.new.host)
     (reply_shaped c.args.user.now c.in-Ok-Some.command (line_asked c.args.user.now c.args.line.now) (c.in-Ok-Some.ensures.ok ∙ ap (λ (o : Option Command). served_line (said o)) c.in-Ok-Some.field-0-is)
-    c.args.store.now c.answer.new.store (g.T.Stage.staged c.args.stage.now) (g.T.Stage.staged c.answer.new.stage) (g.H.Host.state c.args.host.now) (g.H.Host.state c.answer.new.host) c.in_ok-reply-in-Ok-Some.reply c.in_ok-reply-in-Ok-Some.ensures.other) c.answer.ensures.goes.told
+    c.args.store.now c.act.new.store (g.T.Stage.staged c.args.stage.now) (g.T.Stage.staged c.act.new.stage) (g.H.Host.state c.args.host.now) (g.H.Host.state c.act.new.host) c.in_ok-reply-in-Ok-Some.reply c.in_ok-reply-in-Ok-Some.ensures.other) c.act.ensures.goes.told
     (λ some. (c.in_ok-reply-in-Ok-Some.ensures.at some.0 some.1).printed) c.in_ok-reply-in-Ok-Some.ensures.missed c.say.result
     (record { answer = c.say.ensures.served; why = c.say.ensures.host_alone; silent = c.say.ensures.unsaid; printed = c.say.ensures.said })
 
@@ -229,7 +232,7 @@ returns-in-Ok-None-clause-by_journal g c = λ by fine. by
 
 pub returns-in_ok-reply-in-Ok-Some-clause-by_journal : goal.returns-in_ok-reply-in-Ok-Some-clause-by_journal
 returns-in_ok-reply-in-Ok-Some-clause-by_journal g c = λ by fine.
-    journal_said c.answer.new.store.held (g.H.Host.state c.answer.new.host) (g.H.Host.state c.say.new.host) c.in_ok-reply-in-Ok-Some.reply c.say.result
+    journal_said c.act.new.store.held (g.H.Host.state c.act.new.host) (g.H.Host.state c.say.new.host) c.in_ok-reply-in-Ok-Some.reply c.say.result
     (record { answer = c.say.ensures.served; why = c.say.ensures.host_alone; silent = c.say.ensures.unsaid; printed = c.say.ensures.said }) fine
     (c.in_ok-reply-in-Ok-Some.ensures.by_journal by (λ e. cc))
 
@@ -246,7 +249,7 @@ returns-in-Ok-None-clause-whole g c = λ command page asked told. absurd (commen
 pub returns-in_ok-reply-in-Ok-Some-clause-whole : goal.returns-in_ok-reply-in-Ok-Some-clause-whole
 returns-in_ok-reply-in-Ok-Some-clause-whole g c = λ command page asked told.
     whole_shaped c.args.user.now c.in-Ok-Some.command (line_asked c.args.user.now c.args.line.now) (c.in-Ok-Some.ensures.ok ∙ ap (λ (o : Option Command). served_line (said o)) c.in-Ok-Some.field-0-is)
-    c.args.store.now c.answer.new.store (g.T.Stage.staged c.args.stage.now) (g.T.Stage.staged c.answer.new.stage) (g.H.Host.state c.args.host.now) (g.H.Host.state c.answer.new.host) c.in_ok-reply-in-Ok-Some.reply c.in_ok-reply-in-Ok-Some.ensures.other command page c.say.result asked
+    c.args.store.now c.act.new.store (g.T.Stage.staged c.args.stage.now) (g.T.Stage.staged c.act.new.stage) (g.H.Host.state c.args.host.now) (g.H.Host.state c.act.new.host) c.in_ok-reply-in-Ok-Some.reply c.in_ok-reply-in-Ok-Some.ensures.other command page c.say.result asked
     (c.in_ok-reply-in-Ok-Some.ensures.whole page told)
 
 pub returns-in_ok-refusal-in-Err-clause-whole : goal.returns-in_ok-refusal-in-Err-clause-whole
@@ -257,12 +260,12 @@ returns-in_ok-refusal-in-Err-clause-whole g c = λ command page asked told. absu
 pub returns-in_err-reply-in-Ok-Some-clause-still : goal.returns-in_err-reply-in-Ok-Some-clause-still
 returns-in_err-reply-in-Ok-Some-clause-still g c =
     still_shaped c.args.user.now c.in-Ok-Some.command (line_asked c.args.user.now c.args.line.now) (c.in-Ok-Some.ensures.ok ∙ ap (λ (o : Option Command). served_line (said o)) c.in-Ok-Some.field-0-is)
-    c.args.store.now c.answer.new.store (g.T.Stage.staged c.args.stage.now) (g.T.Stage.staged c.answer.new.stage) (g.H.Host.state c.args.host.now) (g.H.Host.state c.answer.new.host) c.answer.result c.answer.ensures.other c.answer.ensures.still
+    c.args.store.now c.act.new.store (g.T.Stage.staged c.args.stage.now) (g.T.Stage.staged c.act.new.stage) (g.H.Host.state c.args.host.now) (g.H.Host.state c.act.new.host) c.act.result c.act.ensures.other c.act.ensures.still
 
 pub returns-in_ok-reply-in-Ok-Some-clause-still : goal.returns-in_ok-reply-in-Ok-Some-clause-still
 returns-in_ok-reply-in-Ok-Some-clause-still g c =
     still_shaped c.args.user.now c.in-Ok-Some.command (line_asked c.args.user.now c.args.line.now) (c.in-Ok-Some.ensures.ok ∙ ap (λ (o : Option Command). served_line (said o)) c.in-Ok-Some.field-0-is)
-    c.args.store.now c.answer.new.store (g.T.Stage.staged c.args.stage.now) (g.T.Stage.staged c.answer.new.stage) (g.H.Host.state c.args.host.now) (g.H.Host.state c.answer.new.host) c.answer.result c.answer.ensures.other c.answer.ensures.still
+    c.args.store.now c.act.new.store (g.T.Stage.staged c.args.stage.now) (g.T.Stage.staged c.act.new.stage) (g.H.Host.state c.args.host.now) (g.H.Host.state c.act.new.host) c.act.result c.act.ensures.other c.act.ensures.still
 
 -- ---- no plan
 
@@ -270,5 +273,32 @@ pub returns-in_ok-reply-in-Ok-Some-clause-begins_none : goal.returns-in_ok-reply
 returns-in_ok-reply-in-Ok-Some-clause-begins_none g c = λ quiet none.
     on_any _ c.say.result
     (none_shaped c.args.user.now c.in-Ok-Some.command (line_asked c.args.user.now c.args.line.now) (c.in-Ok-Some.ensures.ok ∙ ap (λ (o : Option Command). served_line (said o)) c.in-Ok-Some.field-0-is)
-    c.args.store.now c.answer.new.store (g.T.Stage.staged c.args.stage.now) (g.T.Stage.staged c.answer.new.stage) (g.H.Host.state c.args.host.now) (g.H.Host.state c.answer.new.host) c.in_ok-reply-in-Ok-Some.reply c.in_ok-reply-in-Ok-Some.ensures.other
+    c.args.store.now c.act.new.store (g.T.Stage.staged c.args.stage.now) (g.T.Stage.staged c.act.new.stage) (g.H.Host.state c.args.host.now) (g.H.Host.state c.act.new.host) c.in_ok-reply-in-Ok-Some.reply c.in_ok-reply-in-Ok-Some.ensures.other
     c.in_ok-reply-in-Ok-Some.ensures.begins_none quiet none)
+
+-- ---- who acts behind it
+
+pub returns-in-Ok-None-clause-user : goal.returns-in-Ok-None-clause-user
+returns-in-Ok-None-clause-user g c = comment_user (line_asked c.args.user.now c.args.line.now) c.args.user.now
+
+pub returns-in_err-reply-in-Ok-Some-clause-user : goal.returns-in_err-reply-in-Ok-Some-clause-user
+returns-in_err-reply-in-Ok-Some-clause-user g c =
+    let is : c.from_residual.result ≡ Err c.in_err-reply-in-Ok-Some.field-0.0 = search rules
+    in subst (λ (r : Result Served EndErr). IsNextUser (line_asked c.args.user.now c.args.line.now) r c.args.user.now c.act.new.user) (sym is) (inl c.in_err-reply-in-Ok-Some.ensures.user)
+
+pub returns-in_err-refusal-in-Err-clause-user : goal.returns-in_err-refusal-in-Err-clause-user
+returns-in_err-refusal-in-Err-clause-user g c =
+    let is : c.from_residual-in_err-refusal-in-Err.result ≡ Err c.in_err-refusal-in-Err.field-0.0 = search rules
+    in subst (λ (r : Result Served EndErr). IsNextUser (line_asked c.args.user.now c.args.line.now) r c.args.user.now c.args.user.now) (sym is) (inl refl)
+
+pub returns-in_ok-reply-in-Ok-Some-clause-user : goal.returns-in_ok-reply-in-Ok-Some-clause-user
+returns-in_ok-reply-in-Ok-Some-clause-user g c =
+    let l = line_asked c.args.user.now c.args.line.now
+    in said_user l c.in-Ok-Some.command c.args.user.now c.act.new.user
+    (user_shaped c.args.user.now c.in-Ok-Some.command l (c.in-Ok-Some.ensures.ok ∙ ap (λ (o : Option Command). served_line (said o)) c.in-Ok-Some.field-0-is))
+    c.in_ok-reply-in-Ok-Some.reply c.in_ok-reply-in-Ok-Some.ensures.user c.say.result c.say.ensures.served
+
+pub returns-in_ok-refusal-in-Err-clause-user : goal.returns-in_ok-refusal-in-Err-clause-user
+returns-in_ok-refusal-in-Err-clause-user g c =
+    let is = c.in-Err.ensures.err c.in_ok-refusal-in-Err.ensures.some
+    in subst (λ (l : Line). IsNextUser l c.say-in-Err.result c.args.user.now c.args.user.now) (sym is) (refused_user (refusal_to c.in-Err.off) c.args.user.now c.say-in-Err.result)
