@@ -97,10 +97,13 @@ class Commands(Case):
         self.refused(73, store.create_user, "ann")
         self.refused(74, store.unstage, "admin.t")
         self.refused(71, store.unstage, "ann.t")
+        ann = orpheus.Store(store.folder, user="ann")
+        self.assertEqual((ann.whoami(), ann.tables()), ("ann", []))
+        self.refused(71, ann.create_user, "bob")
+        self.refused(72, orpheus.Store(store.folder, user="bob").ls)
 
     def test_what_the_program_has_not_yet_is_refused(self):
         store = self.people()
-        self.refused(51, orpheus.Store(store.folder, user="ann").ls)
         self.refused(53, store.stage, "people", 1, "t")
         self.refused(53, store.commit_staged, "ann.t")
         self.refused(53, store.commit, "people", [{"id": 1}], 1, add={"city": "text"})
