@@ -1,6 +1,6 @@
 -- Where what was read agrees, nothing of a commit's event is off.
 use Rattle.std.proofs.Common.{◌≡◌, ◌≤◌, ◌+◌, ◌^◌, ◌==◌, ◌&&◌, ℕ, suc, Bool, true, false, not, List, [], ◌∷◌, ◌++◌, length, map, refl, sym, ◌∙◌, ap, inl, inr, arith}
-use Rattle.std.specs.Prelude.{◌≢◌, Option, Some, None, nat_le, IsTrue}
+use Rattle.std.specs.Prelude.{◌≢◌, Option, Some, None, nat_le, IsTrue, is_ok}
 use Rattle.std.specs.List.{list_all, zip}
 use Rattle.std.specs.Option.{option_or}
 use Rattle.std.proofs.lemmas.Bool.{and_from, cases_Bool, eq-eqb, le-leb}
@@ -14,7 +14,9 @@ use Rattle.ov_place.specs.Placement.{placed}
 use Rattle.ov_place.specs.declared.place_facts.Place.{Place}
 use Rattle.ov_place.specs.declared.place_facts.Place.TheVariants.{Own, Join}
 use Rattle.ov_segment.specs.declared.numbered.Record.{Record}
+use Rattle.ov_value.specs.Making.{widened}
 use Rattle.ov_value.specs.Shapes.{Shape}
+use Rattle.ov_value.specs.declared.column.Column.{Column}
 use Rattle.ov_model.specs.Assigned.{assigned, fresh_rows}
 use Rattle.ov_model.specs.Book.{Row}
 use Rattle.ov_model.specs.Lists.{IsIn, joined}
@@ -24,12 +26,13 @@ use Rattle.ov_model.proofs.Counting.{filter_times, gone_times, times-append, not
 use Rattle.ov_records.specs.Records.{pairs_of, lists_of, shared}
 use Rattle.ov_catalog.specs.declared.field.Field.{Field}
 use Rattle.ov_catalog.specs.declared.field.Field.TheVariants as off
-use Rattle.ov_catalog.specs.Applying.{off_unless, rows_at, are_distinct, is_parent, are_parents, part_numbered, records_in, facts_of, is_place, is_count, is_list, is_segment, commit_off, of_live, set_numbered, first_off}
+use Rattle.ov_catalog.specs.Applying.{format_off, off_unless, rows_at, wide_off, are_distinct, is_parent, are_parents, part_numbered, records_in, facts_of, is_place, is_count, is_list, is_segment, commit_off, of_live, set_numbered, first_off}
 use Rattle.ov_catalog.specs.Numbers.{SetNumbers, Numbers}
-use Rattle.ov_catalog.specs.Raw.{place_in}
+use Rattle.ov_catalog.specs.Raw.{adding, place_in}
 use Rattle.ov_catalog.proofs.Members.{of_append}
+use Rattle.ov_catalog.proofs.Serving.{commit_widens}
 use Rattle.law_commits.specs.Agreeing.{AreRids, EachAgrees, ParentsAgree, HeldAgrees}
-use Rattle.law_commits.specs.Committing.{MayCommit, JoinedAgrees, rids_for, edges_for, place_for, lacking_of, added_for}
+use Rattle.law_commits.specs.Committing.{MayAdd, MayCommit, JoinedAgrees, rids_for, edges_for, place_for, lacking_of, added_for}
 use Rattle.law_commits.proofs.Times.{pairs_rid, in_times, times_in, few_numbers, all_distinct}
 use Rattle.law_commits.proofs.Rids.{of_assigned, found_by, once, length-assigned, fresh_few, fresh_lacking}
 use Rattle.law_commits.proofs.Weights.{shared_own, shared_other}
@@ -210,13 +213,24 @@ module _ (d : SetNumbers Extent Extent) (schema : Shape) (vids message : List �
       (off_last (is_list (length rows) list && is_segment added segment) off.Place
       (and_from (is_list (length rows) list) (is_segment added segment) at_list at_segment)))))))
 
-pub event_applies : (n : Numbers Extent Extent) (cvd : ℕ) (d : SetNumbers Extent Extent) (schema : Shape) (vids message : List ℕ) (rows : List Row) (parents : List (List Record)) (held : List ℕ)
-    (place : Placed) (list segment : Extent) → set_numbered cvd n ≡ Some d → MayCommit d schema vids message rows parents → ParentsAgree d vids parents
+pub event_applies : (format : ℕ) (columns : List Column) (n : Numbers Extent Extent) (cvd : ℕ) (d : SetNumbers Extent Extent) (schema : Shape) (vids message : List ℕ) (rows : List Row)
+    (parents : List (List Record)) (held : List ℕ) (place : Placed) (list segment : Extent) → set_numbered cvd n ≡ Some d → MayAdd format columns d
+    → MayCommit d schema vids message rows parents → ParentsAgree d vids parents
     → place_in place ≡ place_for d vids rows parents → JoinedAgrees d (place_in place) held → IsTrue (is_list (length rows) list)
     → IsTrue (is_segment (added_for (place_in place) rows (rids_for d rows parents) held) segment)
-    → first_off (says.Commit cvd (length d.versions + 1) message (edges_for d vids rows parents) (length rows) (fresh_rows rows (lists_of parents)) place
-    (added_for (place_in place) rows (rids_for d rows parents) held) list segment) n ≡ None
-event_applies n cvd d schema vids message rows parents held place list segment found may agree is_place_for are at_list at_segment =
+    → first_off format (adding columns (says.Commit cvd (length d.versions + 1) message (edges_for d vids rows parents) (length rows) (fresh_rows rows (lists_of parents)) place
+    (added_for (place_in place) rows (rids_for d rows parents) held) list segment)) n ≡ None
+event_applies format [] n cvd d schema vids message rows parents held place list segment found may_add may agree is_place_for are at_list at_segment =
     ap (of_live (commit_off (length d.versions + 1) message (edges_for d vids rows parents) (length rows) (fresh_rows rows (lists_of parents)) (place_in place)
     (added_for (place_in place) rows (rids_for d rows parents) held) list segment)) found
     ∙ nothing_off d schema vids message rows parents may agree held (place_in place) list segment is_place_for are at_list at_segment
+event_applies format (column ∷ columns) n cvd d schema vids message rows parents held place list segment found may_add may agree is_place_for are at_list at_segment =
+    let edges = edges_for d vids rows parents
+    in let fresh = fresh_rows rows (lists_of parents)
+    in let more = added_for (place_in place) rows (rids_for d rows parents) held
+    in let test = wide_off (length d.versions + 1) message (column ∷ columns) edges (length rows) fresh (place_in place) more list segment
+    in ap (λ o. option_or o (of_live test (set_numbered cvd n))) (ap format_off may_add.0)
+    ∙ ap (of_live test) found
+    ∙ commit_widens (length d.versions + 1) message (column ∷ columns) edges (length rows) fresh (place_in place) more list segment d
+    (nothing_off d schema vids message rows parents may agree held (place_in place) list segment is_place_for are at_list at_segment)
+    (off_last (is_ok (widened d.schema (column ∷ columns))) off.Schema may_add.1)

@@ -6,3 +6,4 @@ pub mod Same
 pub mod Listed
 pub mod Room
 pub mod Kept
+pub mod Longer

@@ -1,18 +1,21 @@
 -- The event that a commit writes, from what was read of its parents and of the partition that it joins.
 --     MayCommit d schema vids message rows parents      what a commit asks, beside that what was read agrees
+--     MayAdd format columns d      in a store of this format the dataset takes these columns
 --     rids_for d rows parents      the rids of its rows
 --     edges_for d vids rows parents      its parents with the weights of their edges
 --     place_for d vids rows parents      where it goes
 --     added_for place rows rids held      how many records its partition takes
-use Rattle.std.specs.Prelude.{◌+◌, ◌≤◌, ◌<◌, ◌^◌, ℕ, not, List, length, map, filter}
+use Rattle.std.specs.Prelude.{◌≡◌, ◌+◌, ◌≤◌, ◌<◌, ◌^◌, ℕ, not, List, [], ◌∷◌, length, map, filter, IsTrue, is_ok}
 use Rattle.std.specs.List.{zip}
 use Rattle.ov_graph.specs.Versions.{heaviest}
 use Rattle.ov_place.specs.Placement.{placed}
 use Rattle.ov_place.specs.declared.place_facts.Place.{Place}
 use Rattle.ov_place.specs.declared.place_facts.Place.TheVariants.{Own, Join}
 use Rattle.ov_segment.specs.declared.numbered.Record.{Record}
+use Rattle.ov_value.specs.Making.{widened}
 use Rattle.ov_value.specs.Rows.{key_cmp}
 use Rattle.ov_value.specs.Shapes.{Shape}
+use Rattle.ov_value.specs.declared.column.Column.{Column}
 use Rattle.ov_model.specs.Assigned.{assigned, fresh_rows}
 use Rattle.ov_model.specs.Book.{Row}
 use Rattle.ov_model.specs.Lists.{Rises}
@@ -32,6 +35,11 @@ pub record MayCommit {L S : Type 0} (d : SetNumbers L S) (schema : Shape) (vids 
   pub rise : Rises (key_cmp schema) rows
   pub few : length rows ≤ 1000000
   pub room : d.records + fresh_rows rows (lists_of parents) ≤ 2 ^ 31
+
+-- only a store of format 2 takes columns, and none is no change
+abbrev pub MayAdd : {L S : Type 0} → ℕ → List Column → SetNumbers L S → Type 0
+MayAdd format [] d = Unit {0}
+MayAdd format (column ∷ added) d = (format ≡ 2) × IsTrue (is_ok (widened d.schema (column ∷ added)))
 
 abbrev pub rids_for : {L S : Type 0} → SetNumbers L S → List Row → List (List Record) → List ℕ
 rids_for d rows parents = assigned rows (lists_of parents) (d.records + 1)

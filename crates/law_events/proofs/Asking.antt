@@ -13,10 +13,11 @@ use Rattle.ov_place.specs.declared.place_facts.Place.{Place}
 use Rattle.ov_value.specs.Naming.{is_name}
 use Rattle.ov_catalog.specs.declared.field.Field.{Field}
 use Rattle.ov_catalog.specs.declared.field.Field.TheVariants as off
-use Rattle.ov_catalog.specs.Applying.{off_unless, is_named, is_schema, is_extent, is_list, is_segment, init_off, are_parents, facts_of, is_place, is_count, commit_off, of_live, set_numbered, first_off}
+use Rattle.ov_catalog.specs.Applying.{off_unless, is_named, is_schema, is_extent, is_list, is_segment, init_off, are_parents, facts_of, is_place, is_count, commit_off, of_live, set_numbered, first_off, wide_off}
 use Rattle.ov_catalog.specs.Numbers.{PlanNumbers, SetNumbers, Numbers}
 use Rattle.ov_catalog.specs.Planning.{missing, of_running, copy_off}
 use Rattle.ov_catalog.specs.Raw.{place_in}
+use Rattle.ov_catalog.proofs.Serving.{behind_format, wide_commits}
 use Rattle.law_events.specs.Fitting.{IsSoundEvent}
 
 rest_none : (b : Bool) (f : Field) (rest : Option Field) → option_or (off_unless b f) rest ≡ None → rest ≡ None
@@ -67,18 +68,22 @@ copy_extent count segment plan e =
     (last_holds (not (segment.bytes == 0) && is_extent segment) off.Place
     (rest_none (nat_le 1 count && count == min 256 (missing plan)) off.Count _ e))
 
-pub applies_sound : (e : raw.Event) (n : Numbers Extent Extent) → first_off e n ≡ None → IsSoundEvent e
-applies_sound (says.Init name s rows list segment) n e = init_extents n name s rows list segment e
-applies_sound (says.Commit cvd vid message parents rows fresh place added list segment) n e =
+pub applies_sound : (format : ℕ) (e : raw.Event) (n : Numbers Extent Extent) → first_off format e n ≡ None → IsSoundEvent e
+applies_sound format (says.Init name s rows list segment) n e = init_extents n name s rows list segment e
+applies_sound format (says.Commit cvd vid message parents rows fresh place added list segment) n e =
     let live = some_live (commit_off vid message parents rows fresh (place_in place) added list segment) (set_numbered cvd n) e
     in commit_extents vid message parents rows fresh (place_in place) added list segment live.0 live.1
-applies_sound (says.Plan cvd p q targets) n e = tt
-applies_sound (says.Copy cvd count segment) n e =
+applies_sound format (says.Plan cvd p q targets) n e = tt
+applies_sound format (says.Copy cvd count segment) n e =
     let live = some_live (λ d. of_running (copy_off count segment) d.plan) (set_numbered cvd n) e
     in let runs = some_running (copy_off count segment) live.0.plan live.1
     in copy_extent count segment runs.0 runs.1
-applies_sound (says.Flip cvd) n e = tt
-applies_sound (says.Drop cvd) n e = tt
-applies_sound (says.Base next) n e = absurd cc
-applies_sound (says.Whole said) n e = absurd cc
-applies_sound (says.Wide cvd vid message columns parents rows fresh place added list segment) n e = absurd cc
+applies_sound format (says.Flip cvd) n e = tt
+applies_sound format (says.Drop cvd) n e = tt
+applies_sound format (says.Base next) n e = absurd cc
+applies_sound format (says.Whole said) n e = absurd cc
+applies_sound format (says.Wide cvd vid message columns parents rows fresh place added list segment) n e =
+    let test = wide_off vid message columns parents rows fresh (place_in place) added list segment
+    in let live = some_live test (set_numbered cvd n) (behind_format format (of_live test (set_numbered cvd n)) e)
+    in commit_extents vid message parents rows fresh (place_in place) added list segment live.0
+    (wide_commits vid message columns parents rows fresh (place_in place) added list segment live.0 live.1)

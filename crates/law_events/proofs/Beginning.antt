@@ -38,9 +38,9 @@ off_last true f holds = refl
 off_last false f holds = cc
 
 -- it applies to the numbers after the events where it does to those of the World
-pub applies_there : (events : List raw.Event) (r : Readings) (w : World) (e : raw.Event) → StandsFor events r w → first_off e (shown w) ≡ None → first_off e (numbers_in events) ≡ None
+pub applies_there : (events : List raw.Event) (r : Readings) (w : World) (e : raw.Event) → StandsFor w.format events r w → first_off w.format e (shown w) ≡ None → first_off w.format e (numbers_in events) ≡ None
 applies_there events r w e stands is =
-    sym (first_off_each r.list r.segment e (numbers_in events)) ∙ ap (first_off e) stands.shows ∙ first_off_each Some Some e (shown w) ∙ is
+    sym (first_off_each r.list r.segment w.format e (numbers_in events)) ∙ ap (first_off w.format e) stands.shows ∙ first_off_each Some Some w.format e (shown w) ∙ is
 
 -- the dataset of a number, in the World and in numbers
 pub live_shown : (test : SetNumbers Rids Records → Option Field) (cvd : ℕ) (sets : List Dataset) (d : Dataset) → first_set (numbered cvd) sets ≡ Some d → test (shown_set d) ≡ None
@@ -94,7 +94,7 @@ rows_in (events.Init name schema rows list segments) = rows
 rows_in _ = 0
 
 init_shown : (r : Readings) (w : World) (e : raw.Event) (name : List ℕ) (schema : Shape) (rows : List Row) → InitFits w name schema rows → IsSoundEvent e
-    → seen_event r e ≡ asked_as (init_event name (version_of [] (codes "init") rows) schema) → first_off e (shown w) ≡ None
+    → seen_event r e ≡ asked_as (init_event name (version_of [] (codes "init") rows) schema) → first_off w.format e (shown w) ≡ None
 init_shown r w (says.Init given s count list segment) name schema rows fits sound spells =
     let same_name : given ≡ name = ap name_in spells
     in let same_schema : shape_in s ≡ schema = ap (schema_in schema) spells
@@ -111,8 +111,8 @@ init_shown r w (says.Whole whole) name schema rows fits sound spells = cc
 init_shown r w (says.Wide cvd vid message columns parents count fresh place added list segment) name schema rows fits sound spells = cc
 
 pub init_applies : (events : List raw.Event) (r : Readings) (w : World) (e : raw.Event) (name : List ℕ) (schema : Shape) (rows : List Row)
-    → StandsFor events r w → Fits (Init name schema rows) w → IsSoundEvent e → Some (seen_event r e) ≡ asked_event (Init name schema rows) w
-    → first_off e (numbers_in events) ≡ None
+    → StandsFor w.format events r w → Fits (Init name schema rows) w → IsSoundEvent e → Some (seen_event r e) ≡ asked_event (Init name schema rows) w
+    → first_off w.format e (numbers_in events) ≡ None
 init_applies events r w e name schema rows stands fits sound spells = applies_there events r w e stands (init_shown r w e name schema rows fits sound (some_same (seen_event r e) (asked_as (init_event name (version_of [] (codes "init") rows) schema)) spells))
 
 -- ---- Drop
@@ -126,7 +126,7 @@ found_live : (cvd : ℕ) (sets : List Dataset) (found : Option Dataset) → firs
 found_live cvd sets None e fits = absurd fits
 found_live cvd sets (Some d) e fits = live_shown (λ d. None) cvd sets d e refl
 
-drop_shown : (r : Readings) (w : World) (e : raw.Event) (cvd : ℕ) → Fits (Drop cvd) w → seen_event r e ≡ asked_as (Dropped cvd) → first_off e (shown w) ≡ None
+drop_shown : (r : Readings) (w : World) (e : raw.Event) (cvd : ℕ) → Fits (Drop cvd) w → seen_event r e ≡ asked_as (Dropped cvd) → first_off w.format e (shown w) ≡ None
 drop_shown r w (says.Init given s count list segment) cvd fits spells = cc
 drop_shown r w (says.Commit number vid message parents count fresh place added list segment) cvd fits spells = cc
 drop_shown r w (says.Plan number p q targets) cvd fits spells = cc
@@ -140,6 +140,6 @@ drop_shown r w (says.Whole whole) cvd fits spells = cc
 drop_shown r w (says.Wide number vid message columns parents count fresh place added list segment) cvd fits spells = cc
 
 pub drop_applies : (events : List raw.Event) (r : Readings) (w : World) (e : raw.Event) (cvd : ℕ)
-    → StandsFor events r w → Fits (Drop cvd) w → Some (seen_event r e) ≡ asked_event (Drop cvd) w
-    → first_off e (numbers_in events) ≡ None
+    → StandsFor w.format events r w → Fits (Drop cvd) w → Some (seen_event r e) ≡ asked_event (Drop cvd) w
+    → first_off w.format e (numbers_in events) ≡ None
 drop_applies events r w e cvd stands fits spells = applies_there events r w e stands (drop_shown r w e cvd fits (some_same (seen_event r e) (asked_as (Dropped cvd)) spells))

@@ -243,7 +243,7 @@ added_in (events.Commit cvd vid message parents rows fresh place added list segm
 added_in _ = 0
 
 commit_spelled : (r : Readings) (w : World) (e : raw.Event) (cvd : ℕ) (v : Version) (d : Dataset) → first_set (numbered cvd) w.sets ≡ Some d → CommitFits w d v → IsKnown d → HasPieces d
-    → IsSoundEvent e → seen_event r e ≡ asked_as (commit_event cvd d v) → first_off e (shown w) ≡ None
+    → IsSoundEvent e → seen_event r e ≡ asked_as (commit_event cvd d v) → first_off w.format e (shown w) ≡ None
 commit_spelled r w (says.Init name schema count list segment) cvd v d found fits known has sound spells = cc
 commit_spelled r w (says.Commit number vid message parents rows fresh place added list segment) cvd v d found fits known has sound spells =
     (λ i. of_live (commit_off (ap vid_in spells i) (ap message_in spells i) (ap parents_in spells i) (ap rows_in spells i) (ap fresh_of spells i) (ap at_place spells i) (ap added_in spells i) list segment)
@@ -261,39 +261,15 @@ commit_spelled r w (says.Whole whole) cvd v d found fits known has sound spells 
 commit_spelled r w (says.Wide number vid message columns parents rows fresh place added list segment) cvd v d found fits known has sound spells = cc
 
 commit_found : (r : Readings) (w : World) (e : raw.Event) (cvd : ℕ) (v : Version) (found : Option Dataset) → first_set (numbered cvd) w.sets ≡ found → IfThere (λ d. CommitFits w d v) found
-    → IsGood w → IsSoundEvent e → Some (seen_event r e) ≡ option_map asked_as (commit_in cvd v found) → first_off e (shown w) ≡ None
+    → IsGood w → IsSoundEvent e → Some (seen_event r e) ≡ option_map asked_as (commit_in cvd v found) → first_off w.format e (shown w) ≡ None
 commit_found r w e cvd v None found fits is sound spells = absurd fits
 commit_found r w e cvd v (Some d) found fits is sound spells =
     commit_spelled r w e cvd v d found fits (found_known cvd d w.sets is.known found) (found_pieces cvd d w.sets is.sound.pieces found) sound
     (some_same (seen_event r e) (asked_as (commit_event cvd d v)) spells)
 
 pub commit_applies : (events : List raw.Event) (r : Readings) (w : World) (e : raw.Event) (cvd : ℕ) (parents message : List ℕ) (rows : List Row)
-    → StandsFor events r w → Fits (Commit cvd parents message [] rows) w → IsSoundEvent e → Some (seen_event r e) ≡ asked_event (Commit cvd parents message [] rows) w
-    → first_off e (numbers_in events) ≡ None
+    → StandsFor w.format events r w → Fits (Commit cvd parents message [] rows) w → IsSoundEvent e → Some (seen_event r e) ≡ asked_event (Commit cvd parents message [] rows) w
+    → first_off w.format e (numbers_in events) ≡ None
 commit_applies events r w e cvd parents message rows stands fits sound spells =
     applies_there events r w e stands
     (commit_found r w e cvd (version_of parents message rows) (first_set (numbered cvd) w.sets) refl fits (good w stands.reached) sound spells)
-
--- ---- any move
-
-pub move_applies : (events : List raw.Event) (r : Readings) (w : World) (e : raw.Event) (m : Move) → StandsFor events r w → Fits m w → IsSoundEvent e → Some (seen_event r e) ≡ asked_event m w
-    → first_off e (numbers_in events) ≡ None
-move_applies events r w e (Init name schema rows) stands fits sound spells = init_applies events r w e name schema rows stands fits sound spells
-move_applies events r w e (Commit cvd parents message [] rows) stands fits sound spells = commit_applies events r w e cvd parents message rows stands fits sound spells
-move_applies events r w e (Commit cvd parents message (column ∷ added) rows) stands fits sound spells = absurd fits
-move_applies events r w e (BeginPlan cvd p q) stands fits sound spells = plan_applies events r w e cvd p q stands fits spells
-move_applies events r w e (Copy cvd) stands fits sound spells = copy_applies events r w e cvd stands fits sound spells
-move_applies events r w e (Flip cvd) stands fits sound spells = flip_applies events r w e cvd stands fits spells
-move_applies events r w e (Drop cvd) stands fits sound spells = drop_applies events r w e cvd stands fits spells
-move_applies events r w e Checkpoint stands fits sound spells = absurd cc
-
-pub is_move : (events : List raw.Event) (r : Readings) (w : World) (e : raw.Event) (m : Move) → StandsFor events r w → Fits m w → IsSoundEvent e → Some (seen_event r e) ≡ asked_event m w
-    → ((page : ℕ) → covers (brought (event_in e)) page + covers (live (numbers_in events)) page ≤ 1) → ((page : ℕ) → 1 ≤ covers (brought (event_in e)) page → page < r.pages)
-    → IsMove e m w (numbers_in events) r
-is_move events r w e m stands fits sound spells apart inside = record {
-  fits = fits;
-  applies = move_applies events r w e m stands fits sound spells;
-  spells = spells;
-  apart = apart;
-  inside = inside;
-}

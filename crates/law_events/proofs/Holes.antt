@@ -18,13 +18,14 @@ use Rattle.ov_place.specs.Placement.{placed}
 use Rattle.ov_place.specs.declared.place_facts.Place.{Place}
 use Rattle.ov_place.specs.declared.place_facts.Place.TheVariants.{Own, Join}
 use Rattle.ov_value.specs.Naming.{is_name}
+use Rattle.ov_value.specs.declared.column.Column.{Column}
 use Rattle.ov_catalog.specs.declared.field.Field.{Field}
 use Rattle.ov_catalog.specs.declared.field.Field.TheVariants as off
 use Rattle.ov_catalog.specs.Numbers.{VersionNumbers, PartNumbers, TargetNumbers, PlanNumbers, SetNumbers, Numbers, each_version, each_part, each_plan, each_set, each}
 use Rattle.ov_catalog.specs.Events.{numbered, graph_of, parts_at, targets_of}
 use Rattle.ov_catalog.specs.Planning.{is_threshold, ascend_from, are_below, empties, is_kept, is_source, are_targets, plan_off, of_running, copy_off, flip_off}
 use Rattle.ov_catalog.specs.Raw.{place_in}
-use Rattle.ov_catalog.specs.Applying.{off_unless, is_named, is_schema, is_same, is_list, is_segment, init_off, rows_at, are_distinct, is_parent, are_parents, part_serving, part_numbered, id_in, records_in, is_unmoved, copied_in, facts_of, is_place, is_count, commit_off, of_live, first_off}
+use Rattle.ov_catalog.specs.Applying.{off_unless, is_named, is_schema, is_same, is_list, is_segment, init_off, rows_at, are_distinct, is_parent, are_parents, part_serving, part_numbered, id_in, records_in, is_unmoved, copied_in, facts_of, is_place, is_count, columns_off, commit_off, format_off, of_live, first_off, wide_off}
 
 module _ {L M S T : Type 0} (f : L → M) (g : S → T) where
   named_each : (name : List ℕ) (sets : List (SetNumbers L S)) → list_any (is_named name) (map (each_set f g) sets) ≡ list_any (is_named name) sets
@@ -104,6 +105,18 @@ module _ {L M S T : Type 0} (f : L → M) (g : S → T) where
       (option_or (off_unless (count_each d rows fresh added place i) off.Count)
       (off_unless (is_list rows list && is_segment added segment) off.Place))))))
 
+  wide_each : (vid : ℕ) (message : List ℕ) (columns : List Column) (parents : List (ℕ × ℕ)) (rows fresh : ℕ) (place : Place) (added : ℕ) (list segment : Extent) (d : SetNumbers L S)
+      → wide_off vid message columns parents rows fresh place added list segment (each_set f g d) ≡ wide_off vid message columns parents rows fresh place added list segment d
+  wide_each vid message columns parents rows fresh place added list segment d = λ i.
+      option_or (off_unless (vid == length-map d.versions (each_version f) i + 1 && nat_le vid 65535) off.Vid)
+      (option_or (off_unless (nat_le (length message) 1024) off.Message)
+      (option_or (columns_off columns d)
+      (option_or (off_unless (parents_each d.versions rows parents i) off.Parent)
+      (option_or (off_unless (nat_le rows 1000000 && (nat_le fresh rows && (nat_le rows (d.records + fresh) && nat_le (d.records + fresh) (2 ^ 31)))) off.Rows)
+      (option_or (off_unless (is_place place (placed (facts_each d (heaviest parents) i))) off.Placing)
+      (option_or (off_unless (count_each d rows fresh added place i) off.Count)
+      (off_unless (is_list rows list && is_segment added segment) off.Place)))))))
+
   init_each : (name : List ℕ) (schema : RawSchema) (rows : ℕ) (list segment : Extent) (n : Numbers L S) → init_off name schema rows list segment (each f g n) ≡ init_off name schema rows list segment n
   init_each name schema rows list segment n = λ i.
       option_or (off_unless (nat_lt n.next 4294967295) off.Number)
@@ -172,14 +185,19 @@ module _ {L M S T : Type 0} (f : L → M) (g : S → T) where
         | inr e ↦ rw e (live_each test same is cvd sets)
       ]
 
-  pub first_off_each : (e : raw.Event) (n : Numbers L S) → first_off e (each f g n) ≡ first_off e n
-  first_off_each (says.Init name schema rows list segment) n = init_each name schema rows list segment n
-  first_off_each (says.Commit cvd vid message parents rows fresh place added list segment) n =
+  pub first_off_each : (format : ℕ) (e : raw.Event) (n : Numbers L S) → first_off format e (each f g n) ≡ first_off format e n
+  first_off_each format (says.Init name schema rows list segment) n = init_each name schema rows list segment n
+  first_off_each format (says.Commit cvd vid message parents rows fresh place added list segment) n =
       live_each (commit_off vid message parents rows fresh (place_in place) added list segment) (commit_off vid message parents rows fresh (place_in place) added list segment)
       (commit_each vid message parents rows fresh (place_in place) added list segment) cvd n.sets
-  first_off_each (says.Plan cvd p q targets) n = live_each (plan_off p q targets) (plan_off p q targets) (plan_each p q targets) cvd n.sets
-  first_off_each (says.Copy cvd count segment) n =
+  first_off_each format (says.Plan cvd p q targets) n = live_each (plan_off p q targets) (plan_off p q targets) (plan_each p q targets) cvd n.sets
+  first_off_each format (says.Copy cvd count segment) n =
       live_each (λ d. of_running (copy_off count segment) d.plan) (λ d. of_running (copy_off count segment) d.plan) (λ d. copy_each count segment d.plan) cvd n.sets
-  first_off_each (says.Flip cvd) n = live_each (λ d. of_running flip_off d.plan) (λ d. of_running flip_off d.plan) (λ d. flip_each d.plan) cvd n.sets
-  first_off_each (says.Drop cvd) n = live_each (λ d. None) (λ d. None) (λ d. refl) cvd n.sets
-  first_off_each _ n = refl
+  first_off_each format (says.Flip cvd) n = live_each (λ d. of_running flip_off d.plan) (λ d. of_running flip_off d.plan) (λ d. flip_each d.plan) cvd n.sets
+  first_off_each format (says.Drop cvd) n = live_each (λ d. None) (λ d. None) (λ d. refl) cvd n.sets
+  first_off_each format (says.Base next) n = refl
+  first_off_each format (says.Whole said) n = refl
+  first_off_each format (says.Wide cvd vid message columns parents rows fresh place added list segment) n =
+      ap (option_or (format_off format))
+      (live_each (wide_off vid message columns parents rows fresh (place_in place) added list segment) (wide_off vid message columns parents rows fresh (place_in place) added list segment)
+      (wide_each vid message columns parents rows fresh (place_in place) added list segment) cvd n.sets)

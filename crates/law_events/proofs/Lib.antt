@@ -9,4 +9,6 @@ pub mod Left
 pub mod Planning
 pub mod Stepping
 pub mod Committing
+pub mod Wide
+pub mod Moves
 pub mod Asking

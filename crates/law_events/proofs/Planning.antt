@@ -244,7 +244,7 @@ targets_in (events.Plan cvd p q targets) = targets
 targets_in _ = []
 
 plan_spelled : (r : Readings) (w : World) (e : raw.Event) (cvd p q : ℕ) (d : Dataset) → first_set (numbered cvd) w.sets ≡ Some d → PlanFits p q d → HasPieces d → IsPlaced d
-    → seen_event r e ≡ asked_as (plan_event cvd p q d) → first_off e (shown w) ≡ None
+    → seen_event r e ≡ asked_as (plan_event cvd p q d) → first_off w.format e (shown w) ≡ None
 plan_spelled r w (says.Init name schema count list segment) cvd p q d there fits is placed spells = cc
 plan_spelled r w (says.Commit number vid message parents rows fresh place added list segment) cvd p q d there fits is placed spells = cc
 plan_spelled r w (says.Plan number p_said q_said targets) cvd p q d there fits is placed spells =
@@ -258,13 +258,13 @@ plan_spelled r w (says.Whole whole) cvd p q d there fits is placed spells = cc
 plan_spelled r w (says.Wide number vid message columns parents rows fresh place added list segment) cvd p q d there fits is placed spells = cc
 
 plan_found : (r : Readings) (w : World) (e : raw.Event) (cvd p q : ℕ) (set : Option Dataset) → first_set (numbered cvd) w.sets ≡ set → IfThere (PlanFits p q) set → IsGood w
-    → Some (seen_event r e) ≡ option_map asked_as (in_set (λ d. Some (plan_event cvd p q d)) set) → first_off e (shown w) ≡ None
+    → Some (seen_event r e) ≡ option_map asked_as (in_set (λ d. Some (plan_event cvd p q d)) set) → first_off w.format e (shown w) ≡ None
 plan_found r w e cvd p q None there fits is spells = absurd fits
 plan_found r w e cvd p q (Some d) there fits is spells =
     plan_spelled r w e cvd p q d there fits (found_pieces cvd d w.sets is.sound.pieces there) (found_placed cvd d w.sets is.sound.placed there)
     (some_same (seen_event r e) (asked_as (plan_event cvd p q d)) spells)
 
-pub plan_applies : (events : List raw.Event) (r : Readings) (w : World) (e : raw.Event) (cvd p q : ℕ) → StandsFor events r w → Fits (BeginPlan cvd p q) w
-    → Some (seen_event r e) ≡ asked_event (BeginPlan cvd p q) w → first_off e (numbers_in events) ≡ None
+pub plan_applies : (events : List raw.Event) (r : Readings) (w : World) (e : raw.Event) (cvd p q : ℕ) → StandsFor w.format events r w → Fits (BeginPlan cvd p q) w
+    → Some (seen_event r e) ≡ asked_event (BeginPlan cvd p q) w → first_off w.format e (numbers_in events) ≡ None
 plan_applies events r w e cvd p q stands fits spells =
     applies_there events r w e stands (plan_found r w e cvd p q (first_set (numbered cvd) w.sets) refl fits (good w stands.reached) spells)

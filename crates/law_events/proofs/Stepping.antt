@@ -52,7 +52,7 @@ count_in (events.Copy cvd count segments) = count
 count_in _ = 0
 
 copy_spelled : (r : Readings) (w : World) (e : raw.Event) (cvd : ℕ) (d : Dataset) (plan : Plan) → first_set (numbered cvd) w.sets ≡ Some d → d.plan ≡ Some plan → HasPieces d
-    → 0 < length (missing d plan) → IsSoundEvent e → seen_event r e ≡ asked_as (copy_event cvd d plan) → first_off e (shown w) ≡ None
+    → 0 < length (missing d plan) → IsSoundEvent e → seen_event r e ≡ asked_as (copy_event cvd d plan) → first_off w.format e (shown w) ≡ None
 copy_spelled r w (says.Init name schema count list segment) cvd d plan there runs has some sound spells = cc
 copy_spelled r w (says.Commit number vid message parents rows fresh place added list segment) cvd d plan there runs has some sound spells = cc
 copy_spelled r w (says.Plan number p q targets) cvd d plan there runs has some sound spells = cc
@@ -69,18 +69,18 @@ copy_spelled r w (says.Whole whole) cvd d plan there runs has some sound spells 
 copy_spelled r w (says.Wide number vid message columns parents rows fresh place added list segment) cvd d plan there runs has some sound spells = cc
 
 copy_running : (r : Readings) (w : World) (e : raw.Event) (cvd : ℕ) (d : Dataset) (plan : Option Plan) → first_set (numbered cvd) w.sets ≡ Some d → d.plan ≡ plan → HasPieces d
-    → IfRunning (λ p. 0 < length (missing d p)) plan → IsSoundEvent e → Some (seen_event r e) ≡ option_map asked_as (copy_for cvd d plan) → first_off e (shown w) ≡ None
+    → IfRunning (λ p. 0 < length (missing d p)) plan → IsSoundEvent e → Some (seen_event r e) ≡ option_map asked_as (copy_for cvd d plan) → first_off w.format e (shown w) ≡ None
 copy_running r w e cvd d None there runs has some sound spells = absurd some
 copy_running r w e cvd d (Some plan) there runs has some sound spells =
     copy_spelled r w e cvd d plan there runs has some sound (some_same (seen_event r e) (asked_as (copy_event cvd d plan)) spells)
 
 copy_found : (r : Readings) (w : World) (e : raw.Event) (cvd : ℕ) (set : Option Dataset) → first_set (numbered cvd) w.sets ≡ set → IfThere MissesSome set → IsGood w → IsSoundEvent e
-    → Some (seen_event r e) ≡ option_map asked_as (in_set (λ d. copy_for cvd d d.plan) set) → first_off e (shown w) ≡ None
+    → Some (seen_event r e) ≡ option_map asked_as (in_set (λ d. copy_for cvd d d.plan) set) → first_off w.format e (shown w) ≡ None
 copy_found r w e cvd None there fits is sound spells = absurd fits
 copy_found r w e cvd (Some d) there fits is sound spells = copy_running r w e cvd d d.plan there refl (found_pieces cvd d w.sets is.sound.pieces there) fits sound spells
 
-pub copy_applies : (events : List raw.Event) (r : Readings) (w : World) (e : raw.Event) (cvd : ℕ) → StandsFor events r w → Fits (Copy cvd) w → IsSoundEvent e
-    → Some (seen_event r e) ≡ asked_event (Copy cvd) w → first_off e (numbers_in events) ≡ None
+pub copy_applies : (events : List raw.Event) (r : Readings) (w : World) (e : raw.Event) (cvd : ℕ) → StandsFor w.format events r w → Fits (Copy cvd) w → IsSoundEvent e
+    → Some (seen_event r e) ≡ asked_event (Copy cvd) w → first_off w.format e (numbers_in events) ≡ None
 copy_applies events r w e cvd stands fits sound spells =
     applies_there events r w e stands (copy_found r w e cvd (first_set (numbered cvd) w.sets) refl fits (good w stands.reached) sound spells)
 
@@ -115,7 +115,7 @@ abbrev flip_number : {L S : Type 0} → Event L S → ℕ
 flip_number (events.Flip cvd) = cvd
 flip_number _ = 0
 
-flip_shown : (r : Readings) (w : World) (e : raw.Event) (cvd : ℕ) → Fits (Flip cvd) w → IsGood w → seen_event r e ≡ asked_as (Flipped cvd) → first_off e (shown w) ≡ None
+flip_shown : (r : Readings) (w : World) (e : raw.Event) (cvd : ℕ) → Fits (Flip cvd) w → IsGood w → seen_event r e ≡ asked_as (Flipped cvd) → first_off w.format e (shown w) ≡ None
 flip_shown r w (says.Init given s count list segment) cvd fits is spells = cc
 flip_shown r w (says.Commit number vid message parents count fresh place added list segment) cvd fits is spells = cc
 flip_shown r w (says.Plan number p q targets) cvd fits is spells = cc
@@ -128,7 +128,7 @@ flip_shown r w (says.Base next) cvd fits is spells = cc
 flip_shown r w (says.Whole whole) cvd fits is spells = cc
 flip_shown r w (says.Wide number vid message columns parents count fresh place added list segment) cvd fits is spells = cc
 
-pub flip_applies : (events : List raw.Event) (r : Readings) (w : World) (e : raw.Event) (cvd : ℕ) → StandsFor events r w → Fits (Flip cvd) w
-    → Some (seen_event r e) ≡ asked_event (Flip cvd) w → first_off e (numbers_in events) ≡ None
+pub flip_applies : (events : List raw.Event) (r : Readings) (w : World) (e : raw.Event) (cvd : ℕ) → StandsFor w.format events r w → Fits (Flip cvd) w
+    → Some (seen_event r e) ≡ asked_event (Flip cvd) w → first_off w.format e (numbers_in events) ≡ None
 flip_applies events r w e cvd stands fits spells =
     applies_there events r w e stands (flip_shown r w e cvd fits (good w stands.reached) (some_same (seen_event r e) (asked_as (Flipped cvd)) spells))

@@ -1,5 +1,5 @@
 -- An image whose journal says the snapshot stands for the World after a checkpoint.
-use Rattle.std.proofs.Common.{◌≡◌, ◌<◌, ◌+◌, ◌-◌, ◌^◌, ℕ, List, [], ◌∷◌, ◌++◌, length, map, refl, sym, ◌∙◌, ap, subst, arith}
+use Rattle.std.proofs.Common.{◌≡◌, ◌<◌, ◌+◌, ◌-◌, ◌^◌, ℕ, List, length, map, refl, sym, ◌∙◌, ap, subst, arith}
 use Rattle.std.specs.Prelude.{Some}
 use Rattle.std.proofs.lemmas.List.{length-map}
 use Rattle.ov_host.specs.declared.area.Extent.{Extent}
@@ -8,37 +8,27 @@ use Rattle.ov_event.specs.declared.event.Event.{Event}
 use Rattle.ov_event.specs.Spelling.{spelling}
 use Rattle.ov_journal.specs.Journal.{Kept}
 use Rattle.ov_model.specs.Moves.{Checkpoint, moved}
-use Rattle.ov_model.specs.World.{World, empty_world_of}
-use Rattle.ov_catalog.specs.Applying.{AllApply, AllFollow, AtStart, start_of}
+use Rattle.ov_model.specs.World.{World}
+use Rattle.ov_catalog.specs.Applying.{AllFollow, start_of}
 use Rattle.ov_catalog.specs.Events as says
 use Rattle.ov_catalog.specs.Extents.{AreApart, live}
 use Rattle.ov_catalog.specs.Numbers.{Numbers, each_set, nothing_yet}
 use Rattle.ov_catalog.specs.Raw.{event_in, numbers_in}
-use Rattle.ov_catalog.specs.Reached.{ByMove, LeadsByAll, MayPassByAll, OldCheckpoint, Past, Reached, ReachedByAll, old_checkpoint, passed}
+use Rattle.ov_catalog.specs.Reached.{Reached, old_checkpoint}
 use Rattle.ov_catalog.specs.Shown.{shown_set}
 use Rattle.ov_catalog.specs.Snapshots.{IsSnapshot, events_of}
 use Rattle.ov_catalog.specs.Stands.{Readings, asked, seen}
-use Rattle.ov_catalog.proofs.Following.{all_follow}
 use Rattle.ov_catalog.proofs.Good.{reached_more, reached_old}
 use Rattle.ov_catalog.proofs.Moving.{snapshot_numbers}
 use Rattle.ov_catalog.proofs.Standing.{seen_same}
 use Rattle.law_snapshots.proofs.Carrying.{all_whole}
-use Rattle.law_snapshots.proofs.Followed.{snapshot_applies, snapshot_follows}
+use Rattle.law_snapshots.proofs.Followed.{snapshot_follows}
 use Rattle.law_snapshots.proofs.Saying.{one_snapshot}
 use Rattle.law_snapshots.specs.Said.{snapshot_in}
-use Rattle.law_image.specs.Checkpoints.{IsCheckpointed, IsOldCheckpointed, IsTurned, StandsByAll}
+use Rattle.law_image.specs.Checkpoints.{IsCheckpointed, IsOldCheckpointed, IsTurned}
 use Rattle.law_image.specs.Images.{StandsBy}
 use Rattle.law_image.specs.Pages.{readings_of}
 use Rattle.law_image.proofs.Standing.{read_same}
-
--- ---- the World after a checkpoint
-
-leads_on : (ps : List Past) (p : Past) (v w : World) → LeadsByAll v ps w → MayPassByAll p w → LeadsByAll v (ps ++ p ∷ []) (passed p w)
-leads_on [] p v w same may = (subst (MayPassByAll p) (sym same) may, ap (passed p) same)
-leads_on (q ∷ ps) p v w leads may = (leads.0, leads_on ps p (passed q v) w leads.1 may)
-
-all_reached : (p : Past) (w : World) → ReachedByAll w → MayPassByAll p w → ReachedByAll (passed p w)
-all_reached p w reached may = (reached.0, reached.1, reached.2 ++ p ∷ [], leads_on reached.2 p (empty_world_of reached.0) w reached.3 may)
 
 -- as many records as datasets, and one more
 counted : (w : World) (r : Readings) (snapshot : List Event) (n : Numbers Extent Extent) → IsSnapshot snapshot n → seen r n ≡ asked w → length snapshot ≡ length w.sets + 1
@@ -72,9 +62,8 @@ module _ (number : ℕ) (kept next : Kept) (events snapshot : List Event) (w v :
   apart : AreApart (live n) (readings_of old.pages).pages → AreApart (live (numbers_in snapshot)) (readings_of new.pages).pages
   apart are = subst (λ k. AreApart (live k) (readings_of new.pages).pages) (sym there) (record { once = are.once; inside = is.pages.there })
 
-  -- by all events and moves
-  all_turned : StandsByAll kept events w old → ReachedByAll v → StandsByAll next snapshot v new
-  all_turned stands reached =
+  turned : StandsBy kept events w old → Reached v → StandsBy next snapshot v new
+  turned stands reached =
       let follows : AllFollow (start_of number) (snapshot_in n) nothing_yet = snapshot_follows number n (all_whole kept.format events stands.stands.follow)
       in record {
         journal = is.journal;
@@ -93,52 +82,18 @@ module _ (number : ℕ) (kept next : Kept) (events snapshot : List Event) (w v :
         records = records_are ∙ long (readings_of old.pages) stands.stands.shows;
       }
 
-  -- by what is built
-  built_turned : StandsBy kept events w old → Reached v → StandsBy next snapshot v new
-  built_turned stands reached =
-      let follow : AllFollow (start_of 2) events nothing_yet = all_follow events (start_of 2) nothing_yet stands.stands.applies
-      in record {
-        journal = is.journal;
-        spell = is.spell;
-        stands = record {
-          reached = reached;
-          applies = subst (λ es. AllApply AtStart es nothing_yet) (sym (one_snapshot snapshot n is.says)) (snapshot_applies n (all_whole 2 events follow));
-          shows = shown (readings_of new.pages)
-              (seen_same n (readings_of old.pages) (readings_of new.pages) (read_same (live n) old.pages new.pages stands.stands.apart.inside is.pages) ∙ stands.stands.shows)
-              ∙ sym same;
-          apart = apart stands.stands.apart;
-        };
-        epoch = epoch_is ∙ (ap (λ k. k + 1) stands.epoch ∙ sym is.epoch);
-        format = format_is ∙ sym is.format;
-        records = records_are ∙ long (readings_of old.pages) stands.stands.shows;
-      }
-
 module _ (kept next : Kept) (events snapshot : List Event) (w : World) (old new : Image) where
-  pub all_stand : IsCheckpointed kept events next snapshot old new → StandsByAll kept events w old → kept.epoch < 2 ^ 32 - 1
-      → StandsByAll next snapshot (moved Checkpoint w) new
-  all_stand is stands left =
-      let epoch = stands.epoch
-      in all_turned 2 kept next events snapshot w (moved Checkpoint w) old new is refl refl refl refl stands
-      (all_reached (ByMove Checkpoint) w stands.stands.reached (omega (arith, left, epoch)))
-
-  pub built_stands : IsCheckpointed kept events next snapshot old new → StandsBy kept events w old → kept.epoch < 2 ^ 32 - 1
+  pub next_stands : IsCheckpointed kept events next snapshot old new → StandsBy kept events w old → kept.epoch < 2 ^ 32 - 1
       → StandsBy next snapshot (moved Checkpoint w) new
-  built_stands is stands left =
+  next_stands is stands left =
       let epoch = stands.epoch
-      in built_turned 2 kept next events snapshot w (moved Checkpoint w) old new is refl refl refl refl stands
+      in turned 2 kept next events snapshot w (moved Checkpoint w) old new is refl refl refl refl stands
       (reached_more Checkpoint w stands.stands.reached (omega (arith, left, epoch)))
 
   -- one that left format 1
-  pub old_all_stand : IsOldCheckpointed kept events next snapshot old new → StandsByAll kept events w old → kept.epoch < 2 ^ 32 - 1
-      → StandsByAll next snapshot (old_checkpoint w) new
-  old_all_stand is stands left =
-      let epoch = stands.epoch
-      in all_turned 1 kept next events snapshot w (old_checkpoint w) old new is.1 refl refl (stands.format ∙ is.0) refl stands
-      (all_reached OldCheckpoint w stands.stands.reached (stands.format ∙ is.0, omega (arith, left, epoch)))
-
-  pub old_built_stands : IsOldCheckpointed kept events next snapshot old new → StandsBy kept events w old → kept.epoch < 2 ^ 32 - 1
+  pub old_stands : IsOldCheckpointed kept events next snapshot old new → StandsBy kept events w old → kept.epoch < 2 ^ 32 - 1
       → StandsBy next snapshot (old_checkpoint w) new
-  old_built_stands is stands left =
+  old_stands is stands left =
       let epoch = stands.epoch
-      in built_turned 1 kept next events snapshot w (old_checkpoint w) old new is.1 refl refl (stands.format ∙ is.0) refl stands
+      in turned 1 kept next events snapshot w (old_checkpoint w) old new is.1 refl refl (stands.format ∙ is.0) refl stands
       (reached_old w stands.stands.reached (stands.format ∙ is.0) (omega (arith, left, epoch)))

@@ -26,8 +26,6 @@ use Rattle.ov_catalog.proofs.Standing as catalog
 use Rattle.law_image.specs.Lists.{list_in}
 use Rattle.law_image.specs.Segments.{segment_in}
 use Rattle.law_image.specs.Pages.{pages_in, extent_bytes, readings_of, IsUsed, SameLive}
-use Rattle.ov_catalog.proofs.Following.{stands_by_all}
-use Rattle.law_image.specs.Checkpoints.{StandsByAll}
 use Rattle.law_image.specs.Images.{Spell, StandsBy, StandsAs, SaysSame}
 
 -- ---- one journal, and its events
@@ -67,7 +65,7 @@ stands_by kept events w c (inr made) journal spell =
 
 by_once : (kept : Kept) (events : List Event) (w v : World) (c : Image) → StandsBy kept events w c → StandsBy kept events v c → w ≡ v
 by_once kept events w v c here there =
-    let same = catalog.at_most_one events (readings_of c.pages) w v here.stands there.stands
+    let same = catalog.at_most_one kept.format events (readings_of c.pages) w v here.stands there.stands
     in λ i. record {
       sets = same.0 i;
       next = same.1 i;
@@ -171,16 +169,17 @@ read_same es old new there kept_live = record {
 
 -- ---- other images that stand for the same World
 
-pub stands_on : (events : List Event) (w : World) (old new : List ℕ) → StandsFor events (readings_of old) w → SameLive (live (numbers_in events)) old new → StandsFor events (readings_of new) w
-stands_on events w old new stands kept_live =
-    catalog.same_readings events (readings_of old) (readings_of new) w stands (read_same (live (numbers_in events)) old new stands.apart.inside kept_live)
+pub stands_on : (format : ℕ) (events : List Event) (w : World) (old new : List ℕ) → StandsFor format events (readings_of old) w → SameLive (live (numbers_in events)) old new
+    → StandsFor format events (readings_of new) w
+stands_on format events w old new stands kept_live =
+    catalog.same_readings format events (readings_of old) (readings_of new) w stands (read_same (live (numbers_in events)) old new stands.apart.inside kept_live)
 
 pub same_world : (kept other : Kept) (events : List Event) (w : World) (old new : Image) → StandsBy kept events w old
     → IsJournal other new.journal → SaysSame kept other → SameLive (live (numbers_in events)) old.pages new.pages → StandsBy other events w new
 same_world kept other events w old new stands journal says kept_live = record {
   journal = journal;
   spell = record { are = stands.spell.are; written = says.payloads ∙ stands.spell.written };
-  stands = stands_on events w old.pages new.pages stands.stands kept_live;
+  stands = subst (λ format. StandsFor format events (readings_of new.pages) w) (sym says.format) (stands_on kept.format events w old.pages new.pages stands.stands kept_live);
   epoch = stands.epoch ∙ sym says.epoch;
   format = stands.format ∙ sym says.format;
   records = stands.records ∙ ap length (sym says.payloads);
@@ -210,8 +209,7 @@ no_event w e is = absurd cc
 
 pub counted : (m : Move) (w : World) → m ≢ Checkpoint → Fits m w → ((moved m w).epoch ≡ w.epoch) × ((moved m w).format ≡ w.format) × ((moved m w).records ≡ w.records + 1)
 counted (Init name schema rows) w other fits = (refl, refl, refl)
-counted (Commit cvd parents message [] rows) w other fits = (refl, refl, refl)
-counted (Commit cvd parents message (c ∷ cs) rows) w other fits = absurd fits
+counted (Commit cvd parents message added rows) w other fits = (refl, refl, refl)
 counted (BeginPlan cvd p q) w other fits = (refl, refl, refl)
 counted (Copy cvd) w other fits = (refl, refl, refl)
 counted (Flip cvd) w other fits = (refl, refl, refl)
@@ -230,13 +228,13 @@ spell_more es e payloads spell is = record {
 
 pub one_more : (kept : Kept) (events : List Event) (w : World) (old new : Image) (e : Event) (m : Move) → StandsBy kept events w old
     → IsEvent e → IsJournal (and_one kept (spelling e)) new.journal → SameLive (live (numbers_in events)) old.pages new.pages
-    → IsMove e m w (numbers_in events) (readings_of new.pages) → StandsBy (and_one kept (spelling e)) (events ++ e ∷ []) (moved m w) new
+    → IsMove kept.format e m w (numbers_in events) (readings_of new.pages) → StandsBy (and_one kept (spelling e)) (events ++ e ∷ []) (moved m w) new
 one_more kept events w old new e m stands is journal kept_live move =
     let count = counted m w (λ same. no_event w (seen_event (readings_of new.pages) e) (subst (λ k. Some (seen_event (readings_of new.pages) e) ≡ asked_event k w) same move.spells)) move.fits
     in record {
       journal = journal;
       spell = spell_more events e kept.payloads stands.spell is;
-      stands = catalog.one_more events (readings_of new.pages) w e m (stands_on events w old.pages new.pages stands.stands kept_live) move;
+      stands = catalog.one_more kept.format events (readings_of new.pages) w e m (stands_on kept.format events w old.pages new.pages stands.stands kept_live) move;
       epoch = count.0 ∙ stands.epoch;
       format = count.1 ∙ stands.format;
       records = omega (arith, count.2, stands.records, length-append kept.payloads (spelling e ∷ []));
@@ -251,20 +249,8 @@ pub new_stands : (c : Image) → IsJournal new_kept c.journal → StandsBy new_k
 new_stands c journal = record {
   journal = journal;
   spell = record { are = tt; written = refl };
-  stands = catalog.nothing_stands (readings_of c.pages);
+  stands = catalog.nothing_stands 2 (readings_of c.pages);
   epoch = refl;
   format = refl;
   records = refl;
-}
-
--- ---- all events and moves
-
-pub built_by_all : (kept : Kept) (events : List Event) (w : World) (c : Image) → StandsBy kept events w c → StandsByAll kept events w c
-built_by_all kept events w c by = record {
-  journal = by.journal;
-  spell = by.spell;
-  stands = stands_by_all kept.format events (readings_of c.pages) w by.stands;
-  epoch = by.epoch;
-  format = by.format;
-  records = by.records;
 }

@@ -155,11 +155,11 @@ inside zero some = omega arith
 inside (suc zero) some = omega arith
 inside (suc (suc page)) some = absurd (omega (arith, some, none_past (suc (suc page)) (omega arith)))
 
-stands_for : StandsFor (the_event ∷ []) (readings_of the_pages) the_world
+stands_for : StandsFor 2 (the_event ∷ []) (readings_of the_pages) the_world
 unfolding is_name is_vid is_column_name row_spelling column_refusal name_refusal key_refusal run
 stands_for = record {
   reached = (2, inr refl, ByMove the_move ∷ [], (move_fits, refl));
-  applies = (refl, tt);
+  follow = (refl, tt);
   shows = refl;
   apart = record { once = once; inside = λ page some. subst (λ (n : ℕ). page < n) (sym pages_are) (inside page some) };
 }

@@ -1,26 +1,15 @@
--- What an image of the disk stands for where all events and all moves count, and what it is after a checkpoint.
---     StandsByAll kept events w c      by this journal and the events that its payloads spell, the World
+-- An image of the disk after a checkpoint.
 --     IsCheckpointed kept events next snapshot old new      the image after a checkpoint
 --     IsOldCheckpointed ..      the same after one that an earlier program took in a store of format 1, which left that number
-use Rattle.std.specs.Prelude.{◌≡◌, ◌+◌, ℕ, List, length}
+use Rattle.std.specs.Prelude.{◌≡◌, ◌+◌, ℕ, List}
 use Rattle.ov_host.specs.Disk.{Image}
 use Rattle.ov_event.specs.declared.event.Event.{Event}
 use Rattle.ov_journal.specs.Journal.{Kept, IsJournal}
-use Rattle.ov_model.specs.World.{World}
 use Rattle.ov_catalog.specs.Extents.{live}
 use Rattle.ov_catalog.specs.Raw.{numbers_in}
 use Rattle.ov_catalog.specs.Snapshots.{IsSnapshot}
-use Rattle.ov_catalog.specs.Stands.{StandsForAll}
 use Rattle.law_image.specs.Images.{Spell}
-use Rattle.law_image.specs.Pages.{SameLive, readings_of}
-
-pub record StandsByAll (kept : Kept) (events : List Event) (w : World) (c : Image) : Type 0 where
-  pub journal : IsJournal kept c.journal
-  pub spell : Spell events kept.payloads
-  pub stands : StandsForAll kept.format events (readings_of c.pages) w
-  pub epoch : w.epoch ≡ kept.epoch
-  pub format : w.format ≡ kept.format
-  pub records : w.records ≡ length kept.payloads
+use Rattle.law_image.specs.Pages.{SameLive}
 
 -- The journal is one of the next epoch and of this format, whose payloads spell the Base and the Wholes of the numbers where the old
 -- events end; and the pages of the live extents have the same bytes.

@@ -2,9 +2,9 @@
 --     StandsBy kept events w c      by this journal and the events that its payloads spell, the World
 --     StandsAs w c      the World, by some journal; or the empty one, where no journal was made
 --
--- The Worlds are those that `Reached` has: from the empty World of format 1 or 2, whose epoch is 1, by all moves but a Commit with
--- added columns. A checkpoint makes the epoch one more, and the format number 2; one that an earlier program took in a store of
--- format 1 left that number.
+-- The Worlds are those that `Reached` has: from the empty World of format 1 or 2, whose epoch is 1, by all moves. A checkpoint makes
+-- the epoch one more, and the format number 2; one that an earlier program took in a store of format 1 left that number. Columns are
+-- added in format 2 alone: so its event doesn't apply in a journal of format 1.
 use Rattle.std.specs.Prelude.{◌≡◌, ◌⊎◌, ℕ, List, [], length, map}
 use Rattle.std.specs.List.{AllByRecursion}
 use Rattle.ov_host.specs.Disk.{Image}
@@ -25,7 +25,7 @@ pub record Spell (events : List Event) (payloads : List (List ℕ)) : Type 0 whe
 pub record StandsBy (kept : Kept) (events : List Event) (w : World) (c : Image) : Type 0 where
   pub journal : IsJournal kept c.journal
   pub spell : Spell events kept.payloads
-  pub stands : StandsFor events (readings_of c.pages) w
+  pub stands : StandsFor kept.format events (readings_of c.pages) w
   pub epoch : w.epoch ≡ kept.epoch
   pub format : w.format ≡ kept.format
   pub records : w.records ≡ length kept.payloads

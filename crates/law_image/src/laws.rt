@@ -23,7 +23,7 @@ ghost use Rattle.ov_catalog.specs.Extents.{covers, live};
 ghost use Rattle.ov_catalog.specs.Raw.{numbers_in};
 ghost use Rattle.ov_catalog.specs.Stands.{IsMove};
 ghost use Rattle.ov_catalog.specs.Reached.{old_checkpoint};
-ghost use Rattle.law_image.specs.Checkpoints.{IsCheckpointed, IsOldCheckpointed, StandsByAll};
+ghost use Rattle.law_image.specs.Checkpoints.{IsCheckpointed, IsOldCheckpointed};
 ghost use Rattle.law_image.specs.Images.{SaysSame, Spell, StandsAs, StandsBy};
 ghost use Rattle.law_image.specs.Pages.{SameLive, pages_in, readings_of};
 ghost use Rattle.law_image.specs.Worked.{the_image, the_world};
@@ -37,11 +37,6 @@ pub fn at_most_one_world()
 pub fn stands_by_its_journal()
     ensures { (kept : Kept) (events : List Event) (w : World) (c : Image) → StandsAs w c → IsJournal kept c.journal
         → Spell events kept.payloads → StandsBy kept events w c }
-{}
-
-/// What stands for a World by the moves and events that are built stands for it by all of them.
-pub fn what_is_built_stands_by_all()
-    ensures { (kept : Kept) (events : List Event) (w : World) (c : Image) → StandsBy kept events w c → StandsByAll kept events w c }
 {}
 
 /// An image with the same payloads, epoch and format number, and the same bytes in the live extents, stands for the same World.
@@ -71,7 +66,7 @@ pub fn same_pages_have_the_same_extents()
 pub fn one_more_payload()
     ensures { (kept : Kept) (events : List Event) (w : World) (old new : Image) (e : Event) (m : Move)
         → StandsBy kept events w old → IsEvent e → IsJournal (and_one kept (spelling e)) new.journal
-        → SameLive (live (numbers_in events)) old.pages new.pages → IsMove e m w (numbers_in events) (readings_of new.pages)
+        → SameLive (live (numbers_in events)) old.pages new.pages → IsMove kept.format e m w (numbers_in events) (readings_of new.pages)
         → StandsBy (and_one kept (spelling e)) (events ++ e ∷ []) (moved m w) new }
 {}
 
@@ -79,14 +74,10 @@ pub fn one_more_payload()
 /// bytes in the live extents, stands for the World after a checkpoint. So it is after a checkpoint that an earlier program took in a
 /// store of format 1, which left that number.
 pub fn a_checkpoint_stands()
-    ensures built { (kept next : Kept) (events snapshot : List Event) (w : World) (old new : Image) → StandsBy kept events w old
+    ensures next { (kept next : Kept) (events snapshot : List Event) (w : World) (old new : Image) → StandsBy kept events w old
         → IsCheckpointed kept events next snapshot old new → kept.epoch < 2 ^ 32 - 1 → StandsBy next snapshot (moved Checkpoint w) new }
-    ensures all { (kept next : Kept) (events snapshot : List Event) (w : World) (old new : Image) → StandsByAll kept events w old
-        → IsCheckpointed kept events next snapshot old new → kept.epoch < 2 ^ 32 - 1 → StandsByAll next snapshot (moved Checkpoint w) new }
-    ensures old_built { (kept next : Kept) (events snapshot : List Event) (w : World) (old new : Image) → StandsBy kept events w old
+    ensures old { (kept next : Kept) (events snapshot : List Event) (w : World) (old new : Image) → StandsBy kept events w old
         → IsOldCheckpointed kept events next snapshot old new → kept.epoch < 2 ^ 32 - 1 → StandsBy next snapshot (old_checkpoint w) new }
-    ensures old_all { (kept next : Kept) (events snapshot : List Event) (w : World) (old new : Image) → StandsByAll kept events w old
-        → IsOldCheckpointed kept events next snapshot old new → kept.epoch < 2 ^ 32 - 1 → StandsByAll next snapshot (old_checkpoint w) new }
 {}
 
 /// An unmade journal beside no page, and a new journal without a payload beside any pages, stand for the empty World.

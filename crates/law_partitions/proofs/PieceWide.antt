@@ -155,7 +155,7 @@ module _ (n : ℕ) where
 
   -- a dataset whose partitions and records are wide
   module _ (d after : Dataset) (parts_are : after.parts ≡ map (wide_part n) d.parts) (recs_are : recs after.cvd.versions [] ≡ all_wide (recs d.cvd.versions [])) where
-    kept_are : (t : Target) → kept_pieces after t ≡ all_wide (kept_pieces d t)
+    pub kept_are : (t : Target) → kept_pieces after t ≡ all_wide (kept_pieces d t)
     kept_are t = ap (λ parts. picked (pieces_of parts t.source) t.kept) parts_are ∙ kept_all d.parts t
 
     kept_wide : (t : Target) → IsKept d t → IsKept after t

@@ -8,20 +8,19 @@ use Rattle.ov_host.specs.declared.area.Extent.{Extent}
 use Rattle.ov_event.specs.declared.event.Event.{Event}
 use Rattle.ov_journal.specs.Journal.{Kept}
 use Rattle.ov_model.specs.Course.{Item, world_at}
-use Rattle.ov_model.specs.Lists.{IsIn, joined}
-use Rattle.ov_model.specs.Plans.{depth_at, flipped, nodes_of_set, parts_at}
+use Rattle.ov_model.specs.Lists.{IsIn}
+use Rattle.ov_model.specs.Plans.{depth_at, flipped, nodes_of_set}
 use Rattle.ov_model.specs.Records.{Rec, order_of, recs}
 use Rattle.ov_model.specs.World.{Dataset, Part, Plan, World, cost, held, stored}
 use Rattle.ov_catalog.specs.Numbers.{PartNumbers, SetNumbers, each_part, each_set}
 use Rattle.ov_catalog.specs.Raw.{numbers_in}
-use Rattle.ov_catalog.specs.Shown.{Records, Rids, segment_of, shown_part, shown_set}
+use Rattle.ov_catalog.specs.Shown.{Records, segment_of, shown_part, shown_set}
 use Rattle.ov_catalog.specs.Stands.{Readings}
 use Rattle.law_image.specs.Images.{StandsBy}
 use Rattle.law_image.specs.Pages.{readings_of}
-use Rattle.law_partitions.specs.OldOrNew.{AllTight}
 use Rattle.law_partitions.specs.Pieces.{AreOf, HasPieces, IsPieces, PartsArePieces}
 use Rattle.law_partitions.specs.PlanBounds.{IsBounded}
-use Rattle.law_partitions.specs.PlanEnds.{HasAllVersions, IsSplit, versions_of}
+use Rattle.law_partitions.specs.PlanEnds.{HasAllVersions, IsSplit}
 use Rattle.ov_model.specs.Holding.{VersionsAreIn}
 use Rattle.law_plans.specs.Ends.{EndsPlan, LeavesParts}
 use Rattle.law_plans.specs.Leaves.{IsFinished, StaysSplit}

@@ -19,7 +19,7 @@ use Rattle.ov_catalog.specs.Snapshots.{Snapshot, bare, events_of}
 use Rattle.ov_catalog.specs.Stands.{Readings, asked, seen}
 use Rattle.law_snapshots.specs.Said.{snapshot_in}
 use Rattle.law_snapshots.specs.Whole.{AreWhole}
-use Rattle.law_snapshots.proofs.Built.{built_whole}
+use Rattle.law_snapshots.proofs.Carrying.{all_whole}
 use Rattle.law_snapshots.proofs.Saying.{is_snapshot}
 use Rattle.law_image.specs.Pages.{readings_of}
 use Rattle.ov_core.specs.AtWorld.{IsAtWorld}
@@ -85,7 +85,7 @@ says_world r n w shows =
 -- what a checkpoint writes is a snapshot of the World
 pub snapshot_at : (w : World) (held : Held) (s : State) → IsAtWorld w held s → Snapshot w
 snapshot_at w held s is =
-    let are : AreWhole held.numbers = subst AreWhole (sym is.numbers_are) (built_whole is.events is.stands.stands.applies)
+    let are : AreWhole held.numbers = subst AreWhole (sym is.numbers_are) (all_whole held.journal.format is.events is.stands.stands.follow)
     in let r : Readings = readings_of (as_read s.tape.disk).pages
     in let shows : seen r held.numbers ≡ asked w = ap (seen r) is.numbers_are ∙ is.stands.stands.shows
     in record {

@@ -14,14 +14,15 @@ use Rattle.ov_member.proofs.RangeLemmas.{ranges_of-rids_of}
 use Rattle.ov_place.specs.declared.place_facts.Place.{Place}
 use Rattle.ov_place.specs.declared.place_facts.Place.TheVariants.{Own, Join}
 use Rattle.ov_value.specs.Shapes.{Shape}
+use Rattle.ov_value.specs.declared.column.Column.{Column}
 use Rattle.ov_model.specs.Book.{Row}
-use Rattle.ov_model.specs.Moves.{Move, Init as InitMove, Commit as CommitMove, BeginPlan, Copy as CopyMove, Flip as FlipMove, Drop as DropMove, Checkpoint, numbered, version_of}
+use Rattle.ov_model.specs.Moves.{Move, Init as InitMove, Commit as CommitMove, BeginPlan, Copy as CopyMove, Flip as FlipMove, Drop as DropMove, Checkpoint, numbered, version_of, wide}
 use Rattle.ov_model.specs.World as worlds
 use Rattle.ov_model.specs.World.{Dataset, World, first_set}
 use Rattle.ov_catalog.specs.Events.{Event, Init, Commit, Plan, Copy, Flip, Drop, Base, Whole, Wide}
 use Rattle.ov_catalog.specs.Raw.{event_in, place_in, shape_in}
 use Rattle.ov_catalog.specs.Reached.{CommitFits, Fits, IfThere}
-use Rattle.ov_catalog.specs.Shown.{Records, Rids, init_event, commit_event, commit_in, copy_event, copy_for, event_of, in_set, plan_event}
+use Rattle.ov_catalog.specs.Shown.{Records, Rids, init_event, commit_event, commit_in, copy_event, copy_for, event_of, in_set, plan_event, wide_event}
 use Rattle.ov_catalog.specs.Stands.{asked_as, asked_event}
 use Rattle.ov_catalog.proofs.Moving.{some_same}
 use Rattle.law_image.specs.Lists.{list_in}
@@ -84,7 +85,7 @@ schema_of s = record { columns = s.columns; key = s.key }
 abbrev IsSized : raw.Event → List ℕ → List ℕ → Type 0
 IsSized e list segment = with_extents (extent_at 0 list) (extent_at 0 segment) e ≡ e
 
--- the one event that says so, of those that moves make so far
+-- the one event that says so, of those of moves
 abbrev said_by : Event Rids Records → Extent → Extent → raw.Event
 said_by (Init name schema rows list segments) l s = says.Init name (schema_of schema) rows l s
 said_by (Commit cvd vid message parents rows fresh place added list segments) l s = says.Commit cvd vid message parents rows fresh (placed_of place) added l s
@@ -97,7 +98,7 @@ said_by (Whole d) l s = says.Base 0
 said_by (Wide cvd vid message columns parents rows fresh place added list segments) l s =
     says.Wide cvd vid message columns parents rows fresh (placed_of place) added l s
 
--- it is the event of a move that is made so far
+-- it is the event of a move
 abbrev IsOwn : Event Rids Records → Type 0
 IsOwn (Init name schema rows list segments) = Unit {0}
 IsOwn (Commit cvd vid message parents rows fresh place added list segments) = Unit {0}
@@ -107,7 +108,7 @@ IsOwn (Flip cvd) = Unit {0}
 IsOwn (Drop cvd) = Unit {0}
 IsOwn (Base next) = ⊥
 IsOwn (Whole d) = ⊥
-IsOwn (Wide cvd vid message columns parents rows fresh place added list segments) = ⊥
+IsOwn (Wide cvd vid message columns parents rows fresh place added list segments) = Unit {0}
 
 -- what the bytes have is what the event asks for; a plan, a flip and a drop have none, and a copy has a segment alone
 abbrev Have : Event Rids Records → List ℕ → List ℕ → Type 0
@@ -173,6 +174,36 @@ said_commit cvd vid message parents rows fresh place added rids segments (says.D
 said_commit cvd vid message parents rows fresh place added rids segments (says.Base next) list segment is sized = absurd cc
 said_commit cvd vid message parents rows fresh place added rids segments (says.Whole set) list segment is sized = absurd cc
 said_commit cvd vid message parents rows fresh place added rids segments (says.Wide c v m columns ps r f p a l s) list segment is sized = absurd cc
+
+said_wide : (cvd vid : ℕ) (message : List ℕ) (columns : List Column) (parents : List (ℕ × ℕ)) (rows fresh : ℕ) (place : Place) (added : ℕ) (rids : Rids) (segments : List Records)
+    (e : raw.Event) (list segment : List ℕ) → content (event_in e) list segment ≡ asked_as (Wide cvd vid message columns parents rows fresh place added rids segments)
+    → IsSized e list segment → IsSaid (Wide cvd vid message columns parents rows fresh place added rids segments) e list segment
+said_wide cvd vid message columns parents rows fresh place added rids segments (says.Init n s r l t) list segment is sized = absurd cc
+said_wide cvd vid message columns parents rows fresh place added rids segments (says.Commit c v m ps r f p a l s) list segment is sized = absurd cc
+said_wide cvd vid message columns parents rows fresh place added rids segments (says.Plan c p q targets) list segment is sized = absurd cc
+said_wide cvd vid message columns parents rows fresh place added rids segments (says.Copy c count run) list segment is sized = absurd cc
+said_wide cvd vid message columns parents rows fresh place added rids segments (says.Flip c) list segment is sized = absurd cc
+said_wide cvd vid message columns parents rows fresh place added rids segments (says.Drop c) list segment is sized = absurd cc
+said_wide cvd vid message columns parents rows fresh place added rids segments (says.Base next) list segment is sized = absurd cc
+said_wide cvd vid message columns parents rows fresh place added rids segments (says.Whole set) list segment is sized = absurd cc
+said_wide cvd vid message columns parents rows fresh place added rids segments (says.Wide c v m cs ps r f p a l s) list segment is sized =
+    let cvd_is : c ≡ cvd = cc
+    in let vid_is : v ≡ vid = cc
+    in let message_is : m ≡ message = cc
+    in let columns_are : cs ≡ columns = cc
+    in let parents_are : ps ≡ parents = cc
+    in let rows_are : r ≡ rows = cc
+    in let fresh_are : f ≡ fresh = cc
+    in let place_is : place_in p ≡ place = cc
+    in let added_are : a ≡ added = cc
+    in let list_has : list_in list ≡ Some rids = cc
+    in let segment_has : segments_in segment ≡ map Some segments = cc
+    in record {
+      event = sym sized
+          ∙ (λ i. says.Wide (cvd_is i) (vid_is i) (message_is i) (columns_are i) (parents_are i) (rows_are i) (fresh_are i) ((sym (placed_back p) ∙ ap placed_of place_is) i) (added_are i)
+          (extent_at 0 list) (extent_at 0 segment));
+      have = (list_has, segment_has);
+    }
 
 said_drop : (cvd : ℕ) (e : raw.Event) (list segment : List ℕ) → content (event_in e) list segment ≡ Drop cvd → HasRuns e list segment → IsSaid (Drop cvd) e list segment
 said_drop cvd (says.Init n s r l t) list segment is runs = absurd cc
@@ -244,7 +275,8 @@ said (Copy cvd count segments) own e list segment is sized runs = said_copy cvd 
 said (Flip cvd) own e list segment is sized runs = said_flip cvd e list segment is runs
 said (Base next) own e list segment is sized runs = absurd own
 said (Whole d) own e list segment is sized runs = absurd own
-said (Wide cvd vid message columns parents rows fresh place added rids segments) own e list segment is sized runs = absurd own
+said (Wide cvd vid message columns parents rows fresh place added rids segments) own e list segment is sized runs =
+    said_wide cvd vid message columns parents rows fresh place added rids segments e list segment is sized
 
 have_once : (x : Event Rids Records) (a b s t : List ℕ) → Have x a s → Have x b t → (a ≡ b) × (s ≡ t)
 have_once (Init name schema rows rids segments) a b s t here there =
@@ -280,7 +312,9 @@ own_copy cvd d (Some plan) x is = subst IsOwn (some_same (copy_event cvd d plan)
 own_event : (m : Move) (w : World) → Fits m w → (x : Event Rids Records) → event_of m w ≡ Some x → IsOwn x
 own_event (InitMove name schema rows) w fits x is = subst IsOwn (some_same (init_event name (version_of [] (codes "init") rows) schema) x is) tt
 own_event (CommitMove cvd parents message [] rows) w fits x is = own_commit w cvd parents message rows (first_set (numbered cvd) w.sets) fits x is
-own_event (CommitMove cvd parents message (column ∷ added) rows) w fits x is = absurd fits
+own_event (CommitMove cvd parents message (column ∷ added) rows) w fits x is =
+    own_in (λ d. Some (wide_event cvd (column ∷ added) (wide (column ∷ added) d) (version_of parents message rows))) (first_set (numbered cvd) w.sets)
+    (λ d y said_. subst IsOwn (some_same (wide_event cvd (column ∷ added) (wide (column ∷ added) d) (version_of parents message rows)) y said_) tt) x is
 own_event (BeginPlan cvd p q) w fits x is =
     own_in (λ d. Some (plan_event cvd p q d)) (first_set (numbered cvd) w.sets) (λ d y said_. subst IsOwn (some_same (plan_event cvd p q d) y said_) tt) x is
 own_event (CopyMove cvd) w fits x is = own_in (λ d. copy_for cvd d d.plan) (first_set (numbered cvd) w.sets) (λ d y said_. own_copy cvd d d.plan y said_) x is

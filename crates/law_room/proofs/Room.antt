@@ -12,7 +12,6 @@ use Rattle.ov_layout.specs.Changes.{extents_of}
 use Rattle.ov_model.specs.Moves as moves
 use Rattle.ov_model.specs.Moves.{Move, Drop as DropMove}
 use Rattle.ov_model.specs.World.{World}
-use Rattle.ov_catalog.specs.Applying.{is_built_event}
 use Rattle.ov_catalog.specs.Events.{Event, applied}
 use Rattle.ov_catalog.specs.Extents.{brought, covers, has_page, live}
 use Rattle.ov_catalog.specs.Numbers.{Numbers}
@@ -42,18 +41,7 @@ runs_of (says.Flip cvd) list segment brings = absurd brings
 runs_of (says.Drop cvd) list segment brings = absurd brings
 runs_of (says.Base next) list segment brings = absurd brings
 runs_of (says.Whole said) list segment brings = absurd brings
-runs_of (says.Wide cvd vid message columns parents rows fresh place added l s) list segment brings = absurd brings
-
-built_placed : (list : List ℕ) (l s : Extent) (e : raw.Event) → BringsRuns e list → is_built_event (with_extents l s e) ≡ true
-built_placed list l s (says.Init name schema rows a b) brings = refl
-built_placed list l s (says.Commit cvd vid message parents rows fresh place added a b) brings = refl
-built_placed list l s (says.Plan cvd p q targets) brings = absurd brings
-built_placed list l s (says.Copy cvd count b) brings = refl
-built_placed list l s (says.Flip cvd) brings = absurd brings
-built_placed list l s (says.Drop cvd) brings = absurd brings
-built_placed list l s (says.Base next) brings = absurd brings
-built_placed list l s (says.Whole said) brings = absurd brings
-built_placed list l s (says.Wide cvd vid message columns parents rows fresh place added a b) brings = absurd brings
+runs_of (says.Wide cvd vid message columns parents rows fresh place added l s) list segment brings = tt
 
 abbrev writes_brought : (m : Move) (w : World) (b : Brought) → IsUnplaced b → Brings m w b → Writes m w
 writes_brought m w b unplaced brings =
@@ -300,16 +288,16 @@ within_made entry before old new m w b within unplaced brings made grows same = 
         in let come : covers (brought (event_in e)) page ≡ covers (made.l ∷ extents_of made.s) page = same_covers (brought (event_in e)) (made.l ∷ extents_of made.s) (brought_placed (live old.numbers) b.list.items made.l made.s b.event unplaced.runs made.placed.list_run) page
         in omega (
           arith,
-          all_below page (omega (arith, some, now, come, live_applied page e old.numbers (built_placed b.list.items made.l made.s b.event unplaced.runs) (apart_placed b.list.items made.l made.s b.event old.numbers unplaced.runs), brought_covers made.l made.s page)),
+          all_below page (omega (arith, some, now, come, live_applied page e old.numbers (apart_placed b.list.items made.l made.s b.event old.numbers unplaced.runs), brought_covers made.l made.s page)),
         )
 
 bare_covers : (e : raw.Event) (n : Numbers Extent Extent) (page : ℕ) → IsBare e → IsApart e n → covers (live (applied (event_in e) n)) page ≤ covers (live n) page
 bare_covers (says.Init name schema rows l s) n page bare apart = absurd bare
 bare_covers (says.Commit cvd vid message parents rows fresh place added l s) n page bare apart = absurd bare
-bare_covers (says.Plan cvd p q targets) n page bare apart = omega (arith, live_applied page (says.Plan cvd p q targets) n refl apart)
+bare_covers (says.Plan cvd p q targets) n page bare apart = omega (arith, live_applied page (says.Plan cvd p q targets) n apart)
 bare_covers (says.Copy cvd count s) n page bare apart = absurd bare
-bare_covers (says.Flip cvd) n page bare apart = omega (arith, live_applied page (says.Flip cvd) n refl apart)
-bare_covers (says.Drop cvd) n page bare apart = omega (arith, live_applied page (says.Drop cvd) n refl apart)
+bare_covers (says.Flip cvd) n page bare apart = omega (arith, live_applied page (says.Flip cvd) n apart)
+bare_covers (says.Drop cvd) n page bare apart = omega (arith, live_applied page (says.Drop cvd) n apart)
 bare_covers (says.Base next) n page bare apart = absurd bare
 bare_covers (says.Whole said) n page bare apart = absurd bare
 bare_covers (says.Wide cvd vid message columns parents rows fresh place added l s) n page bare apart = absurd bare

@@ -121,7 +121,7 @@ module _ (w : World) (held : Held) (s : State) (at : IsAtWorld w held s) (c : Im
     by = record {
       journal = subst (IsJournal (kept_by held.journal at.payloads)) (sym journal_same) at.stands.journal;
       spell = at.stands.spell;
-      stands = subst (λ bytes. StandsFor at.events (readings_of bytes) w) (sym pages_same) at.stands.stands;
+      stands = subst (λ bytes. StandsFor held.journal.format at.events (readings_of bytes) w) (sym pages_same) at.stands.stands;
       epoch = at.stands.epoch;
       format = at.stands.format;
       records = at.stands.records;
@@ -147,7 +147,7 @@ at_same_areas w held old new told pages journal at =
       stands = record {
         journal = subst (λ (a : Stored). IsJournal kept a.bytes) (sym journal) at.stands.journal;
         spell = at.stands.spell;
-        stands = subst (λ (a : Stored). StandsFor at.events (readings_of a.bytes) w) (sym pages) at.stands.stands;
+        stands = subst (λ (a : Stored). StandsFor held.journal.format at.events (readings_of a.bytes) w) (sym pages) at.stands.stands;
         epoch = at.stands.epoch;
         format = at.stands.format;
         records = at.stands.records;

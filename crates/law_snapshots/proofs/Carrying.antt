@@ -1,5 +1,5 @@
 -- Each event that applies leaves datasets that a Whole may say, whose numbers ascend and whose names differ.
-use Rattle.std.proofs.Common.{◌≡◌, ◌≤◌, ◌<◌, ℕ, ◌+◌, Bool, true, false, ◌&&◌, ◌||◌, ◌==◌, List, [], ◌∷◌, ◌++◌, length, map, refl, sym, ap, subst, ◌∙◌, arith, length-append}
+use Rattle.std.proofs.Common.{◌≡◌, ◌≤◌, ◌<◌, ℕ, ◌+◌, Bool, true, false, ◌&&◌, ◌||◌, ◌==◌, List, [], ◌∷◌, ◌++◌, length, map, refl, sym, ap, subst, ◌∙◌, inl, inr, arith, length-append}
 use Rattle.std.specs.Prelude.{cond, filter, find, nat_le, nat_lt, not, Option, Some, None, if◌then◌else◌}
 use Rattle.std.specs.List.{list_all, list_any, AllByRecursion}
 use Rattle.std.specs.Option.{option_or}
@@ -13,6 +13,7 @@ use Rattle.ov_event.specs.declared.whole.RawPlan.{RawPlan}
 use Rattle.ov_host.specs.declared.area.Extent.{Extent}
 use Rattle.ov_layout.specs.Changes.{extents_of}
 use Rattle.ov_value.specs.Naming.{is_name}
+use Rattle.ov_model.specs.Lists.{IsIn}
 use Rattle.ov_catalog.specs.declared.field.Field.{Field}
 use Rattle.ov_catalog.specs.declared.field.Field.TheVariants as off
 use Rattle.ov_catalog.specs.Applying.{AllFollow, AtStart, Beyond, InSnapshot, Reach, Stage, base_off, format_off, number_off, of_live, off_at, stage_after, start_of}
@@ -358,3 +359,11 @@ all_carried stage (e ∷ events) n is beside follow =
 
 pub all_whole : (format : ℕ) (events : List raw.Event) → AllFollow (start_of format) events nothing_yet → AreWhole (numbers_in events)
 all_whole format events follow = all_carried (start_of format) events nothing_yet nothing_whole tt follow
+
+one_of : (sets : List (SetNumbers Extent Extent)) (d : SetNumbers Extent Extent) → AllByRecursion IsWhole sets → IsIn sets d → IsWhole d
+one_of [] d all is = absurd is
+one_of (x ∷ sets) d all (inl same) = subst IsWhole (sym same) all.0
+one_of (x ∷ sets) d all (inr later) = one_of sets d all.1 later
+
+pub one_whole : (format : ℕ) (events : List raw.Event) (d : SetNumbers Extent Extent) → AllFollow (start_of format) events nothing_yet → IsIn (numbers_in events).sets d → IsWhole d
+one_whole format events d follow is = one_of (numbers_in events).sets d (all_whole format events follow).each is

@@ -10,11 +10,10 @@ use Rattle.ov_host.specs.declared.area.Extent.{Extent}
 use Rattle.ov_value.specs.Naming.{is_name}
 use Rattle.ov_catalog.specs.declared.field.Field.{Field}
 use Rattle.ov_catalog.specs.declared.field.Field.TheVariants as off
-use Rattle.ov_catalog.specs.Applying.{AllApply, AllFollow, AtStart, InSnapshot, Stage, number_off, off_at, start_of}
-use Rattle.ov_catalog.specs.Events.{applied}
+use Rattle.ov_catalog.specs.Applying.{AllFollow, InSnapshot, Stage, number_off, off_at, start_of}
 use Rattle.ov_catalog.specs.Numbers.{SetNumbers, Numbers, nothing_yet}
 use Rattle.ov_catalog.specs.Planning.{ascend_from}
-use Rattle.ov_catalog.specs.Raw.{event_in, whole_in}
+use Rattle.ov_catalog.specs.Raw.{whole_in}
 use Rattle.ov_catalog.specs.Testing.{is_named, is_schema, name_off, off_unless}
 use Rattle.ov_catalog.specs.Wholes.{are_versions, are_records, are_parts, is_plan, is_threshold_for, are_placed, whole_off}
 use Rattle.law_snapshots.proofs.Saying.{whole_back}
@@ -137,14 +136,3 @@ snapshot_follows format n is = (
   passes_last (nat_le 1 n.next) off.Number (le-leb 1 n.next is.next),
   wholes_follow format n.next 0 [] n.sets (record { few = (let few = is.few in omega (arith, few)); rise = is.rise; below = is.below; names = is.names; each = is.each }),
 )
-
--- a snapshot's events ask for no format
-wholes_apply : (next last : ℕ) (sets : List Set) (n : Numbers Extent Extent) → AllFollow (within 2 next last) (map (λ d. says.Whole (said_whole d)) sets) n
-    → AllApply (InSnapshot next last) (map (λ d. says.Whole (said_whole d)) sets) n
-wholes_apply next last [] n follow = tt
-wholes_apply next last (d ∷ sets) n follow = (follow.0, wholes_apply next d.number sets (applied (event_in (says.Whole (said_whole d))) n) follow.1)
-
-pub snapshot_applies : (n : Numbers Extent Extent) → AreWhole n → AllApply AtStart (snapshot_in n) nothing_yet
-snapshot_applies n is =
-    let follow = snapshot_follows 2 n is
-    in (follow.0, wholes_apply n.next 0 n.sets (applied (event_in (says.Base n.next)) nothing_yet) follow.1)

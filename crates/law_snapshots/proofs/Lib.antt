@@ -1,6 +1,5 @@
 pub mod Beginning
 pub mod Carrying
-pub mod Built
 pub mod Committing
 pub mod Copied
 pub mod Flipped

@@ -1,23 +1,17 @@
 -- In each World that moves reach, what is missing comes behind what was copied.
-use Rattle.std.proofs.Common.{◌≡◌, Bool, true, false, List, [], ◌∷◌, length, drop, refl, sym, ◌∙◌, ap, subst, inl, inr}
+use Rattle.std.proofs.Common.{◌≡◌, List, [], ◌∷◌, length, drop, refl, sym, ◌∙◌, ap, subst, inl, inr}
 use Rattle.std.specs.Prelude.{Some}
-use Rattle.ov_model.specs.Built.{is_built, IfBuilt}
 use Rattle.ov_model.specs.Lists.{IsIn, joined}
-use Rattle.ov_model.specs.Moves.{Move, moved}
 use Rattle.ov_model.specs.Plans.{missing_of, missing, current}
 use Rattle.ov_model.specs.World.{Plan, Dataset, World, empty_world_of}
 use Rattle.law_partitions.specs.Pieces.{HasPieces, ArePieces, IsUnderWay, PlanIsUnderWay}
-use Rattle.ov_catalog.specs.Reached.{ByMove, Leads, MayPass, OldCheckpoint, Past, Reached, Suits, passed}
+use Rattle.ov_catalog.specs.Reached.{ByMove, Leads, MayPass, OldCheckpoint, Past, Reached, passed}
 use Rattle.ov_catalog.proofs.Good.{IsGood, good, good_passed}
 use Rattle.law_steps.proofs.Lacking.{drop_front}
 use Rattle.law_steps.proofs.Taking.{IsTaken, PlanIsTaken, AreTaken, goes_on, moved_taken}
 
-built_of : (t : Bool) (P : Type 0) → IfBuilt t P → t ≡ true
-built_of true P is = refl
-built_of false P is = absurd is
-
 passed_taken : (p : Past) (w : World) → MayPass p w → IsGood w → AreTaken w.sets → AreTaken (passed p w).sets
-passed_taken (ByMove m) w may is taken = moved_taken m w (built_of (is_built m) (Suits m w) may) is.sound.placed is.sound.pieces taken
+passed_taken (ByMove m) w may is taken = moved_taken m w is.sound.placed is.sound.pieces taken
 passed_taken OldCheckpoint w may is taken = taken
 
 leads_taken : (ps : List Past) (v w : World) → Leads v ps w → IsGood v → AreTaken v.sets → AreTaken w.sets

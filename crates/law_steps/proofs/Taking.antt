@@ -1,22 +1,27 @@
 -- What was copied for a target are the first of the records that it lacked when its turn came, move by move.
-use Rattle.std.proofs.Common.{◌≡◌, ◌<◌, ℕ, zero, suc, ◌+◌, Bool, true, false, List, [], ◌∷◌, ◌++◌, length, filter, take, drop, get_or, refl, sym, ◌∙◌, ap, subst, arith}
+use Rattle.std.proofs.Common.{◌≡◌, ◌<◌, ℕ, zero, suc, ◌+◌, Bool, true, false, List, [], ◌∷◌, ◌++◌, length, map, filter, take, drop, get_or, refl, sym, ◌∙◌, ap, subst, arith}
 use Rattle.std.specs.Prelude.{if◌then◌else◌, not, nat_lt, Option, Some, None}
-use Rattle.std.proofs.lemmas.List.{append-nil, take-append-drop}
+use Rattle.std.proofs.lemmas.List.{append-nil, map-append, take-append-drop}
+use Rattle.ov_value.specs.declared.column.Column.{Column}
 use Rattle.ov_model.specs.Book.{Version}
-use Rattle.ov_model.specs.Built.{is_built}
 use Rattle.ov_model.specs.Lists.{joined}
-use Rattle.ov_model.specs.Moves.{Move, Init, Commit, BeginPlan, Copy, Flip, Drop, Checkpoint, moved, change, numbered, committed, version_of, with_version, placed_at, new_set}
+use Rattle.ov_model.specs.Moves.{Move, Init, Commit, BeginPlan, Copy, Flip, Drop, Checkpoint, moved, change, numbered, committed, version_of, with_version, placed_at, new_set, wide, wide_plan, wide_rec}
 use Rattle.ov_model.specs.Placed.{AreVersions, IsPlaced, ArePlaced, PlanIs}
 use Rattle.ov_model.specs.Plans.{pieces_of, kept_pieces, records_in, missing_of, missing, current, parts_at, targets_of, planned, copied_for, copied_more, flipped_by, flipped}
-use Rattle.ov_model.specs.Records.{Rec, lacking, ordered_records}
+use Rattle.ov_model.specs.Records.{Rec, is_among, lacking, ordered_records}
 use Rattle.ov_model.specs.World.{Target, Plan, Dataset, World}
+use Rattle.ov_model.proofs.Ordering.{among_wide, filter_wide}
 use Rattle.ov_model.proofs.Placing.{target_at}
 use Rattle.ov_model.proofs.Wanted.{records_in_more}
+use Rattle.ov_model.proofs.Widening.{joined_map, wide_recs}
 use Rattle.law_partitions.specs.Pieces.{AreBelow, NoTwice, IsKept, PlanIsUnderWay, HaveNoRowTwice, HasPieces, ArePieces}
 use Rattle.law_partitions.proofs.MissingAfter.{missing_once}
+use Rattle.law_partitions.proofs.OldMoves.{wide_placed}
 use Rattle.law_partitions.proofs.PieceFlip.{picked}
 use Rattle.law_partitions.proofs.PieceLists.{append_assoc, joined-append}
 use Rattle.law_partitions.proofs.PieceMore.{current_kept, placed_grow}
+use Rattle.law_partitions.proofs.PieceWide.{kept_are, wide_pieces}
+use Rattle.ov_catalog.proofs.Widened.{wide_records_in}
 use Rattle.law_steps.proofs.Lacking.{lacking_both, rest_lacks}
 
 -- what it lacked begins with what was copied
@@ -115,6 +120,40 @@ module _ (v : Version) (d : Dataset) where
     same_missing (current plan) (current_kept d plan way.kept) (target_at (length d.cvd.versions) plan.targets plan.at are) ∙ taken.1,
   )
 
+-- ---- columns more
+
+lacking_wide : (n : ℕ) (rs others : List Rec) → lacking (map (wide_rec n) rs) (map (wide_rec n) others) ≡ map (wide_rec n) (lacking rs others)
+lacking_wide n rs others =
+    filter_wide n (λ r. not (is_among (map (wide_rec n) others) r)) (λ r. not (is_among others r)) rs (λ r. ap not (among_wide n others r))
+
+module _ (column : Column) (more : List Column) (d : Dataset) where
+  abbrev columns_more : ℕ
+  columns_more = length (column ∷ more)
+
+  abbrev wider : Dataset
+  wider = wide (column ∷ more) d
+
+  missing_wide : (t : Target) → missing_of wider t [] ≡ map (wide_rec columns_more) (missing_of d t [])
+  missing_wide t =
+      (λ i. lacking (wide_records_in columns_more d wider refl t.versions i)
+      (joined (kept_are columns_more d wider refl (wide_recs columns_more d.cvd.versions []) t i) ++ []))
+      ∙ ap (λ rs. lacking (map (wide_rec columns_more) (records_in d.cvd t.versions)) rs)
+      (append-nil (joined (map (map (wide_rec columns_more)) (kept_pieces d t))) ∙ joined_map (wide_rec columns_more) (kept_pieces d t)
+      ∙ ap (map (wide_rec columns_more)) (sym (append-nil (joined (kept_pieces d t)))))
+      ∙ lacking_wide columns_more (records_in d.cvd t.versions) (joined (kept_pieces d t) ++ [])
+
+  plan_wide_taken : (plan : Option Plan) → PlanIsTaken d plan → PlanIsTaken wider (wide_plan columns_more plan)
+  plan_wide_taken None taken = tt
+  plan_wide_taken (Some plan) taken = (
+    map (wide_rec columns_more) taken.0,
+    missing_wide (current plan) ∙ ap (map (wide_rec columns_more)) taken.1 ∙ map-append (wide_rec columns_more) (joined plan.copied) taken.0
+        ∙ ap (λ rs. rs ++ map (wide_rec columns_more) taken.0) (sym (joined_map (wide_rec columns_more) plan.copied)),
+  )
+
+wide_taken : (added : List Column) (d : Dataset) → PlanIsTaken d d.plan → PlanIsTaken (wide added d) (wide added d).plan
+wide_taken [] d taken = taken
+wide_taken (column ∷ more) d taken = plan_wide_taken column more d d.plan taken
+
 -- ---- moves
 
 taken-append : (a b : List Dataset) → AreTaken a → AreTaken b → AreTaken (a ++ b)
@@ -139,14 +178,14 @@ taken_changed cvd f changed [] placed pieces are = tt
 taken_changed cvd f changed (d ∷ sets) placed pieces are =
     (change_if (numbered cvd d) f d (changed d placed.0 pieces.0 are.0) are.0, taken_changed cvd f changed sets placed.1 pieces.1 are.1)
 
-pub moved_taken : (m : Move) (w : World) → is_built m ≡ true → ArePlaced w.sets → ArePieces w.sets → AreTaken w.sets → AreTaken (moved m w).sets
-moved_taken (Init name schema rows) w built placed pieces are = taken-append w.sets (new_set w.next name schema rows ∷ []) are (tt, tt)
-moved_taken (Commit cvd parents message [] rows) w built placed pieces are =
-    taken_changed cvd (committed parents message [] rows)
-    (λ d is has taken. version_taken (version_of parents message rows) d d.plan has.plan is.targets taken) w.sets placed pieces are
-moved_taken (Commit cvd parents message (column ∷ added) rows) w built placed pieces are = cc
-moved_taken (BeginPlan cvd p q) w built placed pieces are = taken_changed cvd (planned p q) (λ d is has taken. planned_taken p q d) w.sets placed pieces are
-moved_taken (Copy cvd) w built placed pieces are = taken_changed cvd copied_more (λ d is has taken. copied_if d d.plan has.rows taken) w.sets placed pieces are
-moved_taken (Flip cvd) w built placed pieces are = taken_changed cvd flipped (λ d is has taken. flipped_taken d d.plan refl taken) w.sets placed pieces are
-moved_taken (Drop cvd) w built placed pieces are = taken-filter (λ d. not (numbered cvd d)) w.sets are
-moved_taken Checkpoint w built placed pieces are = are
+pub moved_taken : (m : Move) (w : World) → ArePlaced w.sets → ArePieces w.sets → AreTaken w.sets → AreTaken (moved m w).sets
+moved_taken (Init name schema rows) w placed pieces are = taken-append w.sets (new_set w.next name schema rows ∷ []) are (tt, tt)
+moved_taken (Commit cvd parents message added rows) w placed pieces are =
+    taken_changed cvd (committed parents message added rows)
+    (λ d is has taken. version_taken (version_of parents message rows) (wide added d) (wide added d).plan (wide_pieces added d has).plan (wide_placed added d is).targets
+    (wide_taken added d taken)) w.sets placed pieces are
+moved_taken (BeginPlan cvd p q) w placed pieces are = taken_changed cvd (planned p q) (λ d is has taken. planned_taken p q d) w.sets placed pieces are
+moved_taken (Copy cvd) w placed pieces are = taken_changed cvd copied_more (λ d is has taken. copied_if d d.plan has.rows taken) w.sets placed pieces are
+moved_taken (Flip cvd) w placed pieces are = taken_changed cvd flipped (λ d is has taken. flipped_taken d d.plan refl taken) w.sets placed pieces are
+moved_taken (Drop cvd) w placed pieces are = taken-filter (λ d. not (numbered cvd d)) w.sets are
+moved_taken Checkpoint w placed pieces are = are

@@ -1,5 +1,5 @@
 -- A plan begins in a store with one dataset, and it is that dataset's turn.
-use Rattle.std.proofs.Common.{◌≡◌, List, [], ◌∷◌, ◌++◌, map, refl, inl, inr, arith}
+use Rattle.std.proofs.Common.{◌≡◌, ℕ, List, [], ◌∷◌, ◌++◌, map, refl, sym, subst, inl, inr, arith}
 use Rattle.std.specs.Prelude.{Option, Some, None, codes}
 use Rattle.ov_event.specs.declared.event.Event as raw
 use Rattle.ov_event.specs.declared.event.Event.TheVariants as says
@@ -18,7 +18,7 @@ use Rattle.law_image.specs.Images.{StandsAs}
 use Rattle.law_image.specs.Pages.{readings_of}
 use Rattle.law_image.specs.Worked.{the_image, the_pages, the_rows, the_schema, the_world}
 use Rattle.law_image.proofs.Worked.{the_image_stands}
-use Rattle.law_events.proofs.Committing.{is_move}
+use Rattle.law_events.proofs.Moves.{is_move}
 use Rattle.ov_read.specs.Agreement.{Numbers}
 use Rattle.law_steps.specs.Turns.{IsSeenTurn, running}
 use Rattle.law_steps.specs.Worked.{the_planned}
@@ -27,14 +27,15 @@ use Rattle.law_steps.proofs.Finding.{no_turn, seen_turn}
 -- ---- the events of the store with its dataset
 
 abbrev Stands : Type 0
-Stands = (events : List raw.Event) × StandsFor events (readings_of the_pages) the_world
+Stands = (events : List raw.Event) × StandsFor 2 events (readings_of the_pages) the_world
 
 stands_by : StandsAs the_world the_image → Stands
 stands_by (inl new) = absurd (some_page new.pages)
   where
     some_page : the_pages ≡ [] → ⊥
     some_page e = cc
-stands_by (inr made) = (made.events, made.by.stands)
+stands_by (inr made) =
+    (made.events, subst (λ (format : ℕ). StandsFor format made.events (readings_of the_pages) the_world) (sym made.by.format) made.by.stands)
 
 -- ---- a plan begins
 
@@ -50,9 +51,9 @@ the_plan = says.Plan 1 1 2 (map (λ t. said_of (shown_target the_set t)) (target
 spells : Some (seen_event (readings_of the_pages) the_plan) ≡ asked_event (BeginPlan 1 1 2) the_world
 spells = refl
 
-planned_stands : (s : Stands) → StandsFor (s.0 ++ the_plan ∷ []) (readings_of the_pages) the_planned
+planned_stands : (s : Stands) → StandsFor 2 (s.0 ++ the_plan ∷ []) (readings_of the_pages) the_planned
 planned_stands s =
-    one_more s.0 (readings_of the_pages) the_world the_plan (BeginPlan 1 1 2) s.1
+    one_more 2 s.0 (readings_of the_pages) the_world the_plan (BeginPlan 1 1 2) s.1
     (is_move s.0 (readings_of the_pages) the_world the_plan (BeginPlan 1 1 2) s.1 plan_fits tt spells
     (λ page. omega (arith, s.1.apart.once page)) (λ page some. absurd (omega (arith, some))))
 

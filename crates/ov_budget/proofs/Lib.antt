@@ -1,4 +1,5 @@
 pub mod Chosen
+pub mod Offering
 pub mod Together
 pub mod Divided
 pub mod Listing

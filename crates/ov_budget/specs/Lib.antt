@@ -1,3 +1,4 @@
 pub mod Tables
 pub mod Choices
 pub mod Sizes
+pub mod Offers

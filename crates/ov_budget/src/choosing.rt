@@ -13,7 +13,7 @@ pub struct NoThreshold {
 }
 
 /// Whether a line costs less than another one, or as much and stores less.
-fn is_better(a: &Line, b: &Line) -> bool
+pub(crate) fn is_better(a: &Line, b: &Line) -> bool
     ensures { result ≡ is_better a.now b.now }
 {
     a.cost < b.cost || (a.cost == b.cost && a.stored < b.stored)
@@ -47,7 +47,7 @@ fn choice(table: &[Line], budget: u64) -> Option<(u32, Line)>
 }
 
 /// The least that a line stores.
-fn least_of(table: &[Line]) -> u64
+pub(crate) fn least_of(table: &[Line]) -> u64
     ensures { result ≡ least_of table.now }
 {
     let [first, rest @ ..] = table else {

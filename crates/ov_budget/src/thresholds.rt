@@ -29,7 +29,7 @@ pub struct Line {
 }
 
 /// The line of a split of this depth into these parts.
-fn line_of(depth: u32, sized: &[Sized]) -> Line
+pub(crate) fn line_of(depth: u32, sized: &[Sized]) -> Line
     requires few { length sized.now ≤ 65535 }
     requires short { All (λ one. length one.part.items ≤ 65535) sized.now }
     ensures depth { result.depth ≡ depth }

@@ -10,14 +10,11 @@ use Rattle.ov_event.specs.declared.event.Event.TheVariants as says
 use Rattle.ov_layout.specs.Changes.{extents_of}
 use Rattle.ov_place.specs.declared.place_facts.Place.{Place}
 use Rattle.ov_place.specs.declared.place_facts.Place.TheVariants.{Own, Join}
-use Rattle.ov_catalog.specs.declared.field.Field.{Field}
-use Rattle.ov_catalog.specs.declared.field.Field.TheVariants as field
 use Rattle.ov_event.specs.declared.event.PlanTarget.{PlanTarget}
 use Rattle.ov_catalog.specs.Numbers.{VersionNumbers, PartNumbers, PlanNumbers, SetNumbers, Numbers}
-use Rattle.ov_catalog.specs.Events.{Flip, own_part, with_joined, join_at, parts_with, version_of, new_set, with_version, planned, copied_for, copied_more, numbered, change, applied}
-use Rattle.ov_catalog.specs.Applying.{Beyond, first_off, is_built_event, off_at}
+use Rattle.ov_catalog.specs.Events.{Flip, own_part, with_joined, join_at, parts_with, version_of, new_set, with_columns, with_version, planned, copied_for, copied_more, numbered, change, applied}
 use Rattle.ov_catalog.specs.Extents.{of_plan, of_set, live, brought, given_up, has_page, covers}
-use Rattle.ov_catalog.specs.Raw.{event_in, place_in, shape_in}
+use Rattle.ov_catalog.specs.Raw.{event_in, place_in, shape_in, whole_in}
 use Rattle.ov_catalog.specs.Sources.{FlipFits, IsApart}
 use Rattle.ov_catalog.proofs.FlipCounts.{total, flip_total}
 
@@ -142,30 +139,28 @@ module _ (page : ℕ) where
         covers_total (live n),
       )
 
-  -- an event's extents come, and no others, of the events that are built
-  pub live_applied : (e : raw.Event) (n : Numbers Extent Extent) → is_built_event e ≡ true → IsApart e n
+  -- an event's extents come, and no others
+  pub live_applied : (e : raw.Event) (n : Numbers Extent Extent) → IsApart e n
       → covers (live (applied (event_in e) n)) page ≤ covers (brought (event_in e)) page + covers (live n) page
-  live_applied (says.Init name schema rows list segment) n built apart =
+  live_applied (says.Init name schema rows list segment) n apart =
       let new : SetNumbers Extent Extent = new_set n.next name (shape_in schema) rows list (extents_of segment)
       in let split : covers (flat_map of_set (n.sets ++ new ∷ [])) page ≡ covers (flat_map of_set n.sets ++ flat_map of_set (new ∷ [])) page = ap (λ es. covers es page) (flat_map-append of_set n.sets (new ∷ []))
       in let parts : covers (flat_map (λ p. p.segments) (own_part 1 1 rows (extents_of segment) ∷ [])) page ≡ covers (extents_of segment) page + covers [] page = over_cons (own_part 1 1 rows (extents_of segment)) []
       in omega (arith, split, covers-append (flat_map of_set n.sets) (flat_map of_set (new ∷ [])) page, live_cons new [], set_covers new, parts)
-  live_applied (says.Commit cvd vid message parents rows fresh place added list segment) n built apart =
+  live_applied (says.Commit cvd vid message parents rows fresh place added list segment) n apart =
       change_covers cvd (with_version (version_of parents message rows fresh list) (place_in place) added (extents_of segment)) (list ∷ extents_of segment) n.sets
       (λ d. version_covers (version_of parents message rows fresh list) (place_in place) added (extents_of segment) d)
-  live_applied (says.Drop cvd) n built apart = omega (arith, drop_covers cvd n.sets)
-  live_applied (says.Plan cvd p q targets) n built apart = change_covers cvd (planned p q targets) [] n.sets (plan_covers p q targets)
-  live_applied (says.Copy cvd count segment) n built apart =
+  live_applied (says.Drop cvd) n apart = omega (arith, drop_covers cvd n.sets)
+  live_applied (says.Plan cvd p q targets) n apart = change_covers cvd (planned p q targets) [] n.sets (plan_covers p q targets)
+  live_applied (says.Copy cvd count segment) n apart =
       change_covers cvd (copied_more count (extents_of segment)) (extents_of segment) n.sets (copy_covers count (extents_of segment))
-  live_applied (says.Flip cvd) n built apart = omega (arith, flip_covers cvd n apart)
-  live_applied (says.Base next) n built apart = cc
-  live_applied (says.Whole said) n built apart = cc
-  live_applied (says.Wide cvd vid message columns parents rows fresh place added list segment) n built apart = cc
-
--- an event that applies is one that is built
-pub applies_built : (e : raw.Event) (n : Numbers Extent Extent) → first_off e n ≡ None → is_built_event e ≡ true
-applies_built e n applies = by (is_built_event e) (off_at (record { format = 2; reach = Beyond }) e n) applies
-  where
-    by : (b : Bool) (o : Option Field) → (if b then o else Some field.Number) ≡ None → b ≡ true
-    by true o none = refl
-    by false o none = cc
+  live_applied (says.Flip cvd) n apart = omega (arith, flip_covers cvd n apart)
+  live_applied (says.Base next) n apart = omega arith
+  live_applied (says.Whole said) n apart =
+      let new : SetNumbers Extent Extent = whole_in said
+      in let split : covers (flat_map of_set (n.sets ++ new ∷ [])) page ≡ covers (flat_map of_set n.sets ++ flat_map of_set (new ∷ [])) page = ap (λ es. covers es page) (flat_map-append of_set n.sets (new ∷ []))
+      in omega (arith, split, covers-append (flat_map of_set n.sets) (flat_map of_set (new ∷ [])) page, live_cons new [])
+  live_applied (says.Wide cvd vid message columns parents rows fresh place added list segment) n apart =
+      change_covers cvd (λ d. with_version (version_of parents message rows fresh list) (place_in place) added (extents_of segment) (with_columns columns d))
+      (list ∷ extents_of segment) n.sets
+      (λ d. version_covers (version_of parents message rows fresh list) (place_in place) added (extents_of segment) (with_columns columns d))

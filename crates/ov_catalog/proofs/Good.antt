@@ -2,15 +2,19 @@
 -- and of plans have known records alone, rows are rows of their schema, and all that the laws of partitions say holds, of the
 -- sources of a plan's targets too. And what is asked of a move so that it stays so, which each move that fits has.
 use Rattle.std.proofs.Common.{◌≡◌, ◌<◌, ◌≤◌, ◌^◌, ◌-◌, ℕ, Bool, true, false, ◌==◌, List, [], ◌∷◌, ◌++◌, length, refl, sym, ap, subst, inl, inr, arith}
-use Rattle.std.specs.Prelude.{◌≢◌, nat_lt, if◌then◌else◌, Option, Some, None, unwrap_or}
+use Rattle.std.specs.Prelude.{◌≢◌, nat_lt, if◌then◌else◌, Option, Some, None, unwrap_or, IsTrue, Result, Ok, Err, is_ok}
 use Rattle.std.proofs.lemmas.Bool.{cases_Bool, eqb-true, eq-eqb, ltb-true, ltb-false}
+use Rattle.ov_value.specs.Making.{widened}
 use Rattle.ov_value.specs.Rows.{key_cmp}
+use Rattle.ov_value.specs.Shapes.{Shape}
+use Rattle.ov_value.specs.declared.column.Column.{Column}
+use Rattle.ov_value.specs.declared.schema_err.SchemaErr.{SchemaErr}
 use Rattle.ov_model.specs.Book.{Row}
 use Rattle.ov_model.specs.Holding.{IsHeld, AreHeld, HasAll, AllHaveAll}
 use Rattle.ov_model.specs.Lists.{AllAreIn, Rises}
-use Rattle.ov_model.specs.Moves.{Move, Init, Commit, BeginPlan, Copy, Flip, Drop, Checkpoint, moved, numbered, version_of}
+use Rattle.ov_model.specs.Moves.{Move, Init, Commit, BeginPlan, Copy, Flip, Drop, Checkpoint, moved, numbered, version_of, accepted_or, wide, wide_schema}
 use Rattle.ov_model.specs.Ordered.{PartsAreInOrder, CopiesAreInOrder, HasOrder, HaveOrder}
-use Rattle.ov_model.specs.Placed.{IsPlaced, ArePlaced, HasParents, AllHaveParents}
+use Rattle.ov_model.specs.Placed.{AreThere, IsPlaced, ArePlaced, HasParents, AllHaveParents}
 use Rattle.ov_model.specs.Plans.{missing}
 use Rattle.ov_model.specs.Records.{Rec, order_of}
 use Rattle.ov_model.specs.World.{Part, Plan, Dataset, World, first_set, empty_world_of}
@@ -21,10 +25,11 @@ use Rattle.law_partitions.specs.OldOrNew.{IsOldOrNew, AreOldOrNew}
 use Rattle.law_partitions.specs.Pieces.{HasPieces, ArePieces, AllRiseWith, LacksSome, AllLackSome}
 use Rattle.law_partitions.specs.Sound.{IsSound, MayMove}
 use Rattle.law_partitions.specs.Sources.{PlanIsSourced, AreSourced}
+use Rattle.law_partitions.proofs.CourseMoves.{wide_long}
 use Rattle.law_partitions.proofs.OldMoves.{moved_old}
 use Rattle.law_partitions.proofs.SoundMoves.{empty_sound, moved_sound}
 use Rattle.law_partitions.proofs.SourceMoves.{moved_sourced}
-use Rattle.ov_catalog.specs.Reached.{ByMove, Fits, IfThere, IfRunning, CommitFits, MayPass, OldCheckpoint, Past, PlanFits, MissesSome, MissesNone, Leads, Reached, old_checkpoint, passed}
+use Rattle.ov_catalog.specs.Reached.{ByMove, Fits, IsFormat, IfThere, IfRunning, CommitFits, MayPass, OldCheckpoint, Past, PlanFits, TakesColumns, MissesSome, MissesNone, Leads, Reached, old_checkpoint, passed}
 use Rattle.ov_catalog.specs.Told.{IsRowed, AreRowed, IsTold, BringsTo, AllBringTo, BringsRows}
 use Rattle.ov_catalog.proofs.Ranking.{order_known}
 use Rattle.ov_catalog.proofs.Showing.{PiecesAreIn}
@@ -170,15 +175,15 @@ copied_known : (all : List Rec) (plan : Option Plan) → CopiesAreInOrder all pl
 copied_known all None are = tt
 copied_known all (Some plan) are = order_known all plan.copied are
 
+pub set_known : (d : Dataset) → HasOrder d → IsKnown d
+set_known d has = record {
+  pieces = parts_known (order_of d.cvd.versions) d.parts has.parts;
+  copied = copied_known (order_of d.cvd.versions) d.plan has.plan;
+}
+
 known_of : (sets : List Dataset) → HaveOrder sets → AreKnown sets
 known_of [] have = tt
-known_of (d ∷ sets) have = (
-  record {
-    pieces = parts_known (order_of d.cvd.versions) d.parts have.0.parts;
-    copied = copied_known (order_of d.cvd.versions) d.plan have.0.plan;
-  },
-  known_of sets have.1,
-)
+known_of (d ∷ sets) have = (set_known d have.0, known_of sets have.1)
 
 good_of : (w : World) → AreRowed w.sets → IsSound w → AreOldOrNew w.sets → AreSourced w.sets → IsGood w
 good_of w rowed sound old sourced = record {
@@ -209,6 +214,11 @@ all_if Q P All cvd none more follows sets None e distinct fits = absurd fits
 all_if Q P All cvd none more follows sets (Some d) e distinct fits =
     all_of P All cvd none more d sets (found_only cvd d sets distinct e) (follows d fits)
 
+-- what is accepted is the schema with the columns
+pub accepted_is : (schema : Shape) (answer : Result Shape SchemaErr) → IsTrue (is_ok answer) → answer ≡ Ok (accepted_or schema answer)
+accepted_is schema (Ok made) ok = refl
+accepted_is schema (Err why) ok = cc
+
 module _ (w : World) (distinct : Distinct w.sets) (cvd : ℕ) where
   abbrev there : Option Dataset
   there = first_set (numbered cvd) w.sets
@@ -228,6 +238,34 @@ module _ (w : World) (distinct : Distinct w.sets) (cvd : ℕ) where
     commit_brings =
         all_if (λ d. CommitFits w d (version_of parents message rows)) (λ d. BringsTo d [] rows) (AllBringTo cvd [] rows) cvd tt
         (λ d sets has rest. (has, rest)) (λ d is. record { accepted = tt; fit = (is.rows.rise, is.rows.fit) }) w.sets there refl distinct fits
+
+  -- the same with added columns
+  module _ (parents message : List ℕ) (column : Column) (more : List Column) (rows : List Row) where
+    abbrev all_columns : List Column
+    all_columns = column ∷ more
+
+    abbrev WideFits : Dataset → Type 0
+    WideFits d = TakesColumns w d all_columns × CommitFits w (wide all_columns d) (version_of parents message rows)
+
+    wide_parents : (d : Dataset) → WideFits d → HasParents parents d
+    wide_parents d is = (is.1.parents.some, subst (λ count. AreThere count parents) (wide_long all_columns d) is.1.parents.there)
+
+    wide_may : IfThere WideFits there → MayMove (Commit cvd parents message all_columns rows) w
+    wide_may fits = record {
+      parents = all_if WideFits (HasParents parents) (AllHaveParents cvd parents) cvd tt (λ d sets has rest. (has, rest)) wide_parents w.sets there refl distinct fits;
+      rows = all_if WideFits (λ d. Rises (key_cmp (wide all_columns d).cvd.schema) rows) (AllRiseWith cvd all_columns rows) cvd tt
+          (λ d sets has rest. (has, rest)) (λ d is. is.1.rows.rise) w.sets there refl distinct fits;
+      copy = tt;
+      flip = tt;
+    }
+
+    wide_brings : IfThere WideFits there → AllBringTo cvd all_columns rows w.sets
+    wide_brings fits =
+        all_if WideFits (λ d. BringsTo d all_columns rows) (AllBringTo cvd all_columns rows) cvd tt (λ d sets has rest. (has, rest))
+        (λ d is. record {
+          accepted = accepted_is d.cvd.schema (widened d.cvd.schema all_columns) is.0.accepted;
+          fit = (is.1.rows.rise, is.1.rows.fit);
+        }) w.sets there refl distinct fits
 
   up_to_one : (p q : ℕ) (found : Option Dataset) → IfThere (PlanFits p q) found → (1 ≤ p) × (p ≤ q)
   up_to_one p q None fits = absurd fits
@@ -260,7 +298,7 @@ module _ (w : World) (distinct : Distinct w.sets) (cvd : ℕ) where
 pub fits_may : (m : Move) (w : World) → Fits m w → IsGood w → MayMove m w
 fits_may (Init name schema rows) w fits is = record { parents = tt; rows = fits.sorted.rise; copy = tt; flip = tt }
 fits_may (Commit cvd parents message [] rows) w fits is = commit_may w is.distinct cvd parents message rows fits
-fits_may (Commit cvd parents message (column ∷ added) rows) w fits is = absurd fits
+fits_may (Commit cvd parents message (column ∷ added) rows) w fits is = wide_may w is.distinct cvd parents message column added rows fits
 fits_may (BeginPlan cvd p q) w fits is = record { parents = tt; rows = tt; copy = tt; flip = tt }
 fits_may (Copy cvd) w fits is = record { parents = tt; rows = tt; copy = copy_may w is.distinct cvd fits; flip = tt }
 fits_may (Flip cvd) w fits is = record { parents = tt; rows = tt; copy = tt; flip = flip_may w is.distinct cvd fits }
@@ -277,7 +315,7 @@ fits_due m w fits is = record { may = fits_may m w fits is; begins = fits_begins
 fits_brings : (m : Move) (w : World) → Fits m w → IsGood w → BringsRows m w
 fits_brings (Init name schema rows) w fits is = (fits.sorted.rise, fits.sorted.fit)
 fits_brings (Commit cvd parents message [] rows) w fits is = commit_brings w is.distinct cvd parents message rows fits
-fits_brings (Commit cvd parents message (column ∷ added) rows) w fits is = absurd fits
+fits_brings (Commit cvd parents message (column ∷ added) rows) w fits is = wide_brings w is.distinct cvd parents message column added rows fits
 fits_brings _ w fits is = tt
 
 -- ---- moves
@@ -331,6 +369,24 @@ leads_more (p ∷ ps) m v w leads fits = (leads.0, leads_more ps m (passed p v) 
 pub reached_more : (m : Move) (w : World) → Reached w → Fits m w → Reached (moved m w)
 reached_more m w reached fits =
     (reached.0, reached.1, reached.2 ++ ByMove m ∷ [], leads_more reached.2 m (empty_world_of reached.0) w reached.3 fits)
+
+-- the format number of a World that moves reach is a known one
+format_passed : (p : Past) (w : World) → IsFormat w.format → IsFormat (passed p w).format
+format_passed (ByMove (Init name schema rows)) w is = is
+format_passed (ByMove (Commit cvd parents message added rows)) w is = is
+format_passed (ByMove (BeginPlan cvd p q)) w is = is
+format_passed (ByMove (Copy cvd)) w is = is
+format_passed (ByMove (Flip cvd)) w is = is
+format_passed (ByMove (Drop cvd)) w is = is
+format_passed (ByMove Checkpoint) w is = inr refl
+format_passed OldCheckpoint w is = is
+
+format_leads : (ps : List Past) (v w : World) → Leads v ps w → IsFormat v.format → IsFormat w.format
+format_leads [] v w leads is = subst (λ x. IsFormat x.format) leads is
+format_leads (p ∷ ps) v w leads is = format_leads ps (passed p v) w leads.1 (format_passed p v is)
+
+pub known_format : (w : World) → Reached w → IsFormat w.format
+known_format w reached = format_leads reached.2 (empty_world_of reached.0) w reached.3 reached.1
 
 -- one checkpoint more that leaves format 1
 leads_old : (ps : List Past) (v w : World) → Leads v ps w → MayPass OldCheckpoint w → Leads v (ps ++ OldCheckpoint ∷ []) (old_checkpoint w)

@@ -3,6 +3,8 @@ pub mod Showing
 pub mod ToldMoves
 pub mod Good
 pub mod Migrating
+pub mod Widened
+pub mod WideLemmas
 pub mod Moving
 pub mod Covering
 pub mod Emptying

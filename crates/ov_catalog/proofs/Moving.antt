@@ -1,36 +1,41 @@
 -- Events are moves: the event of a move makes of a World's numbers those of the World after it.
 use Rattle.std.proofs.Common.{◌≡◌, ◌<◌, ℕ, ◌+◌, Bool, true, false, ◌==◌, List, [], ◌∷◌, ◌++◌, length, map, filter, refl, sym, ◌∙◌, ap, subst}
-use Rattle.std.specs.Prelude.{◌≢◌, not, take, if◌then◌else◌, Option, Some, None, is_some, unwrap_or, codes}
+use Rattle.std.specs.Prelude.{◌≢◌, not, take, if◌then◌else◌, Option, Some, None, Ok, is_some, unwrap_or, codes}
 use Rattle.std.proofs.lemmas.Bool.{eqb-true}
 use Rattle.std.proofs.lemmas.List.{map-append, append-nil, append_assoc}
+use Rattle.ov_value.specs.Making.{widened}
 use Rattle.ov_value.specs.Rows.{key_cmp}
 use Rattle.ov_value.specs.Shapes.{Shape}
+use Rattle.ov_value.specs.declared.column.Column.{Column}
 use Rattle.ov_model.specs.Book.{Row, Version}
 use Rattle.ov_model.specs.Lists.{Rises}
 use Rattle.ov_model.specs.Moves as moves
-use Rattle.ov_model.specs.Moves.{Move, numbered, moved, committed, version_of, placed_at, piece_of, wide}
+use Rattle.ov_model.specs.Moves.{Move, numbered, moved, committed, version_of, placed_at, piece_of, wide, wide_schema, with_version}
 use Rattle.ov_model.specs.Plans.{parts_at, targets_of, planned, missing, copied_more, flipped}
 use Rattle.ov_model.specs.Records.{Rec, AllRise, recs, records_of, order_of}
 use Rattle.ov_model.specs.Ordered.{HasOrder}
 use Rattle.ov_model.specs.Placed.{IsPlaced}
 use Rattle.ov_model.specs.World.{Dataset, World, first_set}
 use Rattle.ov_model.specs.World as worlds
+use Rattle.ov_model.proofs.Ordering.{wide_ordered}
 use Rattle.ov_model.proofs.Rids.{rows_once, order_of_once}
 use Rattle.ov_event.specs.declared.event.Event as raw
 use Rattle.ov_event.specs.declared.event.PlanTarget.{PlanTarget}
 use Rattle.ov_host.specs.declared.area.Extent.{Extent}
 use Rattle.ov_catalog.specs.Numbers.{SetNumbers, Numbers, nothing_yet}
 use Rattle.ov_catalog.specs.Events as events
-use Rattle.ov_catalog.specs.Events.{Event, applied, replayed}
-use Rattle.ov_catalog.specs.Reached.{Suits, Fits, IfThere, IfRunning, CommitFits, PlanFits, TakesColumns, MissesSome, MissesNone}
+use Rattle.ov_catalog.specs.Events.{Event, applied, replayed, with_columns}
+use Rattle.ov_catalog.specs.Reached.{Fits, IfThere, IfRunning, CommitFits, PlanFits, TakesColumns, MissesSome, MissesNone}
 use Rattle.ov_catalog.specs.Shown.{Rids, Records, segment_of, shown_version, shown_target, shown_set, shown, added_to, init_event, commit_event, wide_event, said_of, plan_event, copy_event, copy_for, in_set, commit_in, event_of, snapshot_of}
 use Rattle.ov_catalog.specs.Raw.{numbers_in}
 use Rattle.ov_catalog.specs.Snapshots.{IsSnapshot, events_of}
-use Rattle.ov_catalog.proofs.Good.{NoneNumbered, Distinct, IsGood, IsKnown, found_known, found_placed, found_pieces, found_rowed, found_ordered}
+use Rattle.ov_catalog.proofs.Good.{NoneNumbered, Distinct, IsGood, IsKnown, accepted_is, found_placed, found_pieces, found_rowed, found_ordered, set_known}
 use Rattle.ov_catalog.specs.Told.{IsRowed}
 use Rattle.ov_catalog.proofs.Migrating.{planned_shown, copied_shown, flipped_shown}
 use Rattle.ov_catalog.proofs.Showing.{version_shown, new_shown}
-use Rattle.ov_catalog.proofs.ToldMoves.{all_rise}
+use Rattle.ov_catalog.proofs.ToldMoves.{all_rise, wide_rowed}
+use Rattle.ov_catalog.proofs.Widened.{wide_shown}
+use Rattle.law_partitions.proofs.OldMoves.{wide_placed}
 
 pub some_same : {A : Type 0} (a b : A) → Some a ≡ Some b → a ≡ b
 some_same a b e = ap (λ o. unwrap_or o a) e
@@ -82,25 +87,51 @@ rise_more : (schema : Shape) (vs : List Version) (v : Version) → AllRise schem
 rise_more schema [] v rise more = (more, tt)
 rise_more schema (w ∷ vs) v rise more = (rise.0, rise_more schema vs v rise.1 more)
 
+-- a version that comes to a dataset
+module _ (d : Dataset) (v : Version) (placed : IsPlaced d) (rowed : IsRowed d) (ordered : HasOrder d) (rises : Rises (key_cmp d.cvd.schema) v.rows) where
+  pub comes_shown : shown_set (with_version v d) ≡ committed_numbers d v (shown_set d)
+  comes_shown =
+      let known : IsKnown d = set_known d ordered
+      in let rise : AllRise d.cvd.schema (d.cvd.versions ++ v ∷ []) = rise_more d.cvd.schema d.cvd.versions v (all_rise d.cvd.schema d.cvd.versions rowed.rows) rises
+      in version_shown d v known.pieces placed.ids_once placed.targets ordered.plan
+      (rows_once d.cvd.schema v.parents (recs d.cvd.versions []) v.rows rises) (order_of_once d.cvd.schema (d.cvd.versions ++ v ∷ []) rise)
+
 commit_shown : (cvd : ℕ) (parents message : List ℕ) (rows : List Row) (w : World) (found : Option Dataset) → first_set (numbered cvd) w.sets ≡ found
     → IfThere (λ d. CommitFits w d (version_of parents message rows)) found → IsGood w
     → (e : Event Rids Records) → commit_in cvd (version_of parents message rows) found ≡ Some e
     → shown (moved (moves.Commit cvd parents message [] rows) w) ≡ applied e (shown w)
 commit_shown cvd parents message rows w None e fits is event said = absurd fits
 commit_shown cvd parents message rows w (Some d) e fits is event said =
-    let known : IsKnown d = found_known cvd d w.sets is.known e
-    in let placed : IsPlaced d = found_placed cvd d w.sets is.sound.placed e
-    in let rowed : IsRowed d = found_rowed cvd d w.sets is.rowed e
-    in let ordered : HasOrder d = found_ordered cvd d w.sets is.sound.ordered e
-    in let v : Version = version_of parents message rows
-    in let rise : AllRise d.cvd.schema (d.cvd.versions ++ v ∷ []) = rise_more d.cvd.schema d.cvd.versions v (all_rise d.cvd.schema d.cvd.versions rowed.rows) fits.rows.rise
+    let v : Version = version_of parents message rows
     in subst (λ x. shown (moved (moves.Commit cvd parents message [] rows) w) ≡ applied x (shown w))
     (some_same (commit_event cvd d v) event said)
     (λ i. record {
       next = w.next;
       sets = changed_shown cvd (committed parents message [] rows) (committed_numbers d v) d w.sets is.distinct e
-          (version_shown d v known.pieces placed.ids_once placed.targets ordered.plan
-          (rows_once d.cvd.schema parents (recs d.cvd.versions []) rows fits.rows.rise) (order_of_once d.cvd.schema (d.cvd.versions ++ v ∷ []) rise)) i;
+          (comes_shown d v (found_placed cvd d w.sets is.sound.placed e) (found_rowed cvd d w.sets is.rowed e) (found_ordered cvd d w.sets is.sound.ordered e) fits.rows.rise) i;
+    })
+
+-- a version that comes with columns
+wide_event_shown : (cvd : ℕ) (parents message : List ℕ) (column : Column) (more : List Column) (rows : List Row) (w : World) (found : Option Dataset)
+    → first_set (numbered cvd) w.sets ≡ found
+    → IfThere (λ d. TakesColumns w d (column ∷ more) × CommitFits w (wide (column ∷ more) d) (version_of parents message rows)) found → IsGood w
+    → (e : Event Rids Records) → in_set (λ d. Some (wide_event cvd (column ∷ more) (wide (column ∷ more) d) (version_of parents message rows))) found ≡ Some e
+    → shown (moved (moves.Commit cvd parents message (column ∷ more) rows) w) ≡ applied e (shown w)
+wide_event_shown cvd parents message column more rows w None e fits is event said = absurd fits
+wide_event_shown cvd parents message column more rows w (Some d) e fits is event said =
+    let v : Version = version_of parents message rows
+    in let columns : List Column = column ∷ more
+    in let wider : Dataset = wide columns d
+    in let accepted : widened d.cvd.schema columns ≡ Ok (wide_schema d.cvd.schema columns) = accepted_is d.cvd.schema (widened d.cvd.schema columns) fits.0.accepted
+    in let same : shown_set (committed parents message columns rows d) ≡ committed_numbers wider v (with_columns columns (shown_set d)) =
+    comes_shown wider v (wide_placed columns d (found_placed cvd d w.sets is.sound.placed e))
+    (wide_rowed columns d accepted (found_rowed cvd d w.sets is.rowed e)) (wide_ordered columns d (found_ordered cvd d w.sets is.sound.ordered e)) fits.1.rows.rise
+    ∙ ap (committed_numbers wider v) (wide_shown column more d)
+    in subst (λ x. shown (moved (moves.Commit cvd parents message columns rows) w) ≡ applied x (shown w))
+    (some_same (wide_event cvd columns wider v) event said)
+    (λ i. record {
+      next = w.next;
+      sets = changed_shown cvd (committed parents message columns rows) (λ s. committed_numbers wider v (with_columns columns s)) d w.sets is.distinct e same i;
     })
 
 plan_shown : (cvd p q : ℕ) (w : World) (found : Option Dataset) → first_set (numbered cvd) w.sets ≡ found → IfThere (PlanFits p q) found → IsGood w
@@ -150,7 +181,8 @@ events_are_moves (moves.Init name schema rows) w fits is e said =
           ∙ ap (λ d. map shown_set w.sets ++ d ∷ []) (new_shown w.next name schema rows (version_of [] (codes "init") rows) refl)) i;
     })
 events_are_moves (moves.Commit cvd parents message [] rows) w fits is e said = commit_shown cvd parents message rows w (first_set (numbered cvd) w.sets) refl fits is e said
-events_are_moves (moves.Commit cvd parents message (column ∷ added) rows) w fits is e said = absurd fits
+events_are_moves (moves.Commit cvd parents message (column ∷ added) rows) w fits is e said =
+    wide_event_shown cvd parents message column added rows w (first_set (numbered cvd) w.sets) refl fits is e said
 events_are_moves (moves.BeginPlan cvd p q) w fits is e said = plan_shown cvd p q w (first_set (numbered cvd) w.sets) refl fits is e said
 events_are_moves (moves.Copy cvd) w fits is e said = copy_shown cvd w (first_set (numbered cvd) w.sets) refl fits is e said
 events_are_moves (moves.Flip cvd) w fits is e said =
@@ -178,7 +210,7 @@ copy_some cvd (Some d) fits = by d.plan fits
     by None runs = absurd runs
     by (Some p) runs = refl
 
-pub one_event : (m : Move) (w : World) → m ≢ moves.Checkpoint → Suits m w → is_some (event_of m w) ≡ true
+pub one_event : (m : Move) (w : World) → m ≢ moves.Checkpoint → Fits m w → is_some (event_of m w) ≡ true
 one_event (moves.Init name schema rows) w other suits = refl
 one_event (moves.Commit cvd parents message [] rows) w other suits =
     commit_some cvd (version_of parents message rows) (first_set (numbered cvd) w.sets) (λ d. CommitFits w d (version_of parents message rows)) suits

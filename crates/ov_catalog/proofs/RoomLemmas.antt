@@ -117,6 +117,7 @@ space-stays (kept_for.Init spare) old new same more h =
     let few = h.2 in
     (h.0, omega (arith, long, more, fits), omega (arith, long, few))
 space-stays (kept_for.Commit cvd place) old new same more h = subst (λ (ds : List Cvd). All (FitsNumbered cvd (place_in place)) ds) (sym same) h
+space-stays (kept_for.Wide cvd place schema) old new same more h = subst (λ (ds : List Cvd). All (FitsNumbered cvd (place_in place)) ds) (sym same) h
 space-stays (kept_for.Plan cvd plan) old new same more h = subst (λ (ds : List Cvd). All (CanBeginIn cvd plan) ds) (sym same) h
 space-stays (kept_for.Copy cvd) old new same more h = subst (λ (ds : List Cvd). All (HasSegmentIn cvd) ds) (sym same) h
 space-stays (kept_for.Flip cvd versions) old new same more h = subst (λ (ds : List Cvd). All (MayFlipIn cvd versions.items) ds) (sym same) h

@@ -15,19 +15,20 @@ use Rattle.ov_place.specs.Placement.{placed, is_budgeted}
 use Rattle.ov_place.specs.declared.place_facts.Place.{Place}
 use Rattle.ov_place.specs.declared.place_facts.Place.TheVariants.{Own, Join}
 use Rattle.ov_layout.specs.Changes.{extents_of}
+use Rattle.ov_value.specs.declared.column.Column.{Column}
 use Rattle.ov_model.specs.Records.{counted}
 use Rattle.ov_model.proofs.Counting.{listed, stays_times}
 use Rattle.law_partitions.proofs.PieceFlip.{is_listed}
 use Rattle.ov_catalog.specs.declared.field.Field.{Field}
 use Rattle.ov_catalog.specs.declared.field.Field.TheVariants as off
 use Rattle.ov_catalog.specs.Numbers.{VersionNumbers, PartNumbers, PlanNumbers, SetNumbers, Numbers, nothing_yet}
-use Rattle.ov_catalog.specs.Events.{own_part, with_joined, join_at, parts_with, version_of, with_version, planned, copied_more, is_one, leaving, is_empty, left_parts, current, target_part, flipped_by, flipped, numbered, change, applied, replayed}
-use Rattle.ov_catalog.specs.Applying.{AllApply, AtStart, Reach, first_off, next_off, off_unless, commit_off, of_live, are_distinct, are_parents, is_count, is_list, is_parent, is_segment, facts_of, is_place, part_serving, rows_at, id_in, set_numbered}
+use Rattle.ov_catalog.specs.Events.{own_part, with_joined, join_at, parts_with, version_of, with_columns, with_version, planned, copied_more, is_one, leaving, is_empty, left_parts, current, target_part, flipped_by, flipped, numbered, change, applied, replayed}
+use Rattle.ov_catalog.specs.Applying.{AllFollow, Stage, columns_off, first_off, format_off, message_off, off_at, off_unless, start_of, version_off, vid_off, wide_off, commit_off, of_live, are_distinct, are_parents, is_count, is_list, is_parent, is_segment, facts_of, is_place, part_serving, rows_at, id_in, set_numbered}
 use Rattle.ov_catalog.specs.Planning.{ascend_from, plan_off, of_running, copy_off, flip_off}
 use Rattle.ov_catalog.specs.Raw.{event_in, place_in, numbers_in, whole_in}
 use Rattle.ov_catalog.specs.Wholes.{are_parts, is_part, parts_serving, targets_left, whole_off}
 use Rattle.ov_catalog.proofs.CommitLemmas.{heaviest-passes}
-use Rattle.ov_catalog.proofs.Following.{along, apply_more, by_next}
+use Rattle.ov_catalog.proofs.Following.{along, by_next, follow_more}
 use Rattle.ov_catalog.proofs.WholeTests.{passes}
 
 pub and_both : (a b : Bool) → (a && b) ≡ true → (a ≡ true) × (b ≡ true)
@@ -254,13 +255,43 @@ pub live_found : (test : Set → Option Field) (found : Option Set) → of_live 
 live_found test None h = absurd cc
 live_found test (Some d) h = (d, refl, h)
 
-pub served_more_by : (e : raw.Event) (n : Numbers Extent Extent) → first_off e n ≡ None → AllServed n.sets → AllServed (applied (event_in e) n).sets
-served_more_by (says.Init name schema rows list segment) n h all =
+-- where a store takes columns, what comes behind the test of its format
+pub behind_format : (format : ℕ) (rest : Option Field) → option_or (format_off format) rest ≡ None → rest ≡ None
+behind_format format rest h = (off_none (format == 2) off.Number rest h).1
+
+-- a Wide that applies would apply as a Commit
+pub wide_commits : {L S : Type 0} (vid : ℕ) (message : List ℕ) (columns : List Column) (parents : List (ℕ × ℕ)) (rows fresh : ℕ) (place : Place) (added : ℕ) (list segment : Extent)
+    (d : SetNumbers L S) → wide_off vid message columns parents rows fresh place added list segment d ≡ None
+    → commit_off vid message parents rows fresh place added list segment d ≡ None
+wide_commits vid message columns parents rows fresh place added list segment d h =
+    by (vid_off vid d) (message_off message) (columns_off columns d) (version_off parents rows fresh place added list segment d) h
+  where
+    by : (a b c rest : Option Field) → option_or a (option_or b (option_or c rest)) ≡ None → option_or a (option_or b rest) ≡ None
+    by None None None rest e = e
+    by None None (Some field) rest e = absurd cc
+    by None (Some field) c rest e = e
+    by (Some field) b c rest e = e
+
+-- and where the columns are accepted, the other way round
+pub commit_widens : {L S : Type 0} (vid : ℕ) (message : List ℕ) (columns : List Column) (parents : List (ℕ × ℕ)) (rows fresh : ℕ) (place : Place) (added : ℕ) (list segment : Extent)
+    (d : SetNumbers L S) → commit_off vid message parents rows fresh place added list segment d ≡ None → columns_off columns d ≡ None
+    → wide_off vid message columns parents rows fresh place added list segment d ≡ None
+commit_widens vid message columns parents rows fresh place added list segment d h accepted =
+    by (vid_off vid d) (message_off message) (columns_off columns d) (version_off parents rows fresh place added list segment d) h accepted
+  where
+    by : (a b c rest : Option Field) → option_or a (option_or b rest) ≡ None → c ≡ None → option_or a (option_or b (option_or c rest)) ≡ None
+    by None None None rest e accepted = e
+    by None None (Some field) rest e accepted = absurd cc
+    by None (Some field) c rest e accepted = e
+    by (Some field) b c rest e accepted = e
+
+pub served_more_by : (format : ℕ) (e : raw.Event) (n : Numbers Extent Extent) → first_off format e n ≡ None → AllServed n.sets → AllServed (applied (event_in e) n).sets
+served_more_by format (says.Init name schema rows list segment) n h all =
     all_append n.sets _ all
     (λ vid some within.
     let one : 1 ≡ vid = omega (arith, some, within) in
     subst (λ (v : ℕ). IsServed (own_part 1 1 rows (extents_of segment) ∷ []) v) one (inl (has_last [] 1)))
-served_more_by (says.Commit cvd vid message parents rows fresh place added list segment) n h all =
+served_more_by format (says.Commit cvd vid message parents rows fresh place added list segment) n h all =
     let found = live_found (commit_off vid message parents rows fresh (place_in place) added list segment) (set_numbered cvd n) h in
     let d = found.0 in
     let served = found_served cvd n.sets d found.1 all in
@@ -268,19 +299,28 @@ served_more_by (says.Commit cvd vid message parents rows fresh place added list 
     (version_served (version_of parents message rows fresh list) (place_in place) added (extents_of segment) d
     (place_there vid message parents rows fresh (place_in place) added list segment d found.2 served) served)
     all
-served_more_by (says.Drop cvd) n h all = all_filter (λ d. not (numbered cvd d)) n.sets all
-served_more_by (says.Plan cvd p q targets) n h all =
+served_more_by format (says.Drop cvd) n h all = all_filter (λ d. not (numbered cvd d)) n.sets all
+served_more_by format (says.Plan cvd p q targets) n h all =
     let found = live_found (plan_off p q targets) (set_numbered cvd n) h in
     all_change cvd (planned p q targets) found.0 n.sets found.1 (found_served cvd n.sets found.0 found.1 all) all
-served_more_by (says.Copy cvd count segment) n h all =
+served_more_by format (says.Copy cvd count segment) n h all =
     let found = live_found (λ d. of_running (copy_off count segment) d.plan) (set_numbered cvd n) h in
     all_change cvd (copied_more count (extents_of segment)) found.0 n.sets found.1 (found_served cvd n.sets found.0 found.1 all) all
-served_more_by (says.Flip cvd) n h all =
+served_more_by format (says.Flip cvd) n h all =
     let found = live_found (λ d. of_running flip_off d.plan) (set_numbered cvd n) h in
     all_change cvd flipped found.0 n.sets found.1 (flip_served found.0 found.0.plan (found_served cvd n.sets found.0 found.1 all)) all
-served_more_by (says.Base next) n h all = absurd cc
-served_more_by (says.Whole set) n h all = absurd cc
-served_more_by (says.Wide cvd vid message columns parents rows fresh place added list segment) n h all = absurd cc
+served_more_by format (says.Base next) n h all = absurd cc
+served_more_by format (says.Whole set) n h all = absurd cc
+served_more_by format (says.Wide cvd vid message columns parents rows fresh place added list segment) n h all =
+    let test = wide_off vid message columns parents rows fresh (place_in place) added list segment in
+    let found = live_found test (set_numbered cvd n) (behind_format format (of_live test (set_numbered cvd n)) h) in
+    let d = found.0 in
+    let served = found_served cvd n.sets d found.1 all in
+    all_change cvd (λ s. with_version (version_of parents message rows fresh list) (place_in place) added (extents_of segment) (with_columns columns s)) d n.sets found.1
+    (version_served (version_of parents message rows fresh list) (place_in place) added (extents_of segment) (with_columns columns d)
+    (place_there vid message parents rows fresh (place_in place) added list segment d
+    (wide_commits vid message columns parents rows fresh (place_in place) added list segment d found.2) served) served)
+    all
 
 -- each version of a dataset that a Whole says is in one of its partitions
 one_serves : (parts : List (PartNumbers Extent)) (vid : ℕ) → parts_serving parts vid ≡ 1 → IsServed parts vid
@@ -315,13 +355,13 @@ whole_served said n applies vid some within =
     (and_both (list_all (λ v. parts_serving d.parts v == 1) (counted 1 (length d.versions)) && list_all (is_part (length d.versions) d.records) d.parts) (numbers_left d) (and_both numbers ((list_all (λ v. parts_serving d.parts v == 1) (counted 1 (length d.versions)) && list_all (is_part (length d.versions) d.records) d.parts) && numbers_left d) parts).1).0).0 in
     one_serves d.parts vid (eqb-true (parts_serving d.parts vid) 1 (counted_all (λ v. parts_serving d.parts v == 1) 1 (length d.versions) each vid some (omega (arith, within))))
 
-next_served : (reach : Reach) (e : raw.Event) (n : Numbers Extent Extent) → next_off reach e n ≡ None → AllServed n.sets → AllServed (applied (event_in e) n).sets
-next_served reach e n applies all =
-    by_next (λ x. AllServed (applied (event_in x) n).sets) reach e n applies (λ next. tt)
-    (λ said is. all_append n.sets (whole_in said) all (whole_served said n is)) (λ is. served_more_by e n is all)
+next_served : (stage : Stage) (e : raw.Event) (n : Numbers Extent Extent) → off_at stage e n ≡ None → AllServed n.sets → AllServed (applied (event_in e) n).sets
+next_served stage e n applies all =
+    by_next (λ x. AllServed (applied (event_in x) n).sets) stage e n applies (λ next. tt)
+    (λ said is. all_append n.sets (whole_in said) all (whole_served said n is)) (λ is. served_more_by stage.format e n is all)
 
-pub all_served : (es : List raw.Event) → AllApply AtStart es nothing_yet → AllServed (numbers_in es).sets
-all_served es apply = along (λ n. AllServed n.sets) next_served AtStart es nothing_yet apply tt
+pub all_served : (format : ℕ) (es : List raw.Event) → AllFollow (start_of format) es nothing_yet → AllServed (numbers_in es).sets
+all_served format es follow = along (λ n. AllServed n.sets) next_served (start_of format) es nothing_yet follow tt
 
 -- ---- one event more
 
@@ -329,8 +369,9 @@ replay_more : (es : List raw.Event) (e : raw.Event) (n : Numbers Extent Extent) 
 replay_more [] e n = refl
 replay_more (x ∷ es) e n = replay_more es e (applied (event_in x) n)
 
-pub all_apply : (es : List raw.Event) (e : raw.Event) → AllApply AtStart es nothing_yet → first_off e (numbers_in es) ≡ None → AllApply AtStart (es ++ e ∷ []) nothing_yet
-all_apply es e apply is = apply_more AtStart es e nothing_yet apply is
+pub all_follow : (format : ℕ) (es : List raw.Event) (e : raw.Event) → AllFollow (start_of format) es nothing_yet → first_off format e (numbers_in es) ≡ None
+    → AllFollow (start_of format) (es ++ e ∷ []) nothing_yet
+all_follow format es e follow is = follow_more (start_of format) es e nothing_yet follow is
 
 pub numbers_more : (es : List raw.Event) (e : raw.Event) → numbers_in (es ++ e ∷ []) ≡ applied (event_in e) (numbers_in es)
 numbers_more es e = replay_more es e nothing_yet

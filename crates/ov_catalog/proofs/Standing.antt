@@ -11,13 +11,13 @@ use Rattle.ov_model.specs.World.{World, empty_world}
 use Rattle.ov_catalog.specs.Numbers.{VersionNumbers, PartNumbers, PlanNumbers, SetNumbers, Numbers, each_version, each_part, each_plan, each_set, each, nothing_yet}
 use Rattle.ov_catalog.specs.Events.{Event, applied, replayed}
 use Rattle.ov_event.specs.declared.event.Event as raw
-use Rattle.ov_catalog.specs.Applying.{AtStart}
+use Rattle.ov_catalog.specs.Applying.{start_of}
 use Rattle.ov_catalog.specs.Raw.{event_in, numbers_in}
 use Rattle.ov_catalog.specs.Extents.{of_plan, of_set, live, brought, covers, AreApart}
 use Rattle.ov_catalog.specs.Shown.{Rids, Records, shown, event_of}
 use Rattle.ov_catalog.specs.Stands.{Readings, seen, asked, seen_event, asked_as, StandsFor, ReadSame, IsMove}
-use Rattle.ov_catalog.proofs.Following.{apply_more}
-use Rattle.ov_catalog.proofs.Covering.{live_applied, applies_built, apart_events}
+use Rattle.ov_catalog.proofs.Following.{follow_more}
+use Rattle.ov_catalog.proofs.Covering.{live_applied, apart_events}
 use Rattle.ov_catalog.proofs.Emptying.{flip_fits}
 use Rattle.ov_catalog.proofs.Filling.{applied_each, replayed_more}
 use Rattle.ov_catalog.proofs.Good.{told, good, reached_more}
@@ -101,26 +101,27 @@ numbers_more es e = ap (λ xs. replayed xs nothing_yet) (mapped_more es e) ∙ r
 pub seen_same : (n : Numbers Extent Extent) (old new : Readings) → ReadSame (live n) old new → seen new n ≡ seen old n
 seen_same n old new same = λ i. record { next = n.next; sets = sets_same old new n.sets same.lists same.segments i }
 
-pub same_readings : (events : List raw.Event) (old new : Readings) (w : World) → StandsFor events old w → ReadSame (live (numbers_in events)) old new → StandsFor events new w
-same_readings events old new w stands same = record {
+pub same_readings : (format : ℕ) (events : List raw.Event) (old new : Readings) (w : World) → StandsFor format events old w → ReadSame (live (numbers_in events)) old new
+    → StandsFor format events new w
+same_readings format events old new w stands same = record {
   reached = stands.reached;
-  applies = stands.applies;
+  follow = stands.follow;
   shows = seen_same (numbers_in events) old new same ∙ stands.shows;
   apart = record { once = stands.apart.once; inside = same.there };
 }
 
 -- ---- one event more
 
-pub one_more : (events : List raw.Event) (r : Readings) (w : World) (e : raw.Event) (m : Move)
-    → StandsFor events r w → IsMove e m w (numbers_in events) r → StandsFor (events ++ e ∷ []) r (moved m w)
-one_more events r w e m stands is =
+pub one_more : (format : ℕ) (events : List raw.Event) (r : Readings) (w : World) (e : raw.Event) (m : Move)
+    → StandsFor format events r w → IsMove format e m w (numbers_in events) r → StandsFor format (events ++ e ∷ []) r (moved m w)
+one_more format events r w e m stands is =
     let n : Numbers Extent Extent = numbers_in events
     in let more : numbers_in (events ++ e ∷ []) ≡ applied (event_in e) n = numbers_more events e
     in let come : (page : ℕ) → covers (live (applied (event_in e) n)) page ≤ covers (brought (event_in e)) page + covers (live n) page =
-    λ page. live_applied page e n (applies_built e n is.applies) (apart_events e n (flip_fits w n r (good w stands.reached) stands.shows))
+    λ page. live_applied page e n (apart_events e n (flip_fits w n r (good w stands.reached) stands.shows))
     in record {
       reached = reached_more m w stands.reached is.fits;
-      applies = apply_more AtStart events e nothing_yet stands.applies is.applies;
+      follow = follow_more (start_of format) events e nothing_yet stands.follow is.applies;
       shows = ap (seen r) more
           ∙ applied_each r.list r.segment (event_in e) n
           ∙ of_event (event_of m w) refl is.spells;
@@ -146,10 +147,10 @@ one_more events r w e m stands is =
     inside page (suc a) b c most some new old = new (omega arith)
 
 -- no event, and any readings
-pub nothing_stands : (r : Readings) → StandsFor [] r empty_world
-nothing_stands r = record {
+pub nothing_stands : (format : ℕ) (r : Readings) → StandsFor format [] r empty_world
+nothing_stands format r = record {
   reached = (2, inr refl, [], refl);
-  applies = tt;
+  follow = tt;
   shows = refl;
   apart = record { once = λ page. omega arith; inside = λ page some. absurd (omega (arith, some)) };
 }
@@ -193,8 +194,8 @@ out_sets (d ∷ sets) = λ i.
 out_of : (n : Numbers Rids Records) → each (λ o. unwrap_or o []) (λ o. unwrap_or o []) (each Some Some n) ≡ n
 out_of n = λ i. record { next = n.next; sets = out_sets n.sets i }
 
-pub at_most_one : (events : List raw.Event) (r : Readings) (w v : World) → StandsFor events r w → StandsFor events r v → (w.sets ≡ v.sets) × (w.next ≡ v.next)
-at_most_one events r w v here there =
+pub at_most_one : (format : ℕ) (events : List raw.Event) (r : Readings) (w v : World) → StandsFor format events r w → StandsFor format events r v → (w.sets ≡ v.sets) × (w.next ≡ v.next)
+at_most_one format events r w v here there =
     let same : asked w ≡ asked v = sym here.shows ∙ there.shows
     in shown_once w v (told w (good w here.reached)) (told v (good v there.reached))
     (sym (out_of (shown w)) ∙ ap (each (λ o. unwrap_or o []) (λ o. unwrap_or o [])) same ∙ out_of (shown v))

@@ -112,7 +112,7 @@ accepted_by : (schema wider : Shape) (refusal : Option SchemaErr) → answer_of 
 accepted_by schema wider None e = refl
 accepted_by schema wider (Some refusal) e = cc
 
-wide_rowed : (added : List Column) (d : Dataset) → AreAccepted d.cvd.schema added → IsRowed d → IsRowed (wide added d)
+pub wide_rowed : (added : List Column) (d : Dataset) → AreAccepted d.cvd.schema added → IsRowed d → IsRowed (wide added d)
 wide_rowed [] d accepted is = is
 wide_rowed (column ∷ added) d accepted is =
     let all : List Column = column ∷ added

@@ -16,16 +16,16 @@ use Rattle.ov_event.specs.declared.event.PlanTarget.{PlanTarget}
 use Rattle.ov_catalog.specs.declared.field.Field.{Field}
 use Rattle.ov_catalog.specs.declared.field.Field.TheVariants as off
 use Rattle.ov_catalog.specs.Numbers.{VersionNumbers, PartNumbers, PlanNumbers, Numbers}
-use Rattle.ov_catalog.specs.Events.{own_part, with_joined, join_at, parts_with, version_of, new_set, with_version, parts_at, targets_of, planned, copied_more, numbered, change, applied}
+use Rattle.ov_catalog.specs.Events.{own_part, with_joined, join_at, parts_with, version_of, new_set, with_columns, with_version, parts_at, targets_of, planned, copied_more, numbered, change, applied}
 use Rattle.ov_catalog.specs.Extents.{of_plan, of_set, live, brought, given_up, covers}
-use Rattle.ov_catalog.specs.Applying.{first_off, off_unless, commit_off, set_numbered}
+use Rattle.ov_catalog.specs.Applying.{first_off, off_unless, commit_off, of_live, set_numbered, wide_off}
 use Rattle.ov_catalog.specs.Planning.{is_threshold, are_targets, plan_off, of_running, copy_off}
 use Rattle.ov_catalog.specs.Raw.{event_in, place_in, shape_in}
 use Rattle.ov_catalog.specs.Sources.{IsApart}
 use Rattle.ov_catalog.proofs.Covering.{covers_total, weighed}
 use Rattle.ov_catalog.proofs.FlipCounts.{total-append, plan_set, copy_set, flip_total}
 pub use Rattle.ov_catalog.proofs.FlipCounts.{total}
-use Rattle.ov_catalog.proofs.Serving.{Set, IsNumbered, IsThere, AllServed, found_served, live_found, place_there}
+use Rattle.ov_catalog.proofs.Serving.{Set, IsNumbered, IsThere, AllServed, behind_format, found_served, live_found, place_there, wide_commits}
 
 pub sum_total : (w : Extent → ℕ) (es : List Extent) → sum_by w es ≡ total w es
 sum_total w [] = refl
@@ -126,41 +126,50 @@ module _ (w : Extent → ℕ) where
       by false rest = omega (arith, live_cons d (filter (λ x. not (numbered cvd x)) sets), live_cons d sets, rest)
 
   -- an event that applies: its extents come, those that it gives up go, and no others
-  pub live_total : (e : raw.Event) (n : Numbers Extent Extent) → first_off e n ≡ None → IsApart e n → AllServed n.sets
+  pub live_total : (format : ℕ) (e : raw.Event) (n : Numbers Extent Extent) → first_off format e n ≡ None → IsApart e n → AllServed n.sets
       → total w (live (applied (event_in e) n)) + total w (given_up (event_in e) n) ≡ total w (brought (event_in e)) + total w (live n)
-  live_total (says.Init name schema rows list segment) n h apart all =
+  live_total format (says.Init name schema rows list segment) n h apart all =
       let segments : List Extent = extents_of segment
       in let new : Set = new_set n.next name (shape_in schema) rows list segments
       in let split : total w (flat_map of_set (n.sets ++ new ∷ [])) ≡ total w (flat_map of_set n.sets ++ flat_map of_set (new ∷ [])) = ap (total w) (flat_map-append of_set n.sets (new ∷ []))
       in let parts : total w (flat_map (λ p. p.segments) (own_part 1 1 rows segments ∷ [])) ≡ total w segments + total w [] = over_cons (own_part 1 1 rows segments) []
       in omega (arith, split, total-append w (flat_map of_set n.sets) (flat_map of_set (new ∷ [])), live_cons new [], set_total new, parts)
-  live_total (says.Commit cvd vid message parents rows fresh place added list segment) n h apart all =
+  live_total format (says.Commit cvd vid message parents rows fresh place added list segment) n h apart all =
       let found = live_found (commit_off vid message parents rows fresh (place_in place) added list segment) (set_numbered cvd n) h
       in let d : Set = found.0
       in let there : IsThere (place_in place) d.parts = place_there vid message parents rows fresh (place_in place) added list segment d found.2 (found_served cvd n.sets d found.1 all)
       in let one = change_total cvd (with_version (version_of parents message rows fresh list) (place_in place) added (extents_of segment)) (list ∷ extents_of segment) d n.sets found.1
       (version_total (version_of parents message rows fresh list) (place_in place) added (extents_of segment) d there)
       in omega (arith, one)
-  live_total (says.Drop cvd) n h apart all = omega (arith, drop_total cvd n.sets)
-  live_total (says.Plan cvd p q targets) n h apart all =
+  live_total format (says.Drop cvd) n h apart all = omega (arith, drop_total cvd n.sets)
+  live_total format (says.Plan cvd p q targets) n h apart all =
       let found = live_found (plan_off p q targets) (set_numbered cvd n) h
       in omega (arith, change_total cvd (planned p q targets) [] found.0 n.sets found.1 (omega (arith, plan_set w p q targets found.0 (idle p q targets found.0 found.2))))
-  live_total (says.Copy cvd count segment) n h apart all =
+  live_total format (says.Copy cvd count segment) n h apart all =
       let found = live_found (λ d. of_running (copy_off count segment) d.plan) (set_numbered cvd n) h
       in let plan = running (copy_off count segment) found.0.plan found.2
       in omega (arith, change_total cvd (copied_more count (extents_of segment)) (extents_of segment) found.0 n.sets found.1 (copy_set w count (extents_of segment) found.0 plan.0 plan.1))
-  live_total (says.Flip cvd) n h apart all = omega (arith, flip_total w cvd n.sets apart)
-  live_total (says.Base next) n h apart all = absurd cc
-  live_total (says.Whole set) n h apart all = absurd cc
-  live_total (says.Wide cvd vid message columns parents rows fresh place added list segment) n h apart all = absurd cc
+  live_total format (says.Flip cvd) n h apart all = omega (arith, flip_total w cvd n.sets apart)
+  live_total format (says.Base next) n h apart all = absurd cc
+  live_total format (says.Whole set) n h apart all = absurd cc
+  live_total format (says.Wide cvd vid message columns parents rows fresh place added list segment) n h apart all =
+      let test = wide_off vid message columns parents rows fresh (place_in place) added list segment
+      in let found = live_found test (set_numbered cvd n) (behind_format format (of_live test (set_numbered cvd n)) h)
+      in let d : Set = found.0
+      in let there : IsThere (place_in place) d.parts = place_there vid message parents rows fresh (place_in place) added list segment d
+      (wide_commits vid message columns parents rows fresh (place_in place) added list segment d found.2) (found_served cvd n.sets d found.1 all)
+      in let one = change_total cvd (λ s. with_version (version_of parents message rows fresh list) (place_in place) added (extents_of segment) (with_columns columns s))
+      (list ∷ extents_of segment) d n.sets found.1
+      (version_total (version_of parents message rows fresh list) (place_in place) added (extents_of segment) (with_columns columns d) there)
+      in omega (arith, one)
 
 -- the same of pages
-pub live_covers : (page : ℕ) (e : raw.Event) (n : Numbers Extent Extent) → first_off e n ≡ None → IsApart e n → AllServed n.sets
+pub live_covers : (page format : ℕ) (e : raw.Event) (n : Numbers Extent Extent) → first_off format e n ≡ None → IsApart e n → AllServed n.sets
     → covers (live (applied (event_in e) n)) page + covers (given_up (event_in e) n) page ≡ covers (brought (event_in e)) page + covers (live n) page
-live_covers page e n applies apart all =
+live_covers page format e n applies apart all =
     omega (
       arith,
-      live_total (weighed page) e n applies apart all,
+      live_total (weighed page) format e n applies apart all,
       covers_total page (live (applied (event_in e) n)),
       covers_total page (given_up (event_in e) n),
       covers_total page (brought (event_in e)),

@@ -24,9 +24,9 @@ sound : IsSound one_column
 unfolding is_name is_vid is_column_name name_refusal column_refusal key_refusal
 sound = sound-new (key_column ∷ []) (codes "k" ∷ []) refl refl
 
-applies : first_off {L = Extent} {S = Extent} empty_event nothing_yet ≡ None
+applies : (format : ℕ) → first_off {L = Extent} {S = Extent} format empty_event nothing_yet ≡ None
 unfolding is_name is_vid is_column_name name_refusal column_refusal key_refusal
-applies = refl
+applies format = refl
 
 and-no : (b : Bool) → (b && false) ≡ false
 and-no true = refl
@@ -50,10 +50,10 @@ fits = record {
   sorted = record { rise = tt; few = omega arith; fit = λ k d lt. absurd (omega arith); short = λ k d lt. absurd (omega arith) };
 }
 
-pub empty-move : (r : Readings) → r.list nowhere ≡ Some [] → IsMove empty_event empty_move empty_world nothing_yet r
-empty-move r read = record {
+pub empty-move : (format : ℕ) (r : Readings) → r.list nowhere ≡ Some [] → IsMove format empty_event empty_move empty_world nothing_yet r
+empty-move format r read = record {
   fits = fits;
-  applies = applies;
+  applies = applies format;
   spells = λ i. Some (Init (codes "empty") one_column 0 (read i) []);
   apart = λ page. let none = covers-none page in omega (arith, none);
   inside = λ page some. let none = covers-none page in absurd (omega (arith, none, some));

@@ -1,11 +1,9 @@
 -- When an event follows what the catalog has, and else the first part of it that doesn't.
 --     off_at stage e n      that part, where so much of the half came before; None where the event applies
---     first_off e n      the same, of the events of the moves that are built so far; the others are refused
---     next_off reach e n      the same, and of the events of a snapshot
+--     first_off format e n      the same of the event of a move, in a store of this format
 --     reach_behind reach events      how far the half has come behind these
 --     AllFollow stage events n      each event applies where those before it end
---     AllApply reach events n      the same, of the events that are built so far
-use Rattle.std.specs.Prelude.{◌≡◌, ℕ, Bool, true, false, ◌&&◌, ◌==◌, nat_le, nat_lt, if◌then◌else◌, List, [], ◌∷◌, Option, Some, None, find}
+use Rattle.std.specs.Prelude.{◌≡◌, ℕ, ◌&&◌, ◌==◌, nat_le, nat_lt, List, [], ◌∷◌, Option, Some, None, find}
 use Rattle.std.specs.Option.{option_or}
 use Rattle.ov_event.specs.declared.event.Event as raw
 use Rattle.ov_event.specs.declared.event.Event.TheVariants as says
@@ -104,39 +102,8 @@ abbrev pub AllFollow : Stage → List raw.Event → Numbers Extent Extent → Ty
 AllFollow stage [] n = Unit {0}
 AllFollow stage (e ∷ es) n = (off_at stage e n ≡ None) × AllFollow (stage_after e stage) es (applied (event_in e) n)
 
--- ---- what is built so far
+-- ---- the event of a move
 
--- those of the moves that are built: all but those of a snapshot and those that add columns
-abbrev pub is_built_event : raw.Event → Bool
-is_built_event (says.Init name schema rows list segment) = true
-is_built_event (says.Commit cvd vid message parents rows fresh place added list segment) = true
-is_built_event (says.Plan cvd p q targets) = true
-is_built_event (says.Copy cvd count segment) = true
-is_built_event (says.Flip cvd) = true
-is_built_event (says.Drop cvd) = true
-is_built_event (says.Base next) = false
-is_built_event (says.Whole said) = false
-is_built_event (says.Wide cvd vid message columns parents rows fresh place added list segment) = false
-
--- Whether the event of a move that is built applies doesn't hang on the stage, so it is asked at any; the others are refused.
-abbrev pub first_off : {L S : Type 0} → raw.Event → Numbers L S → Option Field
-first_off e n = if is_built_event e then off_at (record { format = 2; reach = Beyond }) e n else Some off.Number
-
-abbrev pub is_of_snapshot : raw.Event → Bool
-is_of_snapshot (says.Init name schema rows list segment) = false
-is_of_snapshot (says.Commit cvd vid message parents rows fresh place added list segment) = false
-is_of_snapshot (says.Plan cvd p q targets) = false
-is_of_snapshot (says.Copy cvd count segment) = false
-is_of_snapshot (says.Flip cvd) = false
-is_of_snapshot (says.Drop cvd) = false
-is_of_snapshot (says.Base next) = true
-is_of_snapshot (says.Whole said) = true
-is_of_snapshot (says.Wide cvd vid message columns parents rows fresh place added list segment) = false
-
--- The events of a snapshot don't ask for a format; only an event that adds columns does, and it isn't built yet.
-abbrev pub next_off : {L S : Type 0} → Reach → raw.Event → Numbers L S → Option Field
-next_off reach e n = if is_of_snapshot e then off_at (record { format = 2; reach = reach }) e n else first_off e n
-
-abbrev pub AllApply : Reach → List raw.Event → Numbers Extent Extent → Type 0
-AllApply reach [] n = Unit {0}
-AllApply reach (e ∷ es) n = (next_off reach e n ≡ None) × AllApply (reach_after e reach) es (applied (event_in e) n)
+-- A snapshot is behind it: its own events are off.
+abbrev pub first_off : {L S : Type 0} → ℕ → raw.Event → Numbers L S → Option Field
+first_off format e n = off_at (record { format = format; reach = Beyond }) e n

@@ -44,6 +44,13 @@ each_event f g (Base next) = Base next
 each_event f g (Whole d) = Whole (each_set f g d)
 each_event f g (Wide cvd vid message columns parents rows fresh place added list segments) = Wide cvd vid message columns parents rows fresh place added (f list) (map g segments)
 
+-- the event of a version to whose dataset these columns are added; with none it is as it was
+abbrev pub adding_event : {L S : Type 0} → List Column → Event L S → Event L S
+adding_event [] e = e
+adding_event (column ∷ added) (Commit cvd vid message parents rows fresh place more list segments) =
+    Wide cvd vid message (column ∷ added) parents rows fresh place more list segments
+adding_event (column ∷ added) e = e
+
 abbrev pub own_part : {S : Type 0} → ℕ → ℕ → ℕ → List S → PartNumbers S
 own_part id vid records segments = record { id = id; versions = vid ∷ []; holds = vid ∷ []; records = records; segments = segments }
 

@@ -1,7 +1,8 @@
 -- The journal's events as events over numbers, whose holes are extents.
 --     event_in e      the event
 --     numbers_in events      the numbers after these events
-use Rattle.std.specs.Prelude.{ℕ, ◌&&◌, ◌==◌, if◌then◌else◌, List, map, Option, Some, None}
+--     adding added e      the event of a version with added columns
+use Rattle.std.specs.Prelude.{ℕ, ◌&&◌, ◌==◌, if◌then◌else◌, List, [], ◌∷◌, map, Option, Some, None}
 use Rattle.ov_event.specs.declared.event.Event as raw
 use Rattle.ov_event.specs.declared.event.Event.TheVariants as says
 use Rattle.ov_event.specs.declared.event.Placed.{Placed}
@@ -17,6 +18,7 @@ use Rattle.ov_layout.specs.Changes.{extents_of}
 use Rattle.ov_place.specs.declared.place_facts.Place.{Place}
 use Rattle.ov_place.specs.declared.place_facts.Place.TheVariants.{Own, Join}
 use Rattle.ov_value.specs.Shapes.{Shape}
+use Rattle.ov_value.specs.declared.column.Column.{Column}
 use Rattle.ov_catalog.specs.Numbers.{VersionNumbers, PartNumbers, TargetNumbers, PlanNumbers, SetNumbers, Numbers, nothing_yet}
 use Rattle.ov_catalog.specs.Events.{Event, Init, Commit, Plan, Copy, Flip, Drop, Base, Whole, Wide, replayed}
 
@@ -78,3 +80,10 @@ event_in (says.Wide cvd vid message columns parents rows fresh place added list 
 
 abbrev pub numbers_in : List raw.Event → Numbers Extent Extent
 numbers_in events = replayed (map event_in events) nothing_yet
+
+-- the event of a version to whose dataset these columns are added; with none it is as it was
+abbrev pub adding : List Column → raw.Event → raw.Event
+adding [] e = e
+adding (column ∷ added) (says.Commit cvd vid message parents rows fresh place more list segment) =
+    says.Wide cvd vid message (column ∷ added) parents rows fresh place more list segment
+adding (column ∷ added) e = e

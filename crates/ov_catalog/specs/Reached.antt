@@ -1,9 +1,7 @@
 -- Which moves fit a World, and which Worlds moves reach.
---     Suits m w      what a command asks before it makes the move
---     Fits m w      the same, of the moves that are built so far: all but those that add columns
+--     Fits m w      what a command asks before it makes the move
 --     Past, passed      what brought a store to where it is: a move, or a checkpoint that left format 1 as it was
 --     Reached w      such moves lead from the empty World of one of the formats to it; a plan of a dataset may run there
---     ReachedByAll w      the same with all moves
 use Rattle.std.specs.Prelude.{◌≡◌, ◌≢◌, ◌⊎◌, ◌<◌, ◌≤◌, ◌+◌, ◌^◌, ◌-◌, ℕ, IsTrue, IsUtf8, is_ok, List, [], ◌∷◌, ◌++◌, length, Option, Some, None}
 use Rattle.std.specs.List.{All}
 use Rattle.ov_value.specs.declared.column.Column.{Column}
@@ -14,7 +12,6 @@ use Rattle.ov_value.specs.Shapes.{Shape, IsSound}
 use Rattle.ov_value.specs.Spelling.{IsRow, row_spelling}
 use Rattle.ov_model.specs.Act.{null_row}
 use Rattle.ov_model.specs.Book.{Row, Version}
-use Rattle.ov_model.specs.Built.{is_built, IfBuilt}
 use Rattle.ov_model.specs.Lists.{Rises}
 use Rattle.ov_model.specs.Moves.{Move, Init, Commit, BeginPlan, Copy, Flip, Drop, Checkpoint, moved, numbered, version_of, wide}
 use Rattle.ov_model.specs.Placed.{AreThere, times}
@@ -86,20 +83,17 @@ MissesSome d = IfRunning (λ plan. 0 < length (missing d plan)) d.plan
 abbrev pub MissesNone : Dataset → Type 0
 MissesNone d = IfRunning (λ plan. missing d plan ≡ []) d.plan
 
-abbrev pub Suits : Move → World → Type 0
-Suits (Init name schema rows) w = InitFits w name schema rows
-Suits (Commit cvd parents message [] rows) w = IfThere (λ d. CommitFits w d (version_of parents message rows)) (first_set (numbered cvd) w.sets)
-Suits (Commit cvd parents message (column ∷ added) rows) w =
+abbrev pub Fits : Move → World → Type 0
+Fits (Init name schema rows) w = InitFits w name schema rows
+Fits (Commit cvd parents message [] rows) w = IfThere (λ d. CommitFits w d (version_of parents message rows)) (first_set (numbered cvd) w.sets)
+Fits (Commit cvd parents message (column ∷ added) rows) w =
     IfThere (λ d. TakesColumns w d (column ∷ added) × CommitFits w (wide (column ∷ added) d) (version_of parents message rows))
     (first_set (numbered cvd) w.sets)
-Suits (BeginPlan cvd p q) w = IfThere (PlanFits p q) (first_set (numbered cvd) w.sets)
-Suits (Copy cvd) w = IfThere MissesSome (first_set (numbered cvd) w.sets)
-Suits (Flip cvd) w = IfThere MissesNone (first_set (numbered cvd) w.sets)
-Suits (Drop cvd) w = IfThere (λ d. Unit {0}) (first_set (numbered cvd) w.sets)
-Suits Checkpoint w = w.epoch < 2 ^ 32 - 1
-
-abbrev pub Fits : Move → World → Type 0
-Fits m w = IfBuilt (is_built m) (Suits m w)
+Fits (BeginPlan cvd p q) w = IfThere (PlanFits p q) (first_set (numbered cvd) w.sets)
+Fits (Copy cvd) w = IfThere MissesSome (first_set (numbered cvd) w.sets)
+Fits (Flip cvd) w = IfThere MissesNone (first_set (numbered cvd) w.sets)
+Fits (Drop cvd) w = IfThere (λ d. Unit {0}) (first_set (numbered cvd) w.sets)
+Fits Checkpoint w = w.epoch < 2 ^ 32 - 1
 
 -- What happened to a store: a move of this program; or a checkpoint of one that knew no other format than 1, which left the store's
 -- format number.
@@ -129,16 +123,3 @@ IsFormat format = (format ≡ 1) ⊎ (format ≡ 2)
 
 abbrev pub Reached : World → Type 0
 Reached w = (format : ℕ) × IsFormat format × (ps : List Past) × Leads (empty_world_of format) ps w
-
--- ---- with all moves
-
-abbrev pub MayPassByAll : Past → World → Type 0
-MayPassByAll (ByMove m) w = Suits m w
-MayPassByAll OldCheckpoint w = (w.format ≡ 1) × (w.epoch < 2 ^ 32 - 1)
-
-abbrev pub LeadsByAll : World → List Past → World → Type 0
-LeadsByAll v [] w = v ≡ w
-LeadsByAll v (p ∷ ps) w = MayPassByAll p v × LeadsByAll (passed p v) ps w
-
-abbrev pub ReachedByAll : World → Type 0
-ReachedByAll w = (format : ℕ) × IsFormat format × (ps : List Past) × LeadsByAll (empty_world_of format) ps w

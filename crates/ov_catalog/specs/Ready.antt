@@ -1,6 +1,6 @@
 -- What a catalog keeps ready, so that an event takes no memory.
 --     Kept      what contracts see of a catalog
---     HasRoom e ready      there is room for the event
+--     HasRoom e n ready      there is room for the event, which comes to these numbers
 use Rattle.std.specs.Prelude.{◌≡◌, ◌+◌, ◌≤◌, ◌<◌, ◌^◌, ℕ, List, [], length, map, Vec, vec_capacity, codes, Option, None, Some, All, true, false}
 use Rattle.std.specs.declared.alloc.Global.{Global}
 use Rattle.ov_event.specs.declared.event.Event as raw
@@ -15,6 +15,8 @@ use Rattle.ov_layout.specs.Changes.{IsNew, IsAbove}
 use Rattle.ov_place.specs.declared.place_facts.Place.{Place}
 use Rattle.ov_place.specs.declared.place_facts.Place.TheVariants.{Own, Join}
 use Rattle.ov_value.specs.Shapes.{Shape}
+use Rattle.ov_value.specs.declared.column.Column.{Column}
+use Rattle.ov_model.specs.Moves.{wide_schema}
 use Rattle.ov_catalog.specs.declared.cvd.Cvd.{Cvd}
 use Rattle.ov_catalog.specs.declared.cvd.Plan.{Plan}
 use Rattle.ov_catalog.specs.declared.cvd.Target.{Target}
@@ -23,20 +25,21 @@ use Rattle.ov_catalog.specs.declared.reach.Reach.TheVariants as came_to
 use Rattle.ov_catalog.specs.declared.room.Room.{Room}
 use Rattle.ov_catalog.specs.declared.room.Room.TheVariants as kept_for
 use Rattle.ov_catalog.specs.declared.room.Spare.{Spare}
-use Rattle.ov_catalog.specs.Numbers.{Numbers}
+use Rattle.ov_catalog.specs.Numbers.{Numbers, SetNumbers}
 use Rattle.ov_catalog.specs.Raw.{place_in, shape_in}
 use Rattle.ov_catalog.specs.Events.{graph_of, planned}
 use Rattle.ov_catalog.specs.Running.{IsPlanned, IsRunning, current, left_of}
-use Rattle.ov_catalog.specs.Applying.{Reach, AtStart, InSnapshot, Beyond}
+use Rattle.ov_catalog.specs.Applying.{Reach, AtStart, InSnapshot, Beyond, set_numbered}
 use Rattle.ov_catalog.specs.Sets.{numbers_of, plan_in, set_in, version_in}
 use Rattle.ov_catalog.specs.Thresholds.{IsSaid}
 
--- for which event there is room: for none, for an Init with a schema, for a Commit to a dataset at a place, for a Plan of a dataset
--- at a threshold with what is said of its targets, for a Copy or a Flip in a dataset
+-- for which event there is room: for none, for an Init with a schema, for a Commit to a dataset at a place, for a Wide there that
+-- leaves this schema, for a Plan of a dataset at a threshold with what is said of its targets, for a Copy or a Flip in a dataset
 pub data Ready : Type 0 where
   Nothing : Ready
   ForInit : Shape → Ready
   ForCommit : ℕ → Place → Ready
+  ForWide : ℕ → Place → Shape → Ready
   ForPlan : (cvd p q : ℕ) → List PlanTarget → Ready
   ForCopy : ℕ → Ready
   ForFlip : ℕ → Ready
@@ -47,17 +50,23 @@ pub record Kept : Type 0 where
   pub ready : Ready
   pub reach : Reach
 
--- A drop needs no room. None is made for the events of a snapshot, nor yet for added columns.
-abbrev pub HasRoom : raw.Event → Ready → Type 0
-HasRoom (says.Init name schema rows list segment) ready = ready ≡ ForInit (shape_in schema)
-HasRoom (says.Commit cvd vid message parents rows fresh place added list segment) ready = ready ≡ ForCommit cvd (place_in place)
-HasRoom (says.Plan cvd p q targets) ready = ready ≡ ForPlan cvd p q targets
-HasRoom (says.Copy cvd count segment) ready = ready ≡ ForCopy cvd
-HasRoom (says.Flip cvd) ready = ready ≡ ForFlip cvd
-HasRoom (says.Drop cvd) ready = Unit {0}
-HasRoom (says.Base next) ready = ⊥
-HasRoom (says.Whole said) ready = ⊥
-HasRoom (says.Wide cvd vid message columns parents rows fresh place added list segment) ready = ⊥
+-- for a Wide to this dataset, where it is there
+abbrev pub IsForWide : {L S : Type 0} → ℕ → Place → List Column → Option (SetNumbers L S) → Ready → Type 0
+IsForWide cvd place columns None ready = ⊥
+IsForWide cvd place columns (Some d) ready = ready ≡ ForWide cvd place (wide_schema d.schema columns)
+
+-- A drop needs no room. None is made for the events of a snapshot.
+abbrev pub HasRoom : {L S : Type 0} → raw.Event → Numbers L S → Ready → Type 0
+HasRoom (says.Init name schema rows list segment) n ready = ready ≡ ForInit (shape_in schema)
+HasRoom (says.Commit cvd vid message parents rows fresh place added list segment) n ready = ready ≡ ForCommit cvd (place_in place)
+HasRoom (says.Plan cvd p q targets) n ready = ready ≡ ForPlan cvd p q targets
+HasRoom (says.Copy cvd count segment) n ready = ready ≡ ForCopy cvd
+HasRoom (says.Flip cvd) n ready = ready ≡ ForFlip cvd
+HasRoom (says.Drop cvd) n ready = Unit {0}
+HasRoom (says.Base next) n ready = ⊥
+HasRoom (says.Whole said) n ready = ⊥
+HasRoom (says.Wide cvd vid message columns parents rows fresh place added list segment) n ready =
+    IsForWide cvd (place_in place) columns (set_numbered cvd n) ready
 
 abbrev pub IsForInit : Ready → Type 0
 IsForInit Nothing = ⊥
@@ -72,6 +81,7 @@ abbrev pub ready_in : Room → Ready
 ready_in kept_for.Nothing = Nothing
 ready_in (kept_for.Init spare) = ForInit spare.schema
 ready_in (kept_for.Commit cvd place) = ForCommit cvd (place_in place)
+ready_in (kept_for.Wide cvd place schema) = ForWide cvd (place_in place) schema
 ready_in (kept_for.Plan cvd plan) = ForPlan cvd plan.p plan.q (map said_by plan.targets)
 ready_in (kept_for.Copy cvd) = ForCopy cvd
 ready_in (kept_for.Flip cvd versions) = ForFlip cvd
@@ -158,6 +168,7 @@ abbrev pub HasSpace : Room → Vec Cvd Global → Type 0
 HasSpace kept_for.Nothing sets = Unit {0}
 HasSpace (kept_for.Init spare) sets = IsSpare spare × (length sets.items < vec_capacity sets) × (length sets.items < 1024)
 HasSpace (kept_for.Commit cvd place) sets = All (FitsNumbered cvd (place_in place)) sets.items
+HasSpace (kept_for.Wide cvd place schema) sets = All (FitsNumbered cvd (place_in place)) sets.items
 HasSpace (kept_for.Plan cvd plan) sets = All (CanBeginIn cvd plan) sets.items
 HasSpace (kept_for.Copy cvd) sets = All (HasSegmentIn cvd) sets.items
 HasSpace (kept_for.Flip cvd versions) sets = All (MayFlipIn cvd versions.items) sets.items

@@ -3,16 +3,17 @@
 ghost use Rattle.std.specs.Prelude.{◌≡◌, ◌+◌, ◌-◌, ◌<◌, ◌≤◌, ◌^◌, ◌++◌, ◌∷◌, [], ℕ, List, None, All, length, find, vec_capacity, option_map, option_copied, OnOk, OnErr, IfOk, IfSome};
 ghost use Rattle.std.specs.Option.{option_or};
 ghost use Rattle.ov_layout.specs.Changes.{extents_of};
+ghost use Rattle.ov_value.specs.declared.column.Column.{Column};
 ghost use Rattle.ov_value.specs.Shapes.{Shape};
 ghost use Rattle.ov_catalog.specs.Answers.{Answers};
-ghost use Rattle.ov_catalog.specs.Applying.{AtStart, Beyond, InSnapshot, base_off, first_off, init_off, is_named, next_off, number_off, of_live, reach_after, reach_with, set_numbered};
-ghost use Rattle.ov_catalog.specs.Arriving.{arrival_off};
-ghost use Rattle.ov_catalog.specs.Events.{Commit, Copy, Drop, Flip, Init, Plan, applied};
+ghost use Rattle.ov_catalog.specs.Applying.{AtStart, Beyond, InSnapshot, base_off, first_off, init_off, is_named, number_off, of_live, off_at, reach_after, reach_with, set_numbered};
+ghost use Rattle.ov_catalog.specs.Arriving.{arrival_off, wide_arrival_off};
+ghost use Rattle.ov_catalog.specs.Events.{Commit, Copy, Drop, Flip, Init, Plan, Wide, applied};
 ghost use Rattle.ov_catalog.specs.Extents.{given_up};
 ghost use Rattle.ov_catalog.specs.Numbers.{nothing_yet};
 ghost use Rattle.ov_catalog.specs.Raw.{event_in, place_in, shape_in, whole_in};
 ghost use Rattle.ov_catalog.specs.Planning.{copy_off, flip_off, of_running, plan_off};
-ghost use Rattle.ov_catalog.specs.Ready.{Nothing, ForInit, ForCommit, ForPlan, ForCopy, ForFlip, HasRoom, IsForInit, IsSet};
+ghost use Rattle.ov_catalog.specs.Ready.{Nothing, ForInit, ForCommit, ForWide, ForPlan, ForCopy, ForFlip, HasRoom, IsForInit, IsForWide, IsSet};
 ghost use Rattle.ov_catalog.specs.Sets.{set_in, sets_in};
 ghost use Rattle.ov_catalog.specs.Snapshots.{IsSnapshot};
 ghost use Rattle.ov_catalog.specs.Sources.{IsApart};
@@ -35,9 +36,10 @@ use crate::room::Room;
 use crate::snapshots::events_of;
 use crate::steps::steps_left;
 use crate::wholes::restored;
+use crate::wide::{check_format, room_for_wide, wide_in};
 use ov_event::{Event, Items, PlanTarget, RawSchema, Whole};
 use ov_host::Extent;
-use ov_value::Txt;
+use ov_value::{Column, Txt};
 use std::alloc::{AllocError, Global};
 use std::marker::Model;
 use std::mem;
@@ -135,14 +137,19 @@ impl Catalog {
         }
     }
 
-    /// Makes room for the event of a move, so that applying it takes no memory: here, and behind `freed` for the extents that
-    /// it gives up. `NotNext` with the first part of the event that is off; none is made for the events of a snapshot, which
-    /// [`Catalog::apply`] takes. It changes nothing else.
-    pub fn room_for(&mut self, event: &Event, freed: &mut Vec<Extent>) -> Result<(), ApplyErr>
-        ensures answer { Answers result (first_off event.now self.old.numbers) }
+    /// Makes room for the event of a move in a store of this format, so that applying it takes no memory: here, and behind
+    /// `freed` for the extents that it gives up. `NotNext` with the first part of the event that is off; none is made for the
+    /// events of a snapshot, which [`Catalog::apply`] takes. It changes nothing else.
+    pub fn room_for(
+        &mut self,
+        format: u32,
+        event: &Event,
+        freed: &mut Vec<Extent>,
+    ) -> Result<(), ApplyErr>
+        ensures answer { Answers result (first_off format event.now self.old.numbers) }
         ensures numbers { self.new.numbers ≡ self.old.numbers }
         ensures reach { self.new.reach ≡ self.old.reach }
-        ensures ready { OnOk result (HasRoom event.now self.new.ready) }
+        ensures ready { OnOk result (HasRoom event.now self.new.numbers self.new.ready) }
         ensures freed { freed.new.items ≡ freed.old.items }
         ensures room { OnOk result (length freed.new.items + length (given_up (event_in event.now) self.old.numbers) ≤ vec_capacity freed.new) }
     {
@@ -189,8 +196,38 @@ impl Catalog {
             } => self.room_for_copy(*cvd, *count, *segment),
             Event::Flip { cvd } => self.room_for_flip(*cvd, freed),
             Event::Drop { cvd } => room_for_drop(&self.sets, *cvd, freed),
-            // A snapshot's events are for `apply` alone, and columns are not added yet.
-            Event::Base { .. } | Event::Whole(_) | Event::Wide { .. } => Err(ApplyErr::NotNext {
+            Event::Wide {
+                cvd,
+                vid,
+                message,
+                columns,
+                parents,
+                rows,
+                fresh,
+                place,
+                added,
+                list,
+                segment,
+            } => {
+                check_format(format)?;
+                self.room_for_wide(
+                    *cvd,
+                    message,
+                    columns.as_slice(),
+                    parents.as_slice(),
+                    &Arrival {
+                        vid: *vid,
+                        rows: *rows,
+                        fresh: *fresh,
+                        place: *place,
+                        added: *added,
+                        list: *list,
+                        segment: *segment,
+                    },
+                )
+            }
+            // A snapshot's events are for `apply` alone.
+            Event::Base { .. } | Event::Whole(_) => Err(ApplyErr::NotNext {
                 field: Field::Number,
             }),
         }
@@ -236,6 +273,37 @@ impl Catalog {
         self.room = Room::Commit {
             cvd,
             place: new.place,
+        };
+        Ok(())
+    }
+
+    fn room_for_wide(
+        &mut self,
+        cvd: u32,
+        message: &Txt,
+        columns: &[Column],
+        parents: &[(u32, u32)],
+        new: &Arrival,
+    ) -> Result<(), ApplyErr>
+        ensures answer { Answers result (of_live (wide_arrival_off message.now columns.now parents.now new.now) (set_numbered cvd self.old.numbers)) }
+        ensures numbers { self.new.numbers ≡ self.old.numbers }
+        ensures reach { self.new.reach ≡ self.old.reach }
+        ensures ready { OnOk result (IsForWide cvd (place_in new.now.place) columns.now (set_numbered cvd self.old.numbers) self.new.ready) }
+    {
+        self.room = Room::Nothing;
+        let schema = room_for_wide(
+            self.alloc,
+            &mut self.sets,
+            cvd,
+            message,
+            columns,
+            parents,
+            new,
+        )?;
+        self.room = Room::Wide {
+            cvd,
+            place: new.place,
+            schema,
         };
         Ok(())
     }
@@ -287,8 +355,8 @@ impl Catalog {
     /// Applies an event that there is room for. Takes no memory: the extents that the event gives up are put behind
     /// `freed`. Uses the room up.
     pub fn apply_reserved(&mut self, event: Event, freed: &mut Vec<Extent>)
-        requires applies { first_off event self.old.numbers ≡ None }
-        requires ready { HasRoom event self.old.ready }
+        requires applies { (format : ℕ) × (first_off format event self.old.numbers ≡ None) }
+        requires ready { HasRoom event self.old.numbers self.old.ready }
         requires room { length freed.old.items + length (given_up (event_in event) self.old.numbers) ≤ vec_capacity freed.old }
         ensures applied { self.new.numbers ≡ applied (event_in event) self.old.numbers }
         ensures reach { self.new.reach ≡ reach_after event self.old.reach }
@@ -335,8 +403,34 @@ impl Catalog {
             } => self.copy(cvd, count, segment),
             Event::Flip { cvd } => self.flip(cvd, freed),
             Event::Drop { cvd } => self.drop_set(cvd, freed),
+            Event::Wide {
+                cvd,
+                vid,
+                message,
+                parents,
+                rows,
+                fresh,
+                place,
+                added,
+                list,
+                segment,
+                ..
+            } => self.widen(
+                cvd,
+                message,
+                parents,
+                &Arrival {
+                    vid,
+                    rows,
+                    fresh,
+                    place,
+                    added,
+                    list,
+                    segment,
+                },
+            ),
             // There is room for none of these.
-            Event::Base { .. } | Event::Whole(_) | Event::Wide { .. } => {}
+            Event::Base { .. } | Event::Whole(_) => {}
         }
     }
 
@@ -364,6 +458,18 @@ impl Catalog {
         self.reach = Reach::Beyond;
         commit_in(&mut self.sets, cvd, message, parents, new);
         self.room = Room::Nothing;
+    }
+
+    fn widen(&mut self, cvd: u32, message: Txt, parents: Items<(u32, u32)>, new: &Arrival)
+        requires ready { (schema : Shape) × (self.old.ready ≡ ForWide cvd (place_in new.now.place) schema) }
+        requires applies { of_live (arrival_off message parents new.now) (set_numbered cvd self.old.numbers) ≡ None }
+        ensures widened { (columns : List Column) → IsForWide cvd (place_in new.now.place) columns (set_numbered cvd self.old.numbers) self.old.ready → self.new.numbers ≡ applied (Wide cvd new.now.vid message columns parents new.now.rows new.now.fresh (place_in new.now.place) new.now.added new.now.list (extents_of new.now.segment)) self.old.numbers }
+        ensures reach { self.new.reach ≡ Beyond }
+    {
+        self.reach = Reach::Beyond;
+        if let Room::Wide { schema, .. } = mem::replace(&mut self.room, Room::Nothing) {
+            wide_in(&mut self.sets, cvd, schema, message, parents, new);
+        }
     }
 
     fn begin_plan(&mut self)
@@ -412,10 +518,10 @@ impl Catalog {
         self.room = Room::Nothing;
     }
 
-    /// Applies the event of a move or of a snapshot, and takes the memory that this needs. The extents that it gives up are
-    /// forgotten. `NotNext` with the first part of the event that is off. An error changes nothing.
-    pub fn apply(&mut self, event: Event) -> Result<(), ApplyErr>
-        ensures answer { Answers result (next_off self.old.reach event self.old.numbers) }
+    /// Applies the event of a move or of a snapshot in a store of this format, and takes the memory that this needs. The extents
+    /// that it gives up are forgotten. `NotNext` with the first part of the event that is off. An error changes nothing.
+    pub fn apply(&mut self, format: u32, event: Event) -> Result<(), ApplyErr>
+        ensures answer { Answers result (off_at (record { format = format; reach = self.old.reach }) event self.old.numbers) }
         ensures applied { OnOk result (self.new.numbers ≡ applied (event_in event) self.old.numbers) }
         ensures reach { OnOk result (self.new.reach ≡ reach_after event self.old.reach) }
         ensures err { OnErr result ((self.new.numbers ≡ self.old.numbers) × (self.new.reach ≡ self.old.reach)) }
@@ -423,19 +529,19 @@ impl Catalog {
         match event {
             Event::Base { next } => self.based(next),
             Event::Whole(said) => self.restore(said),
-            event => self.apply_move(event),
+            event => self.apply_move(format, event),
         }
     }
 
     // Makes room for the event of a move and applies it.
-    fn apply_move(&mut self, event: Event) -> Result<(), ApplyErr>
-        ensures answer { Answers result (first_off event self.old.numbers) }
+    fn apply_move(&mut self, format: u32, event: Event) -> Result<(), ApplyErr>
+        ensures answer { Answers result (first_off format event self.old.numbers) }
         ensures applied { OnOk result (self.new.numbers ≡ applied (event_in event) self.old.numbers) }
         ensures reach { OnOk result (self.new.reach ≡ reach_after event self.old.reach) }
         ensures err { OnErr result ((self.new.numbers ≡ self.old.numbers) × (self.new.reach ≡ self.old.reach)) }
     {
         let mut freed = Vec::new(self.alloc);
-        self.room_for(&event, &mut freed)?;
+        self.room_for(format, &event, &mut freed)?;
         self.apply_reserved(event, &mut freed);
         Ok(())
     }

@@ -6,7 +6,7 @@ ghost use Rattle.ov_layout.specs.Changes.{IsThere, extents_of};
 ghost use Rattle.ov_layout.specs.Parts.{Ascend};
 ghost use Rattle.ov_place.specs.Placement.{placed};
 ghost use Rattle.ov_catalog.specs.Answers.{Answers};
-ghost use Rattle.ov_catalog.specs.Applying.{copied_in, facts_of, is_count as is_count_by, id_in, is_place as is_place_by, is_unmoved as is_unmoved_by, of_live, part_serving as part_serving_in, stored as stored_by};
+ghost use Rattle.ov_catalog.specs.Applying.{copied_in, facts_of, is_count as is_count_by, id_in, is_place as is_place_by, is_unmoved as is_unmoved_by, message_off, of_live, part_serving as part_serving_in, stored as stored_by, version_off, vid_off};
 ghost use Rattle.ov_catalog.specs.Events.{change, numbered, version_of, with_version};
 ghost use Rattle.ov_catalog.specs.Raw.{place_in};
 ghost use Rattle.ov_catalog.specs.Ready.{FitsNumbered, FitsVersion, IsSet};
@@ -138,7 +138,44 @@ fn is_count(d: &Cvd, new: &Arrival) -> bool
     }
 }
 
-/// Whether the version may be the next one of a dataset.
+/// Whether the dataset's next version has this number.
+pub fn check_vid(d: &Cvd, vid: u32) -> Result<(), ApplyErr>
+    ensures { Answers result (vid_off vid (set_in d.now)) }
+{
+    unless(
+        vid as usize == d.versions.len() + 1 && vid <= MOST_VERSIONS,
+        Field::Vid,
+    )
+}
+
+/// Whether a version may have the message.
+pub fn check_message(message: &Txt) -> Result<(), ApplyErr>
+    ensures { Answers result (message_off message.now) }
+{
+    unless(message.len() <= MESSAGE_BYTES, Field::Message)
+}
+
+/// Whether the version may be the next one of a dataset, by what is asked behind its number and its message.
+pub fn check_version(
+    alloc: Global,
+    d: &Cvd,
+    parents: &[(u32, u32)],
+    new: &Arrival,
+) -> Result<(), ApplyErr>
+    requires { IsSet d.now }
+    ensures { Answers result (version_off parents.now new.now.rows new.now.fresh (place_in new.now.place) new.now.added new.now.list new.now.segment (set_in d.now)) }
+{
+    check_parents(alloc, &d.versions, new.rows, parents)?;
+    unless(are_rows(new, d.records), Field::Rows)?;
+    unless(is_place(new.place, next_place(d, parents)), Field::Placing)?;
+    unless(is_count(d, new), Field::Count)?;
+    unless(
+        is_list(new.rows, new.list) && is_segment(new.added, new.segment),
+        Field::Place,
+    )
+}
+
+// Whether the version may be the next one of a dataset.
 fn check_commit(
     alloc: Global,
     d: &Cvd,
@@ -149,19 +186,9 @@ fn check_commit(
     requires { IsSet d.now }
     ensures { Answers result (arrival_off message.now parents.now new.now (set_in d.now)) }
 {
-    unless(
-        new.vid as usize == d.versions.len() + 1 && new.vid <= MOST_VERSIONS,
-        Field::Vid,
-    )?;
-    unless(message.len() <= MESSAGE_BYTES, Field::Message)?;
-    check_parents(alloc, &d.versions, new.rows, parents)?;
-    unless(are_rows(new, d.records), Field::Rows)?;
-    unless(is_place(new.place, next_place(d, parents)), Field::Placing)?;
-    unless(is_count(d, new), Field::Count)?;
-    unless(
-        is_list(new.rows, new.list) && is_segment(new.added, new.segment),
-        Field::Place,
-    )
+    check_vid(d, new.vid)?;
+    check_message(message)?;
+    check_version(alloc, d, parents, new)
 }
 
 fn part_asked(place: Placed) -> Option<u32>
@@ -174,7 +201,7 @@ fn part_asked(place: Placed) -> Option<u32>
 }
 
 /// Makes room for a version more, at this place.
-fn make_room(d: &mut Cvd, place: Placed) -> Result<(), AllocError>
+pub fn make_room(d: &mut Cvd, place: Placed) -> Result<(), AllocError>
     requires set { IsSet d.old }
     requires there { IsThere (part_asked (place_in place)) d.old.layout.parts }
     ensures same { set_in d.new ≡ set_in d.old }
@@ -228,8 +255,8 @@ pub fn room_for_commit(
     room_in(alloc, &mut sets[at], message, parents, new)
 }
 
-// The version becomes the next one of a dataset.
-fn commit(d: &mut Cvd, message: Txt, parents: Items<(u32, u32)>, new: &Arrival)
+/// The version becomes the next one of a dataset. Takes no memory.
+pub fn commit(d: &mut Cvd, message: Txt, parents: Items<(u32, u32)>, new: &Arrival)
     requires set { IsSet d.old }
     requires room { FitsVersion (place_in new.now.place) d.old }
     requires applies { arrival_off message parents new.now (set_in d.old) ≡ None }

@@ -1,8 +1,8 @@
 //! The catalog: all that the journal's events say of the live datasets.
 //!
-//! It takes the events that are built: a dataset begins, gets a version or goes, and a plan of it begins, copies and flips. A half
-//! of the journal may begin with a snapshot, whose events are taken where a half is replayed: they have no room made before. It
-//! gives the events of its own snapshot. Those that add columns are defined, and refused.
+//! It takes all events: a dataset begins, gets a version, with columns added or not, or goes, and a plan of it begins, copies and
+//! flips. A half of the journal may begin with a snapshot, whose events are taken where a half is replayed: they have no room made
+//! before. It gives the events of its own snapshot.
 #![tactic(auto)]
 
 mod arrival;
@@ -35,6 +35,7 @@ mod whole_parts;
 mod whole_plans;
 mod whole_versions;
 mod wholes;
+mod wide;
 mod worked;
 
 pub use catalog::Catalog;
@@ -45,7 +46,6 @@ pub use field::Field;
 pub use laws::{
     a_snapshot_says_the_world, an_empty_dataset_stands, at_most_one_world, events_are_moves,
     nothing_stands_for_the_empty_world, one_more_event, only_live_extents_matter,
-    what_is_built_follows,
 };
 pub use steps::plan_steps;
 pub use telling::{numbers_tell_worlds_apart, order_is_by_rid};

@@ -21,11 +21,28 @@ pub enum Room {
     /// For an Init with this schema.
     Init(Spare),
     /// For a Commit to the dataset with this number, at this place.
-    Commit { cvd: u32, place: Placed },
+    Commit {
+        cvd: u32,
+        place: Placed,
+    },
+    /// For a Wide to this dataset, at this place, which leaves it this schema.
+    Wide {
+        cvd: u32,
+        place: Placed,
+        schema: Schema,
+    },
     /// For a Plan of this dataset, which is ready here.
-    Plan { cvd: u32, plan: Plan },
+    Plan {
+        cvd: u32,
+        plan: Plan,
+    },
     /// For a Copy in this dataset.
-    Copy { cvd: u32 },
+    Copy {
+        cvd: u32,
+    },
     /// For a Flip in this dataset, of a target with these versions.
-    Flip { cvd: u32, versions: Vec<u32> },
+    Flip {
+        cvd: u32,
+        versions: Vec<u32>,
+    },
 }

@@ -1,11 +1,12 @@
-//! A schema as an event spells it.
+//! A schema as an event spells it, and with columns added.
 
 ghost use Rattle.std.specs.Prelude.{◌≡◌, true, map, is_ok, IfOk, Ok};
 ghost use Rattle.ov_catalog.specs.declared.field.Field.TheVariants as off;
 ghost use Rattle.ov_catalog.specs.Answers.{Answers};
 ghost use Rattle.ov_catalog.specs.Applying.{off_unless, are_places as are_places_by, is_schema, name_at};
 ghost use Rattle.ov_catalog.specs.Raw.{shape_in};
-ghost use Rattle.ov_value.specs.Making.{schema_of};
+ghost use Rattle.ov_model.specs.Moves.{wide_schema};
+ghost use Rattle.ov_value.specs.Making.{schema_of, widened as widened_by};
 ghost use Rattle.ov_value.specs.Shapes.{IsSound};
 
 use crate::error::ApplyErr;
@@ -70,6 +71,20 @@ pub fn schema_from(alloc: Global, raw: &RawSchema) -> Result<Schema, ApplyErr>
     let names = names_at(alloc, columns, key)?;
     let made = made_of(alloc, copies_of(alloc, columns)?, names)?;
     Ok(made)
+}
+
+/// The schema with these columns added at the right.
+pub fn widened(alloc: Global, schema: &Schema, added: &[Column]) -> Result<Schema, ApplyErr>
+    ensures answer { Answers result (off_unless (is_ok (widened_by schema.now added.now)) off.Schema) }
+    ensures made { IfOk result (λ made. made ≡ wide_schema schema.now added.now) }
+{
+    match schema.widen(alloc, added) {
+        Ok(wide) => Ok(wide),
+        Err(SchemaErr::Memory) => Err(ApplyErr::Memory),
+        Err(_) => Err(ApplyErr::NotNext {
+            field: Field::Schema,
+        }),
+    }
 }
 
 /// A schema as an event spells it.

@@ -1,5 +1,5 @@
-//! What is worked out on a chain of three versions, each the contract of a function that does nothing: a plan with its steps, and
-//! added columns and a checkpoint, whose events no journal has yet.
+//! What is worked out on a chain of three versions, each the contract of a function that does nothing: a plan with its steps,
+//! added columns and a checkpoint.
 
 ghost use Rattle.std.specs.Prelude.{◌≡◌, [], ◌∷◌, None, Some, map};
 ghost use Rattle.std.specs.Option.{option_map};

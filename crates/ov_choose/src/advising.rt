@@ -65,7 +65,7 @@ pub fn advise<H: Host>(
         (λ advice. advise_refused w name.now budget a b ≡ None) (IsRefusedTo name.now budget (advise_refused w name.now budget a b)) }
 {
     let cost = present_cost(store, name, a, b)?;
-    let Picked { lists: _, lines, p } = pick_of(alloc, store, host, name, budget)?;
+    let Picked { lines, p, .. } = pick_of(alloc, store, host, name, budget)?;
     let best = lines[p as usize - 1].cost;
     Ok(Advice {
         cost,

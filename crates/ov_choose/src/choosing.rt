@@ -11,6 +11,7 @@ ghost use Rattle.ov_model.specs.declared.refusal.Refusal.{Refusal};
 ghost use Rattle.ov_model.specs.declared.reply.BudgetLine.{BudgetLine as BudgetLineValue};
 ghost use Rattle.ov_open.specs.Opening.{IsWorld};
 ghost use Rattle.ov_optimize.specs.Damages.{HasBadPart, IsListDamage};
+ghost use Rattle.ov_optimize.specs.Planned.{IsSplitFor};
 ghost use Rattle.ov_read.specs.Sizes.{bytes_for, list_bytes_for};
 ghost use Rattle.law_room.specs.Room.{Entry, IsWithin, Made};
 ghost use Rattle.ov_store.specs.Committing.{Set};
@@ -28,6 +29,7 @@ use crate::errors::{ChooseErr, unbegun};
 use crate::picking::{Picked, pick_of};
 use crate::telling::told_lines;
 use ov_host::Host;
+use ov_lyre::Split;
 use ov_member::Members;
 use ov_model::{BudgetLine, Seq};
 use ov_store::{Report, Store};
@@ -44,12 +46,13 @@ pub struct Chosen {
     pub report: Report,
 }
 
-/// A threshold whose plan may begin, with the lists that it was chosen by.
+/// A threshold whose plan may begin, with the lists that it was chosen by, and its split.
 #[derive(Drop)]
 struct Choice {
     lists: Vec<Members>,
     lines: Seq<BudgetLine>,
     p: u32,
+    split: Split,
 }
 
 // The threshold whose plan begins.
@@ -69,6 +72,8 @@ fn choose<H: Host>(
     ensures allowed { IfOk result (λ choice. optimize_off store.now.held.numbers name.now choice.p 100 ≡ None) }
     ensures listed { (s : Set) → set_in store.now.held.numbers name.now ≡ Some s
         → IfOk result (λ choice. AreListsOf s (H.state host.new) choice.lists.items) }
+    ensures split { (s : Set) → set_in store.now.held.numbers name.now ≡ Some s
+        → IfOk result (λ choice. IsSplitFor s choice.p 100 choice.split) }
     ensures chosen { (s : Set) → set_in store.now.held.numbers name.now ≡ Some s
         → IfOk result (λ choice. IsPicked s budget (H.state host.old) choice.lines choice.p) }
     ensures why { IfErr result (IsUnpicked (within_off (set_in store.now.held.numbers name.now)) (set_in store.now.held.numbers name.now)
@@ -77,9 +82,19 @@ fn choose<H: Host>(
         (λ choice. IsShownTo w name.now budget choice.lines choice.p) (IsRefusedTo name.now budget (within_refused w name.now budget)) }
 {
     may_choose(store, name)?;
-    let Picked { lists, lines, p } = pick_of(alloc, store, host, name, budget)?;
+    let Picked {
+        lists,
+        lines,
+        p,
+        split,
+    } = pick_of(alloc, store, host, name, budget)?;
     let lines = told_lines(alloc, &lines)?;
-    Ok(Choice { lists, lines, p })
+    Ok(Choice {
+        lists,
+        lines,
+        p,
+        split,
+    })
 }
 
 /// Begins the plan of a threshold p / 100, p from 1 to 100: of those that store at most so many records as the budget says the one
@@ -139,8 +154,13 @@ pub fn optimize_within<H: Host>(
         → MatchResult result (λ chosen. IsWithin entry (and_made past (BeginPlan d.cvd.number best.0 100) w) store.new.held)
         (IsPlanLackOf entry past (BeginPlan d.cvd.number best.0 100) w) }
 {
-    let Choice { lists, lines, p } = choose(alloc, store, host, name, budget)?;
-    match store.begin_plan(host, name, u64::from(p), 100, &lists) {
+    let Choice {
+        lists,
+        lines,
+        p,
+        split,
+    } = choose(alloc, store, host, name, budget)?;
+    match store.begin_plan(host, name, u64::from(p), 100, &lists, &split) {
         Ok(report) => Ok(Chosen { lines, p, report }),
         Err(off) => Err(unbegun(off)),
     }

@@ -20,12 +20,12 @@ use Rattle.ov_catalog.specs.Numbers.{Numbers}
 use Rattle.ov_catalog.specs.Raw.{event_in, numbers_in}
 use Rattle.ov_catalog.specs.Sources.{IsApart}
 use Rattle.ov_catalog.specs.Stands.{IsMove, Readings, seen_event}
-use Rattle.ov_catalog.proofs.Covering.{applies_built, live_applied}
+use Rattle.ov_catalog.proofs.Covering.{live_applied}
 use Rattle.ov_catalog.proofs.FlipCounts.{total, total-append}
 use Rattle.ov_catalog.proofs.Weighing.{live_total}
 use Rattle.law_image.specs.Pages.{SameLive, pages_in, readings_of}
 use Rattle.law_events.proofs.Asking.{applies_sound}
-use Rattle.law_events.proofs.Committing.{is_move}
+use Rattle.law_events.proofs.Moves.{is_move_in}
 use Rattle.ov_core.specs.AtWorld.{IsAtWorld, IsAtNext, IsEither}
 use Rattle.ov_core.specs.Brought.{Asks, IsBare, content}
 use Rattle.ov_core.specs.Held.{Held, IsReplayed}
@@ -57,13 +57,13 @@ bare_seen r (says.Base next) bare = absurd bare
 bare_seen r (says.Whole said) bare = absurd bare
 bare_seen r (says.Wide cvd vid message columns edges rows fresh place added list segment) bare = absurd bare
 
-module _ (e : raw.Event) (n : Numbers Extent Extent) (replayed : IsReplayed n) (applies : first_off e n ≡ None) (apart : IsApart e n) (bare : IsBare e) where
+module _ (e : raw.Event) (n : Numbers Extent Extent) (replayed : IsReplayed n) (format : ℕ) (applies : first_off format e n ≡ None) (apart : IsApart e n) (bare : IsBare e) where
   -- what is given up, and what stays, is what was live
   bare_same : AreSame (live n) (given_up (event_in e) n ++ live (applied (event_in e) n))
   bare_same w none =
       omega (
         arith,
-        live_total w e n applies apart (served n replayed),
+        live_total w format e n applies apart (served n replayed),
         ap (total w) (bare_brought e bare),
         total-append w (given_up (event_in e) n) (live (applied (event_in e) n)),
       )
@@ -86,7 +86,7 @@ module _ (e : raw.Event) (n : Numbers Extent Extent) (replayed : IsReplayed n) (
       all ∙ given ∙ ap (λ (xs : List Extent). xs ++ given_up (event_in e) m) (kept ∙ empty) ∙ ap (given_up (event_in e)) same
       in (
         bare_reserved after items r now gone h,
-        subst IsReplayed (sym now) (replayed_more n e replayed applies),
+        subst IsReplayed (sym now) (replayed_more format n e replayed applies),
       )
 
   -- the pages of what stays are there
@@ -97,14 +97,14 @@ module _ (e : raw.Event) (n : Numbers Extent Extent) (replayed : IsReplayed n) (
       in let some_now : 1 ≤ covers (live (applied (event_in e) n)) page = subst (λ (x : Numbers Extent Extent). 1 ≤ covers (live x) page) now some
       in let none : covers (brought (event_in e)) page ≡ 0 = ap (λ (es : List Extent). covers es page) (bare_brought e bare)
       in subst (λ (ps : List ℕ). page < pages_in ps) (sym kept)
-      (there page (omega (arith, some_now, none, live_applied page e n (applies_built e n applies) apart)))
+      (there page (omega (arith, some_now, none, live_applied page e n apart)))
 
 pub drop_event : (cvd : ℕ) → cvd < 2 ^ 32 → IsEvent (says.Drop cvd)
 unfolding IsEvent
 drop_event cvd small = small
 
 module _ (w : World) (held : Held) (s0 : State) (is : IsAtWorld w held s0) (m : Move) (e : raw.Event) (event : IsEvent e)
-    (applies : first_off e held.numbers ≡ None) (bare : IsBare e) (asks : Asks m w e) where
+    (applies : first_off held.journal.format e held.numbers ≡ None) (bare : IsBare e) (asks : Asks m w e) where
   abbrev pages : List ℕ
   pages = s0.tape.disk.pages.bytes
 
@@ -117,9 +117,9 @@ module _ (w : World) (held : Held) (s0 : State) (is : IsAtWorld w held s0) (m : 
   none : (page : ℕ) → covers (brought (event_in e)) page ≡ 0
   none page = ap (λ (es : List Extent). covers es page) (bare_brought e bare)
 
-  move : IsMove e m w (numbers_in is.events) (readings_of pages)
+  move : IsMove held.journal.format e m w (numbers_in is.events) (readings_of pages)
   move =
-      is_move is.events (readings_of pages) w e m is.stands.stands asks.fits (applies_sound e held.numbers applies)
+      is_move_in held.journal.format is.events (readings_of pages) w e m is.stands.stands is.stands.format asks.fits (applies_sound held.journal.format e held.numbers applies)
       (ap Some (bare_seen (readings_of pages) e bare) ∙ asks.says)
       (λ page. omega (arith, none page, is.stands.stands.apart.once page))
       (λ page some. absurd (omega (arith, none page, some)))

@@ -21,7 +21,7 @@ use Rattle.ov_catalog.specs.Raw.{event_in, numbers_in}
 use Rattle.ov_catalog.specs.Stands.{IsMove}
 use Rattle.law_image.specs.Pages.{SameLive, readings_of}
 use Rattle.law_events.proofs.Asking.{applies_sound}
-use Rattle.law_events.proofs.Committing.{is_move}
+use Rattle.law_events.proofs.Moves.{is_move_in}
 use Rattle.ov_core.specs.declared.brought.Brought.{Brought}
 use Rattle.ov_core.specs.AtWorld.{IsAtWorld, IsAtNext, IsEither}
 use Rattle.ov_core.specs.Brought.{with_extents, Brings, IsUnplaced}
@@ -47,7 +47,7 @@ module _ (list segment : List ℕ) (l s : Extent) (a b : Run) (carry : Carries l
   ranges_are = λ i. range_of (carry.list_page i) (carry.list_bytes i) ∷ range_of (carry.segment_page i) (carry.segment_bytes i) ∷ []
 
 module _ (w : World) (held : Held) (s0 : State) (is : IsAtWorld w held s0) (m : Move) (x : Brought) (l s : Extent)
-    (unplaced : IsUnplaced x) (event : IsEvent x.event) (applies : first_off x.event held.numbers ≡ None)
+    (unplaced : IsUnplaced x) (event : IsEvent x.event) (applies : first_off held.journal.format x.event held.numbers ≡ None)
     (placed_in : ArePlaced (live held.numbers) x.list.items x.segment.items l s) (brings : Brings m w x) where
   abbrev e : raw.Event
   e = with_extents l s x.event
@@ -73,17 +73,17 @@ module _ (w : World) (held : Held) (s0 : State) (is : IsAtWorld w held s0) (m : 
       (run_extent extents x.list.items l placed.list_run (list_small x unplaced event))
       (run_extent (l ∷ extents) x.segment.items s placed.segment_run (segment_small x unplaced event))
 
-  applies_now : first_off e (numbers_in is.events) ≡ None
+  applies_now : first_off held.journal.format e (numbers_in is.events) ≡ None
   applies_now =
-      subst (λ (n : Numbers Extent Extent). first_off e n ≡ None) is.numbers_are
-      (applies_placed (live held.numbers) x l s unplaced placed_in held.numbers applies)
+      subst (λ (n : Numbers Extent Extent). first_off held.journal.format e n ≡ None) is.numbers_are
+      (applies_placed (live held.numbers) x l s unplaced placed_in held.journal.format held.numbers applies)
 
-  move : IsMove e m w (numbers_in is.events) (readings_of final)
+  move : IsMove held.journal.format e m w (numbers_in is.events) (readings_of final)
   move =
       let are : (page : ℕ) → covers (brought (event_in e)) page ≡ covers (l ∷ extents_of s) page =
       same_covers (brought (event_in e)) (l ∷ extents_of s) (brought_placed extents x.list.items l s x.event unplaced.runs placed.list_run)
-      in is_move is.events (readings_of final) w e m (storing.stands_over w held s0 is final same) brings.fits
-      (applies_sound e (numbers_in is.events) applies_now)
+      in is_move_in held.journal.format is.events (readings_of final) w e m (storing.stands_over w held s0 is final same) is.stands.format brings.fits
+      (applies_sound held.journal.format e (numbers_in is.events) applies_now)
       (ap Some (spells extents x.list.items x.segment.items l s placed pages x.event unplaced.runs) ∙ brings.says)
       (λ page. omega (arith, are page, runs_apart extents x.list.items x.segment.items l s placed page (is.stands.stands.apart.once page)))
       (λ page some. runs_inside extents x.list.items x.segment.items l s placed pages page (omega (arith, are page, some)))

@@ -1,6 +1,7 @@
 -- An event whose extents are placed says the same otherwise: it applies, has a spelling, and as long a one.
 use Rattle.std.proofs.Common.{◌≡◌, ℕ, ◌+◌, ◌*◌, ◌%◌, ◌<◌, ◌≤◌, ◌^◌, Bool, true, false, ◌&&◌, ◌==◌, List, [], ◌∷◌, ◌++◌, length, refl, sym, ◌∙◌, ap, subst, arith, length-append}
 use Rattle.std.specs.Prelude.{Option, Some, None, nat_le, not}
+use Rattle.std.specs.Option.{option_or}
 use Rattle.std.proofs.lemmas.Bool.Decides.{nat_tests}
 use Rattle.ov_host.specs.declared.area.Extent.{Extent}
 use Rattle.ov_host.specs.Extent.{pages_of}
@@ -10,7 +11,7 @@ use Rattle.ov_event.specs.Fields.{u8, u32, text, extent, counted, IsExtent}
 use Rattle.ov_event.specs.Spelling.{spelling, schema, column, parents, place, IsEvent}
 use Rattle.ov_catalog.specs.Numbers.{PlanNumbers, SetNumbers, Numbers}
 use Rattle.ov_catalog.specs.Planning.{copy_off, of_running}
-use Rattle.ov_catalog.specs.Applying.{first_off, commit_off, of_live, set_numbered, is_extent, is_list, is_segment, is_same}
+use Rattle.ov_catalog.specs.Applying.{first_off, commit_off, format_off, wide_off, of_live, set_numbered, is_extent, is_list, is_segment, is_same}
 use Rattle.ov_catalog.specs.Raw.{place_in}
 use Rattle.law_events.proofs.Asking.{applies_sound}
 use Rattle.ov_core.specs.declared.brought.Brought.{Brought}
@@ -111,7 +112,9 @@ ends_of bytes s (says.Flip cvd) brings same is = absurd brings
 ends_of bytes s (says.Drop cvd) brings same is = absurd brings
 ends_of bytes s (says.Base next) brings same is = absurd brings
 ends_of bytes s (says.Whole set) brings same is = absurd brings
-ends_of bytes s (says.Wide cvd vid message columns edges rows fresh placed added list segment) brings same is = absurd brings
+ends_of bytes s (says.Wide cvd vid message columns edges rows fresh placed added list segment) brings same is =
+    let one : list ≡ extent_at 0 bytes = cc in let two : segment ≡ s = cc in
+    record { list = subst IsExtent one is.9; segment = subst IsExtent two is.10 }
 
 extent_size : (page : ℕ) (bytes : List ℕ) → (extent_at page bytes).bytes ≡ length bytes
 extent_size page [] = refl
@@ -186,19 +189,19 @@ module _ (live : List Extent) (b : Brought) (l s : Extent) (is : IsUnplaced b) (
   segment_page : is_extent s ≡ true
   segment_page = fits_page (l ∷ live) b.segment.items s placed.segment_run
 
-  applies_by : (e : raw.Event) (n : Numbers Extent Extent) → BringsRuns e b.list.items → with_extents (extent_at 0 b.list.items) (extent_at 0 b.segment.items) e ≡ e → first_off e n ≡ None → first_off (with_extents l s e) n ≡ first_off e n
-  applies_by (says.Init name columns rows list segment) n brings same h =
+  applies_by : (format : ℕ) (e : raw.Event) (n : Numbers Extent Extent) → BringsRuns e b.list.items → with_extents (extent_at 0 b.list.items) (extent_at 0 b.segment.items) e ≡ e → first_off format e n ≡ None → first_off format (with_extents l s e) n ≡ first_off format e n
+  applies_by format (says.Init name columns rows list segment) n brings same h =
       let one : extent_at 0 b.list.items ≡ list = cc in
       let two : extent_at 0 b.segment.items ≡ segment = cc in
-      let sound = applies_sound (says.Init name columns rows list segment) n h in
+      let sound = applies_sound format (says.Init name columns rows list segment) n h in
       let list_is = list_fits rows list l (sym (ap (λ (x : Extent). x.bytes) one) ∙ list_size) list_page sound.0 in
       let segment_is = segment_fits rows segment s (sym (ap (λ (x : Extent). x.bytes) two) ∙ segment_size) segment_page sound.1 in
       let test = both_true (is_list rows l) (is_segment rows s) (is_list rows list) (is_segment rows segment) list_is segment_is sound.0 sound.1 in
       rw test refl
-  applies_by (says.Commit cvd vid message edges rows fresh place added list segment) n brings same h =
+  applies_by format (says.Commit cvd vid message edges rows fresh place added list segment) n brings same h =
       let one : extent_at 0 b.list.items ≡ list = cc in
       let two : extent_at 0 b.segment.items ≡ segment = cc in
-      let sound = applies_sound (says.Commit cvd vid message edges rows fresh place added list segment) n h in
+      let sound = applies_sound format (says.Commit cvd vid message edges rows fresh place added list segment) n h in
       let list_is = list_fits rows list l (sym (ap (λ (x : Extent). x.bytes) one) ∙ list_size) list_page sound.0 in
       let segment_is = segment_fits added segment s (sym (ap (λ (x : Extent). x.bytes) two) ∙ segment_size) segment_page sound.1 in
       let test = both_true (is_list rows l) (is_segment added s) (is_list rows list) (is_segment added segment) list_is segment_is sound.0 sound.1 in
@@ -208,10 +211,10 @@ module _ (live : List Extent) (b : Brought) (l s : Extent) (is : IsUnplaced b) (
           → of_live (commit_off vid message edges rows fresh (place_in place) added l s) found ≡ of_live (commit_off vid message edges rows fresh (place_in place) added list segment) found
       by None test = refl
       by (Some d) test = rw test refl
-  applies_by (says.Plan cvd p q targets) n brings same h = absurd brings
-  applies_by (says.Copy cvd count segment) n brings same h =
+  applies_by format (says.Plan cvd p q targets) n brings same h = absurd brings
+  applies_by format (says.Copy cvd count segment) n brings same h =
       let two : extent_at 0 b.segment.items ≡ segment = cc in
-      let sound = applies_sound (says.Copy cvd count segment) n h in
+      let sound = applies_sound format (says.Copy cvd count segment) n h in
       let some : not (s.bytes == 0) ≡ true = subst (λ (bytes : ℕ). not (bytes == 0) ≡ true) (sym (ap (λ (x : Extent). x.bytes) two) ∙ segment_size) sound.0 in
       let test = both_true (not (s.bytes == 0)) (is_extent s) (not (segment.bytes == 0)) (is_extent segment) some segment_page sound.0 sound.1 in
       by (set_numbered cvd n) test
@@ -225,14 +228,26 @@ module _ (live : List Extent) (b : Brought) (l s : Extent) (is : IsUnplaced b) (
           → of_live (λ d. of_running (copy_off count s) d.plan) found ≡ of_live (λ d. of_running (copy_off count segment) d.plan) found
       by None test = refl
       by (Some d) test = of_plan d.plan test
-  applies_by (says.Flip cvd) n brings same h = absurd brings
-  applies_by (says.Drop cvd) n brings same h = absurd brings
-  applies_by (says.Base next) n brings same h = absurd brings
-  applies_by (says.Whole set) n brings same h = absurd brings
-  applies_by (says.Wide cvd vid message columns edges rows fresh place added list segment) n brings same h = absurd brings
+  applies_by format (says.Flip cvd) n brings same h = absurd brings
+  applies_by format (says.Drop cvd) n brings same h = absurd brings
+  applies_by format (says.Base next) n brings same h = absurd brings
+  applies_by format (says.Whole set) n brings same h = absurd brings
+  applies_by format (says.Wide cvd vid message columns edges rows fresh place added list segment) n brings same h =
+      let one : extent_at 0 b.list.items ≡ list = cc in
+      let two : extent_at 0 b.segment.items ≡ segment = cc in
+      let sound = applies_sound format (says.Wide cvd vid message columns edges rows fresh place added list segment) n h in
+      let list_is = list_fits rows list l (sym (ap (λ (x : Extent). x.bytes) one) ∙ list_size) list_page sound.0 in
+      let segment_is = segment_fits added segment s (sym (ap (λ (x : Extent). x.bytes) two) ∙ segment_size) segment_page sound.1 in
+      let test = both_true (is_list rows l) (is_segment added s) (is_list rows list) (is_segment added segment) list_is segment_is sound.0 sound.1 in
+      ap (option_or (format_off format)) (by (set_numbered cvd n) test)
+    where
+      by : (found : Option (SetNumbers Extent Extent)) → (is_list rows l && is_segment added s) ≡ (is_list rows list && is_segment added segment)
+          → of_live (wide_off vid message columns edges rows fresh (place_in place) added l s) found ≡ of_live (wide_off vid message columns edges rows fresh (place_in place) added list segment) found
+      by None test = refl
+      by (Some d) test = rw test refl
 
-  pub applies_placed : (n : Numbers Extent Extent) → first_off b.event n ≡ None → first_off (with_extents l s b.event) n ≡ None
-  applies_placed n h = applies_by b.event n is.runs is.extents h ∙ h
+  pub applies_placed : (format : ℕ) (n : Numbers Extent Extent) → first_off format b.event n ≡ None → first_off format (with_extents l s b.event) n ≡ None
+  applies_placed format n h = applies_by format b.event n is.runs is.extents h ∙ h
 
 pub brings_placed : (bytes : List ℕ) (l s : Extent) (e : raw.Event) → BringsRuns e bytes → BringsRuns (with_extents l s e) bytes
 brings_placed bytes l s (says.Init name columns rows list segment) brings = tt
@@ -243,4 +258,4 @@ brings_placed bytes l s (says.Flip cvd) brings = absurd brings
 brings_placed bytes l s (says.Drop cvd) brings = absurd brings
 brings_placed bytes l s (says.Base next) brings = absurd brings
 brings_placed bytes l s (says.Whole set) brings = absurd brings
-brings_placed bytes l s (says.Wide cvd vid message columns edges rows fresh place added list segment) brings = absurd brings
+brings_placed bytes l s (says.Wide cvd vid message columns edges rows fresh place added list segment) brings = tt

@@ -13,15 +13,16 @@ use Rattle.ov_event.proofs.Events.{fits_of}
 use Rattle.ov_layout.specs.Changes.{extents_of}
 use Rattle.ov_pages.specs.Sets.{Reserved}
 use Rattle.ov_pages.specs.Live.{AreReserved}
-use Rattle.ov_catalog.specs.Applying.{first_off}
+use Rattle.ov_catalog.specs.Applying.{Beyond, first_off, start_of}
 use Rattle.ov_catalog.specs.Events.{applied}
 use Rattle.ov_catalog.specs.Extents.{brought, covers, given_up, has_page, live}
-use Rattle.ov_catalog.specs.Numbers.{Numbers}
+use Rattle.ov_catalog.specs.Numbers.{Numbers, nothing_yet}
 use Rattle.ov_catalog.specs.Raw.{event_in}
 use Rattle.ov_catalog.specs.Sources.{IsApart}
 use Rattle.law_image.specs.Pages.{pages_in}
 use Rattle.ov_catalog.proofs.FlipCounts.{total}
-use Rattle.ov_catalog.proofs.Serving.{all_apply, all_served, numbers_more, AllServed}
+use Rattle.ov_catalog.proofs.Following.{follow_in_two, next_in_two}
+use Rattle.ov_catalog.proofs.Serving.{all_follow, all_served, numbers_more, AllServed}
 use Rattle.ov_catalog.proofs.Weighing.{live_total}
 use Rattle.ov_core.specs.declared.brought.Brought.{Brought}
 use Rattle.ov_core.specs.declared.errors.ChangeErr.{ChangeErr}
@@ -41,12 +42,14 @@ placed_by live list segment b l s one two placed =
 -- ---- numbers
 
 pub served : (n : Numbers Extent Extent) → IsReplayed n → AllServed n.sets
-served n is = subst (λ (x : Numbers Extent Extent). AllServed x.sets) (sym is.are) (all_served is.events is.apply)
+served n is = subst (λ (x : Numbers Extent Extent). AllServed x.sets) (sym is.are) (all_served is.format is.events is.follow)
 
-pub replayed_more : (n : Numbers Extent Extent) (e : raw.Event) → IsReplayed n → first_off e n ≡ None → IsReplayed (applied (event_in e) n)
-replayed_more n e is h = record {
+pub replayed_more : (format : ℕ) (n : Numbers Extent Extent) (e : raw.Event) → IsReplayed n → first_off format e n ≡ None → IsReplayed (applied (event_in e) n)
+replayed_more format n e is h = record {
+  format = 2;
   events = is.events ++ e ∷ [];
-  apply = all_apply is.events e is.apply (subst (λ (x : Numbers Extent Extent). first_off e x ≡ None) is.are h);
+  follow = all_follow 2 is.events e (follow_in_two (start_of is.format) is.events nothing_yet is.follow)
+      (subst (λ (x : Numbers Extent Extent). first_off 2 e x ≡ None) is.are (next_in_two (record { format = format; reach = Beyond }) e n h));
   are = ap (applied (event_in e)) is.are ∙ sym (numbers_more is.events e);
 }
 
@@ -59,7 +62,7 @@ none_given_up bytes l s (says.Flip cvd) n brings = absurd brings
 none_given_up bytes l s (says.Drop cvd) n brings = absurd brings
 none_given_up bytes l s (says.Base next) n brings = absurd brings
 none_given_up bytes l s (says.Whole set) n brings = absurd brings
-none_given_up bytes l s (says.Wide cvd vid message columns edges rows fresh place added a b) n brings = absurd brings
+none_given_up bytes l s (says.Wide cvd vid message columns edges rows fresh place added a b) n brings = refl
 
 -- no such event is a flip
 pub apart_placed : (bytes : List ℕ) (l s : Extent) (e : raw.Event) (n : Numbers Extent Extent) → BringsRuns e bytes → IsApart (with_extents l s e) n
@@ -71,7 +74,7 @@ apart_placed bytes l s (says.Flip cvd) n brings = absurd brings
 apart_placed bytes l s (says.Drop cvd) n brings = absurd brings
 apart_placed bytes l s (says.Base next) n brings = absurd brings
 apart_placed bytes l s (says.Whole set) n brings = absurd brings
-apart_placed bytes l s (says.Wide cvd vid message columns edges rows fresh place added a b) n brings = absurd brings
+apart_placed bytes l s (says.Wide cvd vid message columns edges rows fresh place added a b) n brings = tt
 
 -- an extent of no bytes counts for nothing
 empty_total : (w : Extent → ℕ) (segment : List ℕ) (s : Extent) → w nowhere ≡ 0 → s ≡ extent_at s.page segment → s.bytes ≡ length segment → total w (extents_of s) ≡ w s
@@ -95,18 +98,18 @@ inside_by live list segment l s placed old page there some = by (has_page l page
     by false true in_list in_segment h = segment_inside live list segment l s placed old page in_segment
     by false false in_list in_segment h = live_inside live list segment l s placed old page (there page (omega (arith, h)))
 
-module _ (n : Numbers Extent Extent) (replayed : IsReplayed n) (b : Brought) (unplaced : IsUnplaced b) (applies : first_off b.event n ≡ None)
+module _ (n : Numbers Extent Extent) (replayed : IsReplayed n) (b : Brought) (unplaced : IsUnplaced b) (format : ℕ) (applies : first_off format b.event n ≡ None)
     (l s : Extent) (placed : ArePlaced (live n) b.list.items b.segment.items l s) (segment_is : s ≡ extent_at s.page b.segment.items) where
   abbrev e : raw.Event
   e = with_extents l s b.event
 
-  pub applies_now : first_off e n ≡ None
-  applies_now = applies_placed (live n) b l s unplaced placed n applies
+  pub applies_now : first_off format e n ≡ None
+  applies_now = applies_placed (live n) b l s unplaced placed format n applies
 
   -- the new extents and the live ones are those that are live then
   pub live_same : AreSame (s ∷ l ∷ live n) (live (applied (event_in e) n))
   live_same w none =
-      let all = live_total w e n applies_now (apart_placed b.list.items l s b.event n unplaced.runs) (served n replayed)
+      let all = live_total w format e n applies_now (apart_placed b.list.items l s b.event n unplaced.runs) (served n replayed)
       in let given : total w (given_up (event_in e) n) ≡ 0 = ap (total w) (none_given_up b.list.items l s b.event n unplaced.runs)
       in let come : total w (brought (event_in e)) ≡ w l + total w (extents_of s) = brought_placed (live n) b.list.items l s b.event unplaced.runs placed.list_run w none
       in let last : total w (extents_of s) ≡ w s = empty_total w b.segment.items s none segment_is placed.segment_run.size
@@ -117,7 +120,7 @@ module _ (n : Numbers Extent Extent) (replayed : IsReplayed n) (b : Brought) (un
   kept_add y after r same is h =
       let all : after ≡ applied (event_in e) n = is ∙ ap (λ (v : raw.Event). applied (event_in v) n) same
       in subst (λ (x : Numbers Extent Extent). AreReserved (live x) r × IsReplayed x) (sym all)
-      (reserved_same (s ∷ l ∷ live n) (live (applied (event_in e) n)) r live_same h, replayed_more n e replayed applies_now)
+      (reserved_same (s ∷ l ∷ live n) (live (applied (event_in e) n)) r live_same h, replayed_more format n e replayed applies_now)
 
   -- the pages of what is live then are there
   pub pages_there : (y : raw.Event) (after : Numbers Extent Extent) (old new : List ℕ) → y ≡ e → after ≡ applied (event_in y) n

@@ -12,7 +12,7 @@ use Rattle.ov_layout.specs.Changes.{extents_of}
 use Rattle.ov_publish.specs.Pages.{whole_pages, range_of, with_run, AreOff, AreThere, SameOn}
 use Rattle.ov_publish.proofs.Overwriting.{run_is_read, run_there, run_longer, first_read, both_same}
 use Rattle.ov_catalog.specs.Extents.{brought, covers, has_page}
-use Rattle.ov_catalog.specs.Events.{Init, Commit, Copy}
+use Rattle.ov_catalog.specs.Events.{Init, Commit, Copy, Wide}
 use Rattle.ov_catalog.specs.Raw.{event_in, place_in, shape_in}
 use Rattle.ov_catalog.specs.Stands.{seen_event}
 use Rattle.law_image.specs.Lists.{list_in}
@@ -186,7 +186,8 @@ module _ (live : List Extent) (list segment : List ℕ) (l s : Extent) (placed :
   spells old (says.Drop cvd) brings = absurd brings
   spells old (says.Base next) brings = absurd brings
   spells old (says.Whole set) brings = absurd brings
-  spells old (says.Wide cvd vid message columns edges rows fresh place added a b) brings = absurd brings
+  spells old (says.Wide cvd vid message columns edges rows fresh place added a b) brings =
+      λ i. Wide cvd vid message columns edges rows fresh (place_in place) added (list_seen old i) (segments_seen old i)
 
   -- ---- its extents in the event
 
@@ -255,4 +256,4 @@ brought_placed live bytes l s (says.Flip cvd) brings run w none = absurd brings
 brought_placed live bytes l s (says.Drop cvd) brings run w none = absurd brings
 brought_placed live bytes l s (says.Base next) brings run w none = absurd brings
 brought_placed live bytes l s (says.Whole set) brings run w none = absurd brings
-brought_placed live bytes l s (says.Wide cvd vid message columns edges rows fresh place added a b) brings run w none = absurd brings
+brought_placed live bytes l s (says.Wide cvd vid message columns edges rows fresh place added a b) brings run w none = refl

@@ -66,16 +66,16 @@ module _ (w : World) (held : Held) (s0 : State) (is : IsAtWorld w held s0) where
   free ranges off = record { rest = is.rest.rest; there = are_there extents pages pages is.stands.stands.apart.inside; off = off }
 
   -- what the events stand for over other pages
-  pub stands_over : (final : List ℕ) → SameLive extents pages final → StandsFor is.events (readings_of final) w
+  pub stands_over : (final : List ℕ) → SameLive extents pages final → StandsFor held.journal.format is.events (readings_of final) w
   stands_over final same =
       (other_pages kept is.events w (as_read s0.tape.disk) (record { pages = final; journal = s0.tape.disk.journal.bytes; printed = [] }) is.stands refl same).stands
 
   module _ (m : Move) (e : raw.Event) (final : List ℕ) (same : SameLive extents pages final) (spelled : IsEvent e)
-      (move : IsMove e m w (numbers_in is.events) (readings_of final)) where
+      (move : IsMove held.journal.format e m w (numbers_in is.events) (readings_of final)) where
     after : (c : Image) → IsJournal (and_one kept (spelling e)) c.journal → c.pages ≡ final → StandsBy (and_one kept (spelling e)) (is.events ++ e ∷ []) (moved m w) c
     after c journal at_end =
         let Same : List ℕ → Type 0 = λ b. SameLive extents pages b
-        in let Moves : List ℕ → Type 0 = λ b. IsMove e m w (numbers_in is.events) (readings_of b)
+        in let Moves : List ℕ → Type 0 = λ b. IsMove held.journal.format e m w (numbers_in is.events) (readings_of b)
         in one_more kept is.events w (as_read s0.tape.disk) c e m is.stands spelled journal (subst Same (sym at_end) same) (subst Moves (sym at_end) move)
 
     -- a stop meanwhile

@@ -26,13 +26,13 @@ use Rattle.ov_catalog.specs.Snapshots.{IsSnapshot}
 use Rattle.ov_catalog.proofs.Moving.{snapshot_numbers}
 use Rattle.law_snapshots.specs.Said.{snapshot_in}
 use Rattle.law_snapshots.specs.Whole.{AreWhole}
-use Rattle.law_snapshots.proofs.Built.{built_whole}
-use Rattle.law_snapshots.proofs.Followed.{snapshot_applies}
+use Rattle.law_snapshots.proofs.Carrying.{all_whole}
+use Rattle.law_snapshots.proofs.Followed.{snapshot_follows}
 use Rattle.law_snapshots.proofs.Saying.{is_snapshot}
 use Rattle.law_image.specs.Checkpoints.{IsCheckpointed}
 use Rattle.law_image.specs.Images.{StandsBy, StandsAs}
 use Rattle.law_image.specs.Pages.{SameLive}
-use Rattle.law_image.proofs.Checkpointed.{built_stands}
+use Rattle.law_image.proofs.Checkpointed.{next_stands}
 use Rattle.law_image.proofs.Standing.{same_world}
 use Rattle.ov_core.specs.AtWorld.{IsAtWorld, IsAtNext, IsEither}
 use Rattle.ov_core.specs.Held.{Held, IsReplay, IsReplayed}
@@ -41,18 +41,18 @@ use Rattle.ov_core.proofs.Storing.{still}
 
 -- the numbers of a core are as a snapshot may say them
 pub replayed_whole : (n : Numbers Extent Extent) → IsReplayed n → AreWhole n
-replayed_whole n is = subst AreWhole (sym is.are) (built_whole is.events is.apply)
+replayed_whole n is = subst AreWhole (sym is.are) (all_whole is.format is.events is.follow)
 
 -- and those of the snapshot's events
 said_again : (n : Numbers Extent Extent) → AreWhole n → numbers_in (snapshot_in n) ≡ n
 said_again n are = snapshot_numbers (snapshot_in n) n (is_snapshot n are)
 
-pub replays : (n : Numbers Extent Extent) → AreWhole n → AllByRecursion IsEvent (snapshot_in n) → IsReplay (snapshot_payloads n) n
+pub replays : (n : Numbers Extent Extent) → AreWhole n → AllByRecursion IsEvent (snapshot_in n) → IsReplay 2 (snapshot_payloads n) n
 replays n are events = record {
   events = snapshot_in n;
   are = events;
   written = refl;
-  apply = snapshot_applies n are;
+  follow = snapshot_follows 2 n are;
   end = sym (said_again n are);
 }
 
@@ -98,7 +98,7 @@ module _ (w : World) (held : Held) (s0 : State) (is : IsAtWorld w held s0) (are 
 
   after : (c : Image) → IsJournal next c.journal → c.pages ≡ pages → StandsBy next (snapshot_in held.numbers) (moved Checkpoint w) c
   after c journal same =
-      built_stands kept next is.events (snapshot_in held.numbers) w (as_read s0.tape.disk) c (checkpointed c journal same) is.stands left
+      next_stands kept next is.events (snapshot_in held.numbers) w (as_read s0.tape.disk) c (checkpointed c journal same) is.stands left
 
   same_pages : (c : Image) → Leaves s0.tape.disk.pages c.pages → c.pages ≡ pages
   same_pages c leaves = settled_leaves pages c.pages (subst (λ a. Leaves a c.pages) is.rest.rest leaves)

@@ -40,7 +40,7 @@ with_extents list segment (says.Whole said) = says.Whole said
 with_extents list segment (says.Wide cvd vid message columns parents rows fresh place added l s) =
     says.Wide cvd vid message columns parents rows fresh place added list segment
 
--- An Init or a Commit brings a list and a segment, a Copy a segment alone. A Wide brings both as well; it isn't stored yet.
+-- An Init, a Commit and a Wide bring a list and a segment, a Copy a segment alone.
 abbrev pub BringsRuns : raw.Event → List ℕ → Type 0
 BringsRuns (says.Init name schema rows l s) list = Unit {0}
 BringsRuns (says.Commit cvd vid message parents rows fresh place added l s) list = Unit {0}
@@ -50,7 +50,7 @@ BringsRuns (says.Flip cvd) list = ⊥
 BringsRuns (says.Drop cvd) list = ⊥
 BringsRuns (says.Base next) list = ⊥
 BringsRuns (says.Whole said) list = ⊥
-BringsRuns (says.Wide cvd vid message columns parents rows fresh place added l s) list = ⊥
+BringsRuns (says.Wide cvd vid message columns parents rows fresh place added l s) list = Unit {0}
 
 pub record IsUnplaced (b : Brought) : Type 0 where
   pub runs : BringsRuns b.event b.list.items

@@ -25,7 +25,7 @@ use ov_publish::{Run, add_bare};
 use std::alloc::Global;
 
 impl Core {
-    /// Makes the change that an event with runs says, an Init, a Commit or a Copy.
+    /// Makes the change that an event with runs says, an Init, a Commit, with columns added or not, or a Copy.
     ///
     /// `Full` with the number of pages of the run that finds none: the list's, or else the segment's. `JournalFull` exactly
     /// where there are runs for both, and the record and a closed gate behind it would pass 2^28 bytes. After these and
@@ -41,7 +41,7 @@ impl Core {
     ) -> Result<(), ChangeErr>
         requires unplaced { IsUnplaced brought }
         requires event { IsEvent brought.event }
-        requires applies { first_off brought.event self.old.numbers ≡ None }
+        requires applies { first_off self.old.journal.format brought.event self.old.numbers ≡ None }
         requires goes_on { (H.state host.old).tells ≡ true → GoesOn self.old (H.state host.old) }
         ensures passes { Passes (H.state host.old) (H.state host.new) }
         ensures made { OnOk result (IsMade self.old self.new brought) }
@@ -100,7 +100,7 @@ impl Core {
     ) -> Result<(), ChangeErr>
         requires bare { IsBare event }
         requires event { IsEvent event }
-        requires applies { first_off event self.old.numbers ≡ None }
+        requires applies { first_off self.old.journal.format event self.old.numbers ≡ None }
         requires goes_on { (H.state host.old).tells ≡ true → GoesOn self.old (H.state host.old) }
         ensures passes { Passes (H.state host.old) (H.state host.new) }
         ensures made { OnOk result (IsRecorded self.old self.new event) }
@@ -138,7 +138,7 @@ impl Core {
         host: &mut H,
         cvd: u32,
     ) -> Result<(), ChangeErr>
-        requires applies { first_off (says.Drop cvd) self.old.numbers ≡ None }
+        requires applies { first_off self.old.journal.format (says.Drop cvd) self.old.numbers ≡ None }
         requires goes_on { (H.state host.old).tells ≡ true → GoesOn self.old (H.state host.old) }
         ensures passes { Passes (H.state host.old) (H.state host.new) }
         ensures made { OnOk result (IsDropped self.old self.new cvd) }

@@ -127,18 +127,18 @@ pub fn ready(
     event: &Event,
     freed: &mut Vec<Extent>,
 ) -> Result<Framed, ChangeErr>
-    requires applies { first_off event.now catalog.old.numbers ≡ None }
+    requires applies { first_off journal.now.format event.now catalog.old.numbers ≡ None }
     requires spelled { Fits event.now }
     ensures record { IfOk result (λ framed. framed ≡ spelling event.now) }
     ensures fits { OnOk result (PassesEnd journal.now event.now → ⊥) }
-    ensures ready { OnOk result (HasRoom event.now catalog.new.ready) }
+    ensures ready { OnOk result (HasRoom event.now catalog.new.numbers catalog.new.ready) }
     ensures room { OnOk result (length freed.new.items + length (given_up (event_in event.now) catalog.old.numbers) ≤ vec_capacity freed.new) }
     ensures numbers { catalog.new.numbers ≡ catalog.old.numbers }
     ensures freed { freed.new.items ≡ freed.old.items }
     ensures why { IfErr result (IsWhyNotReady journal.now event.now) }
 {
     // An event that applies is refused for want of memory alone.
-    if catalog.room_for(event, freed).is_err() {
+    if catalog.room_for(journal.format(), event, freed).is_err() {
         return Err(ChangeErr::Memory);
     }
     record_for(alloc, journal, event)
@@ -158,7 +158,7 @@ pub fn write_change<H: Host>(
 ) -> Result<(), ChangeErr>
     requires end { (H.state host.old).tells ≡ true → journal.old.end < length (area_bytes Area.Journal (H.state host.old)) }
     requires brings { BringsRuns event list.bytes.now }
-    requires applies { first_off event catalog.old.numbers ≡ None }
+    requires applies { first_off journal.old.format event catalog.old.numbers ≡ None }
     requires spelled { Fits event }
     requires list { length list.bytes.now < 2 ^ 32 }
     requires segment { length segment.bytes.now < 2 ^ 32 }
@@ -169,6 +169,7 @@ pub fn write_change<H: Host>(
     ensures numbers { OnErr result (catalog.new.numbers ≡ catalog.old.numbers) }
     ensures journal { IfErr result (λ why. (why ≡ ChangeErr.Host → ⊥) → journal.new ≡ journal.old) }
     ensures untouched { IfErr result (λ why. (why ≡ ChangeErr.Host → ⊥) → H.state host.new ≡ H.state host.old) }
+    ensures format { journal.new.format ≡ journal.old.format }
     ensures room { (H.state host.old).tells ≡ true → OnOk result (journal.new.end < length (area_bytes Area.Journal (H.state host.new))) }
     ensures stops { (payloads : List (List ℕ)) (live : List (ℕ × ℕ)) → IsAt payloads journal.old (H.state host.old)
         → IsFree live (ranges_of list.entry segment.entry) (H.state host.old).tape.disk

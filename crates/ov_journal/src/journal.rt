@@ -118,6 +118,7 @@ impl Journal {
             → OnOk result (IsAt (payloads ++ framed.now ∷ []) self.new (H.state host.new)) }
         ensures same { AtRest (H.state host.old) → OnOk result (SameButJournal (H.state host.old).tape.disk (H.state host.new).tape.disk) }
         ensures room { (H.state host.old).tells ≡ true → OnOk result (self.new.end < length (bytes_of Area.Journal (H.state host.new))) }
+        ensures format { self.new.format ≡ self.old.format }
         ensures full_same { IsErrOf result AppendErr.JournalFull → self.new ≡ self.old }
         ensures full_untouched { IsErrOf result AppendErr.JournalFull → H.state host.new ≡ H.state host.old }
     {

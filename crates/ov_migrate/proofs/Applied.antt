@@ -30,16 +30,16 @@ copy_is_next p count segment some is placed =
     ∙ ap (λ b. option_or (off_unless true off.Count) (off_unless b off.Place)) placed
 
 pub copy_applies : (s : Set) (p : PlanNumbers Extent) (count : ℕ) (segment : Extent) (e : raw.Event) → s.plan ≡ Some p → e ≡ says.Copy s.number count segment → 1 ≤ count
-    → count ≡ min 256 (missing p) → IsTrue (not (segment.bytes == 0) && is_extent segment) → (n : Catalog Extent Extent) → set_numbered s.number n ≡ Some s → first_off e n ≡ None
-copy_applies s p count segment e runs says_it some is placed n found =
-    ap (λ x. first_off x n) says_it
+    → count ≡ min 256 (missing p) → IsTrue (not (segment.bytes == 0) && is_extent segment) → (n : Catalog Extent Extent) → set_numbered s.number n ≡ Some s → (format : ℕ) → first_off format e n ≡ None
+copy_applies s p count segment e runs says_it some is placed n found format =
+    ap (λ x. first_off format x n) says_it
     ∙ ap (of_live (λ (d : Set). of_running (copy_off count segment) d.plan)) found
     ∙ ap (of_running (copy_off count segment)) runs
     ∙ copy_is_next p count segment some is placed
 
 pub flip_applies : (s : Set) (p : PlanNumbers Extent) → s.plan ≡ Some p → (current p).kept_records + p.copied ≡ (current p).size → (n : Catalog Extent Extent)
-    → set_numbered s.number n ≡ Some s → first_off (says.Flip s.number) n ≡ None
-flip_applies s p runs all n found =
+    → set_numbered s.number n ≡ Some s → (format : ℕ) → first_off format (says.Flip s.number) n ≡ None
+flip_applies s p runs all n found format =
     ap (of_live (λ (d : Set). of_running flip_off d.plan)) found
     ∙ ap (of_running flip_off) runs
     ∙ ap (λ b. off_unless b off.Count) (eq-eqb ((current p).kept_records + p.copied) (current p).size all)

@@ -13,7 +13,7 @@ use Rattle.ov_catalog.specs.Events.{current}
 use Rattle.ov_catalog.specs.Numbers.{PlanNumbers, SetNumbers, Numbers}
 use Rattle.ov_catalog.specs.Wholes.{is_plan}
 use Rattle.law_snapshots.specs.Whole.{AreNew, names_of}
-use Rattle.law_snapshots.proofs.Built.{built_whole, one_whole}
+use Rattle.law_snapshots.proofs.Carrying.{all_whole, one_whole}
 use Rattle.ov_core.specs.Held.{IsReplayed}
 
 abbrev pub Set : Type 0
@@ -108,8 +108,8 @@ first_found test (d ∷ sets) s e = by (test d) e (first_found test sets s)
 -- a dataset's name finds it
 pub named_again : (n : Numbers Extent Extent) (s : Set) → IsReplayed n → IsIn n.sets s → find (is_named s.name) n.sets ≡ Some s
 named_again n s is there =
-    in_named [] n.sets s (subst (λ (m : Numbers Extent Extent). AreNew [] (names_of m.sets)) (sym is.are) (built_whole is.events is.apply).names) there
+    in_named [] n.sets s (subst (λ (m : Numbers Extent Extent). AreNew [] (names_of m.sets)) (sym is.are) (all_whole is.format is.events is.follow).names) there
 
 pub plan_fits : (n : Numbers Extent Extent) (s : Set) → IsReplayed n → IsIn n.sets s → PlanIsFit s.plan
 plan_fits n s is there =
-    fit_of s s.plan (one_whole is.events s is.apply (subst (λ (m : Numbers Extent Extent). IsIn m.sets s) is.are there)).plan
+    fit_of s s.plan (one_whole is.format is.events s is.follow (subst (λ (m : Numbers Extent Extent). IsIn m.sets s) is.are there)).plan

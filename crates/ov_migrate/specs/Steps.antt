@@ -55,7 +55,7 @@ pub record IsReadyStep (n : Catalog Extent Extent) (step : Step) : Type 0 where
   pub p : PlanNumbers Extent
   pub turn : IsTurn n s p
   pub is : IsStepOf s p step
-  pub applies : first_off (event_in step) n ≡ None
+  pub applies : (format : ℕ) → first_off format (event_in step) n ≡ None
 
 abbrev pub IsReady : Catalog Extent Extent → Option Step → Type 0
 IsReady n None = running n ≡ None

@@ -83,7 +83,7 @@ fn step_of<H: Host>(alloc: Global, host: &mut H, d: &Cvd, plan: &Plan) -> Result
     ensures looked { Looked (H.state host.old) (H.state host.new) }
     ensures cause { IsErrOf result FetchErr.Host → Rose (H.state host.old).faults (H.state host.new).faults }
     ensures is { IfOk result (IsStepOf (set_in d.now) (plan_numbers plan.now)) }
-    ensures applies { IfOk result (λ step. (n : Numbers Extent Extent) → set_numbered d.now.number n ≡ Some (set_in d.now) → first_off (event_in step) n ≡ None) }
+    ensures applies { IfOk result (λ step. (n : Numbers Extent Extent) → set_numbered d.now.number n ≡ Some (set_in d.now) → (format : ℕ) → first_off format (event_in step) n ≡ None) }
     ensures answer { (H.state host.old).tells ≡ true → MatchResult result
         (IsTestedBy (page_bytes (H.state host.old)) (set_in d.now) (plan_numbers plan.now))
         (λ e. RefusesBy e (page_bytes (H.state host.old)) (set_in d.now) (plan_numbers plan.now)) }

@@ -217,11 +217,11 @@ module _ (n : ℕ) where
   abbrev longer : Rec → Rec
   longer r = wide_rec n r
 
-  among_wide : (rs : List Rec) (r : Rec) → is_among (map longer rs) (longer r) ≡ is_among rs r
+  pub among_wide : (rs : List Rec) (r : Rec) → is_among (map longer rs) (longer r) ≡ is_among rs r
   among_wide [] r = refl
   among_wide (x ∷ rs) r = λ i. (r.origin == x.origin && wide_same n r.row x.row i) || among_wide rs r i
 
-  filter_wide : (p q : Rec → Bool) (rs : List Rec) → ((r : Rec) → p (longer r) ≡ q r) → filter p (map longer rs) ≡ map longer (filter q rs)
+  pub filter_wide : (p q : Rec → Bool) (rs : List Rec) → ((r : Rec) → p (longer r) ≡ q r) → filter p (map longer rs) ≡ map longer (filter q rs)
   filter_wide p q [] same = refl
   filter_wide p q (x ∷ rs) same = (λ i. if same x i then longer x ∷ filter_wide p q rs same i else filter_wide p q rs same i) ∙ by (q x)
     where

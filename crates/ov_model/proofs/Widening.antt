@@ -68,7 +68,7 @@ module _ (n : ℕ) where
       (λ e. ap (is_same_row a) (sym (append_cancel_right a b (replicate n Null) (same_rows (extended n a) (extended n b) e))) ∙ same_row-refl a)
       (λ e. ap (λ x. is_same_row (extended n a) (extended n x)) (sym (same_rows a b e)) ∙ same_row-refl (extended n a))
 
-  abbrev wide_all : List (List Rec) → List (List Rec)
+  abbrev pub wide_all : List (List Rec) → List (List Rec)
   wide_all done = map (map (wide_rec n)) done
 
   wide_origin : (rs : List Rec) (row : Row) → origin_in (map (wide_rec n) rs) (extended n row) ≡ origin_in rs row
@@ -88,7 +88,7 @@ module _ (n : ℕ) where
   wide_record : (ps : List ℕ) (done : List (List Rec)) (row : Row) → record_of ps (wide_all done) (extended n row) ≡ wide_rec n (record_of ps done row)
   wide_record ps done row = λ i. record { origin = or_own (wide_by ps done row i) (length-map done (map (wide_rec n)) i + 1); row = extended n row }
 
-  wide_rows : (ps : List ℕ) (done : List (List Rec)) (rows : List Row) → map (record_of ps (wide_all done)) (map (extended n) rows) ≡ map (wide_rec n) (map (record_of ps done) rows)
+  pub wide_rows : (ps : List ℕ) (done : List (List Rec)) (rows : List Row) → map (record_of ps (wide_all done)) (map (extended n) rows) ≡ map (wide_rec n) (map (record_of ps done) rows)
   wide_rows ps done [] = refl
   wide_rows ps done (row ∷ rows) = λ i. wide_record ps done row i ∷ wide_rows ps done rows i
 

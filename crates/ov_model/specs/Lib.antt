@@ -6,7 +6,6 @@ pub mod Assigned
 pub mod Book
 pub mod Budget
 pub mod BudgetExamples
-pub mod Built
 pub mod ColumnExamples
 pub mod Course
 pub mod Csv

@@ -1,3 +1,4 @@
+pub mod Widened
 pub mod Placing
 pub mod Holding
 pub mod Making

@@ -21,17 +21,18 @@ use Rattle.ov_catalog.specs.declared.cvd.Cvd.{Cvd}
 use Rattle.ov_catalog.specs.Sets.{set_in, version_in}
 use Rattle.ov_catalog.specs.Applying.{facts_of, first_off, is_segment, set_numbered}
 use Rattle.ov_catalog.specs.Numbers.{Numbers}
+use Rattle.ov_catalog.specs.Raw.{adding}
 use Rattle.ov_catalog.specs.Reached.{AreParents, AreRows}
 use Rattle.ov_core.specs.Brought.{extent_at}
 use Rattle.law_events.specs.Fitting.{IsSoundEvent}
 use Rattle.law_commits.specs.Agreeing.{AreRids, ParentsAgree}
-use Rattle.law_commits.specs.Committing.{MayCommit, JoinedAgrees, added_for}
+use Rattle.law_commits.specs.Committing.{MayAdd, MayCommit, JoinedAgrees, added_for}
 use Rattle.law_commits.proofs.Agreed.{different, event_applies}
 use Rattle.law_commits.proofs.Rids.{length-assigned}
 use Rattle.law_commits.proofs.Times.{few_numbers, in_times}
 use Rattle.ov_version_bytes.specs.Next.{spelled_place}
 use Rattle.ov_version_bytes.specs.Written.{AreGiven, IsLong, list_written, segment_written}
-use Rattle.ov_version_bytes.proofs.Following.{place_back}
+use Rattle.ov_version_bytes.proofs.Following.{place_back, sound_added}
 use Rattle.ov_version_bytes.proofs.Sorting.{all_from}
 use Rattle.ov_new_version.specs.Asked.{Asked, asked_in, rids_of, fresh_of, edges_of, place_of}
 use Rattle.ov_new_version.specs.declared.wanted.Wanted.{Wanted}
@@ -44,7 +45,7 @@ pub record MayBe (a : Asked) : Type 0 where
   pub named : AreParents (length a.set.versions) a.vids
   pub few : length a.set.versions < 65535
   pub message : length a.message ≤ 1024
-  pub rows : AreRows a.set.schema a.rows
+  pub rows : AreRows a.schema a.rows
   pub agree : ParentsAgree a.set a.vids a.parents
   pub room : a.set.records + fresh_of a ≤ 2 ^ 31
 
@@ -68,7 +69,7 @@ made_is a made weights place slice rids ws fresh place_is =
       place_is = place_is ∙ ap (λ es. placed (facts_of a.set (heaviest es))) (ap (zip a.vids) slice ∙ edges);
     }
 
-pub may_be : (d : Cvd) (w : Wanted) → AreParents (length d.versions.items) w.vids.now → length d.versions.items < 65535 → length w.message.now ≤ 1024 → AreRows d.schema w.rows
+pub may_be : (d : Cvd) (w : Wanted) → AreParents (length d.versions.items) w.vids.now → length d.versions.items < 65535 → length w.message.now ≤ 1024 → AreRows w.schema.now w.rows
     → ParentsAgree (set_in d) w.vids.now w.parents.now → d.records + fresh_of (asked_in d w) ≤ 2 ^ 31 → MayBe (asked_in d w)
 may_be d w named few message rows agree room =
     let count = length-map d.versions.items version_in
@@ -84,7 +85,7 @@ may_be d w named few message rows agree room =
 pub vid_is : (d : Cvd) (vid : ℕ) → vid ≡ length d.versions.items + 1 → vid ≡ length (set_in d).versions + 1
 vid_is d vid is = is ∙ ap (λ n. n + 1) (sym (length-map d.versions.items version_in))
 
-may_commit : (a : Asked) → MayBe a → MayCommit a.set a.set.schema a.vids a.message a.rows a.parents
+may_commit : (a : Asked) → MayBe a → MayCommit a.set a.schema a.vids a.message a.rows a.parents
 may_commit a may = record {
   named = may.named;
   left = may.few;
@@ -120,7 +121,7 @@ given_from rids rows most low are = record {
 
 pub rids_given : (a : Asked) → MayBe a → AreGiven (rids_of a) a.rows
 rids_given a may =
-    given_from (rids_of a) a.rows (a.set.records + fresh_of a) may.room (different a.set a.set.schema a.vids a.message a.rows a.parents (may_commit a may) may.agree)
+    given_from (rids_of a) a.rows (a.set.records + fresh_of a) may.room (different a.set a.schema a.vids a.message a.rows a.parents (may_commit a may) may.agree)
 
 -- ---- the event
 
@@ -142,10 +143,13 @@ module _ (a : Asked) (made : Assigned) (place : Place) (is : IsMade a made place
       ∙ added_is (place_of a) a.rows (rids_of a) held rids_long (λ e. own (is.place_is ∙ e))
 
   pub event_told : (e : raw.Event) (vid : ℕ) (list segment : List ℕ) → vid ≡ length a.set.versions + 1
-      → e ≡ says.Commit a.set.number vid a.message (zip a.vids made.weights) (length a.rows) made.fresh (spelled_place place) (length (left_out made.rids held)) (extent_at 0 list) (extent_at 0 segment)
+      → e ≡ adding a.added (says.Commit a.set.number vid a.message (zip a.vids made.weights) (length a.rows) made.fresh (spelled_place place) (length (left_out made.rids held))
+      (extent_at 0 list) (extent_at 0 segment))
       → e ≡ event_for a held list segment
   event_told e vid list segment vid_is e_is =
-      e_is ∙ (λ i. says.Commit a.set.number (vid_is i) a.message (is.edges i) (length a.rows) (is.fresh i) (spelled_place (is.place_is i)) (added i) (extent_at 0 list) (extent_at 0 segment))
+      e_is
+      ∙ (λ i. adding a.added (says.Commit a.set.number (vid_is i) a.message (is.edges i) (length a.rows) (is.fresh i) (spelled_place (is.place_is i)) (added i) (extent_at 0 list)
+      (extent_at 0 segment)))
 
   pub commit_is : HasRecords a → (told : Bool) (area : List ℕ) (e : raw.Event) (list segment : List ℕ) → JoinedAgrees a.set place held → (told ≡ true → IsReadOf a.set area (joined_of a) held)
       → e ≡ event_for a held list segment → list ≡ list_written made.rids → segment ≡ segment_written held made.rids a.rows
@@ -176,14 +180,15 @@ module _ (a : Asked) (made : Assigned) (place : Place) (is : IsMade a made place
       }
 
   pub applies : MayBe a → (e : raw.Event) (list segment : List ℕ) → JoinedAgrees a.set place held → e ≡ event_for a held list segment → IsSoundEvent e
-      → (n : Numbers Extent Extent) → set_numbered a.set.number n ≡ Some a.set → first_off e n ≡ None
-  applies may e list segment agrees e_is sound n found =
-      let fits = subst IsSoundEvent e_is sound
+      → (format : ℕ) → MayAdd format a.added a.set → (n : Numbers Extent Extent) → set_numbered a.set.number n ≡ Some a.set → first_off format e n ≡ None
+  applies may e list segment agrees e_is sound format may_add n found =
+      let fits = sound_added a.added a.set.number (length a.set.versions + 1) a.message (edges_of a) (length a.rows) (fresh_of a) (spelled_place (place_of a))
+      (added_for (place_of a) a.rows (rids_of a) held) (extent_at 0 list) (extent_at 0 segment) (subst IsSoundEvent e_is sound)
       in let back = place_back (place_of a)
-      in ap (λ x. first_off x n) (e_is
-      ∙ ap (λ p. says.Commit a.set.number (length a.set.versions + 1) a.message (edges_of a) (length a.rows) (fresh_of a) (spelled_place (place_of a))
-      (added_for p a.rows (rids_of a) held) (extent_at 0 list) (extent_at 0 segment)) (sym back))
-      ∙ event_applies n a.set.number a.set a.set.schema a.vids a.message a.rows a.parents held (spelled_place (place_of a)) (extent_at 0 list) (extent_at 0 segment) found
+      in ap (λ x. first_off format x n) (e_is
+      ∙ ap (λ p. adding a.added (says.Commit a.set.number (length a.set.versions + 1) a.message (edges_of a) (length a.rows) (fresh_of a) (spelled_place (place_of a))
+      (added_for p a.rows (rids_of a) held) (extent_at 0 list) (extent_at 0 segment))) (sym back))
+      ∙ event_applies format a.added n a.set.number a.set a.schema a.vids a.message a.rows a.parents held (spelled_place (place_of a)) (extent_at 0 list) (extent_at 0 segment) found may_add
       (may_commit a may) may.agree back (subst (λ p. JoinedAgrees a.set p held) (is.place_is ∙ sym back) agrees) fits.0
       (subst (λ p. IsTrue (is_segment (added_for p a.rows (rids_of a) held) (extent_at 0 segment))) (sym back) fits.1)
 

@@ -5,6 +5,7 @@ use Rattle.std.specs.List.{list_any, sum_by, zip}
 use Rattle.std.proofs.lemmas.Bool.{cases_Bool, eqb-true}
 use Rattle.std.proofs.lemmas.List.{length-append}
 use Rattle.std.proofs.lemmas.List.Sums.{sum_by-cons}
+use Rattle.ov_event.specs.declared.event.Event as raw
 use Rattle.ov_event.specs.declared.event.Event.TheVariants as says
 use Rattle.ov_fetch.specs.declared.errors.FetchErr.TheVariants as fetch
 use Rattle.ov_graph.specs.Versions.{heaviest}
@@ -24,6 +25,8 @@ use Rattle.ov_records.specs.Committed.{AreRecords}
 use Rattle.ov_records.specs.declared.outcome.Assigned.{Assigned}
 use Rattle.ov_catalog.specs.Applying.{copied_in, facts_of, id_in, is_place, is_unmoved, part_numbered, part_serving}
 use Rattle.ov_catalog.specs.Events as events
+use Rattle.ov_catalog.specs.Events.{adding_event}
+use Rattle.ov_catalog.specs.Raw.{adding}
 use Rattle.ov_catalog.specs.Numbers.{PartNumbers, PlanNumbers, SetNumbers, each_part, each_plan, each_set}
 use Rattle.ov_catalog.specs.Shown.{held_by, shown_set}
 use Rattle.ov_core.specs.Brought.{extent_at, segments_in}
@@ -36,7 +39,7 @@ use Rattle.ov_version_bytes.specs.Written.{AreGiven, IsWhy, list_written, segmen
 use Rattle.ov_version_bytes.specs.declared.write_err.WriteErr.{WriteErr}
 use Rattle.ov_version_bytes.specs.declared.write_err.WriteErr.TheVariants as write
 use Rattle.ov_version_bytes.proofs.Edges.{weights_zip}
-use Rattle.ov_version_bytes.proofs.Following.{asked_of, event_asked, known_of, place_back}
+use Rattle.ov_version_bytes.proofs.Following.{asked_of, content_adding, event_asked, known_of, place_back, runs_adding, sized_adding}
 use Rattle.law_reads.specs.Sights.{HasNumbers}
 use Rattle.law_reads.proofs.Counted.{numbers}
 use Rattle.law_reads.proofs.Parted.{rids}
@@ -50,6 +53,7 @@ use Rattle.ov_new_version.specs.Held.{RefusesHeld}
 use Rattle.ov_new_version.specs.Joined.{part_at, IsPlaceThere, IsReadOf, RefusesJoined}
 use Rattle.ov_new_version.specs.OfWorld.{IsAsked, IsSpared, version_in, records_with}
 use Rattle.ov_new_version.proofs.Making.{IsMade, MayBe}
+use Rattle.ov_new_version.proofs.Widened.{wide_facts, wide_held, wide_records, wide_versions}
 
 -- ---- what decides on a place, whatever is in the holes
 
@@ -111,19 +115,26 @@ module _ (a : Asked) (w : World) (ds : Dataset) (area : List ℕ) (asked : IsAsk
   counts : HasNumbers a.set ds
   counts = numbers w area a.set ds asked.of_world
 
+  -- the dataset with the added columns
+  abbrev wider : Dataset
+  wider = moves.wide a.added ds
+
+  long : a.set.records ≡ length (order_of wider.cvd.versions)
+  long = counts.records ∙ sym (wide_records a.added ds)
+
   -- ---- how many records there are with the version
 
-  fresh_shown : fresh_of a ≡ length (fresh_in (records_of (version_in a) (recs ds.cvd.versions [])) (length ds.cvd.versions + 1))
-  fresh_shown = ap (fresh_rows a.rows) asked.parents ∙ fresh_records ds.cvd.versions (version_in a)
+  fresh_shown : fresh_of a ≡ length (fresh_in (records_of (version_in a) (recs wider.cvd.versions [])) (length wider.cvd.versions + 1))
+  fresh_shown = ap (fresh_rows a.rows) asked.parents ∙ fresh_records wider.cvd.versions (version_in a)
 
   pub all_records : records_with a ds ≡ a.set.records + fresh_of a
   all_records =
-      let old : List Rec = order_of ds.cvd.versions
-      in let ours : List Rec = records_of (version_in a) (recs ds.cvd.versions [])
-      in let number : 1 + length (recs ds.cvd.versions []) ≡ length ds.cvd.versions + 1 = omega (arith, length_recs ds.cvd.versions [])
-      in ap (λ (rs : List Rec). length rs) (order_of_more ds.cvd.versions (version_in a))
-      ∙ length-append old (fresh_in ours (1 + length (recs ds.cvd.versions [])))
-      ∙ (λ i. sym counts.records i + length (fresh_in ours (number i)))
+      let old : List Rec = order_of wider.cvd.versions
+      in let ours : List Rec = records_of (version_in a) (recs wider.cvd.versions [])
+      in let number : 1 + length (recs wider.cvd.versions []) ≡ length wider.cvd.versions + 1 = omega (arith, length_recs wider.cvd.versions [])
+      in ap (λ (rs : List Rec). length rs) (order_of_more wider.cvd.versions (version_in a))
+      ∙ length-append old (fresh_in ours (1 + length (recs wider.cvd.versions [])))
+      ∙ (λ i. sym long i + length (fresh_in ours (number i)))
       ∙ ap (λ n. a.set.records + n) (sym fresh_shown)
 
   pub too_many : 2 ^ 31 < a.set.records + fresh_of a → IsSpared TooManyRecords a w ds
@@ -161,53 +172,55 @@ module _ (a : Asked) (w : World) (ds : Dataset) (area : List ℕ) (asked : IsAsk
   -- ---- the version is the next one
 
   module _ (made : Assigned) (place : Place) (is : IsMade a made place)
-      (are : AreRecords ds.cvd.versions (version_in a) made.rids made.weights made.fresh) where
-    tree_edge : heaviest (edges_of a) ≡ moves.tree_edge_of ds (version_in a)
+      (are : AreRecords wider.cvd.versions (version_in a) made.rids made.weights made.fresh) where
+    tree_edge : heaviest (edges_of a) ≡ moves.tree_edge_of wider (version_in a)
     tree_edge =
-        let done : List (List Rec) = recs ds.cvd.versions []
+        let done : List (List Rec) = recs wider.cvd.versions []
         in ap heaviest (sym is.edges ∙ ap (zip a.vids) are.weights_are ∙ weights_zip a.vids (records_of (version_in a) done) done)
 
-    place_asked : place ≡ moves.placed_at ds (version_in a)
+    place_asked : place ≡ moves.placed_at wider (version_in a)
     place_asked =
         let shows = asked.of_world.shows
-        in let edge : ℕ × ℕ = moves.tree_edge_of ds (version_in a)
-        in let facts : facts_of a.set edge ≡ facts_of (shown_set ds) edge =
+        in let edge : ℕ × ℕ = moves.tree_edge_of wider (version_in a)
+        in let facts : facts_of a.set edge ≡ facts_of (shown_set wider) edge =
         sym (facts_each (readings_of area).list (readings_of area).segment a.set edge)
         ∙ ap (λ s. facts_of s edge) shows
         ∙ facts_each Some Some (shown_set ds) edge
+        ∙ sym (wide_facts a.added ds edge)
         in is.place_is
         ∙ ap (λ e. placed (facts_of a.set e)) tree_edge
         ∙ ap placed facts
-        ∙ sym (same_place (moves.placed_at ds (version_in a)) (placed (facts_of (shown_set ds) edge)) (place_shown ds (version_in a)))
+        ∙ sym (same_place (moves.placed_at wider (version_in a)) (placed (facts_of (shown_set wider) edge)) (place_shown wider (version_in a)))
 
     pub is_next : (vid : ℕ) (held : List ℕ) → vid ≡ length a.set.versions + 1 → IsPlaceThere a.set place → IsReadOf a.set area (part_at a.set place) held
-        → IsNext ds (version_in a) vid made place held
+        → IsNext wider (version_in a) vid made place held
     is_next vid held number there read = record {
-      vid_is = number ∙ ap (λ n. n + 1) counts.versions;
+      vid_is = number ∙ ap (λ n. n + 1) (counts.versions ∙ sym (wide_versions a.added ds));
       records = are;
       place_is = place_asked;
-      held_is = held_shown place held there read;
+      held_is = λ rid. held_shown place held there read rid ∙ ap (λ ns. has ns rid) (sym (wide_held a.added ds place));
     }
 
     -- what is too long is what the World asks for
-    pub too_much : MayBe a → AreGiven made.rids a.rows → (vid : ℕ) (held : List ℕ) → IsNext ds (version_in a) vid made place held
+    pub too_much : MayBe a → AreGiven made.rids a.rows → (vid : ℕ) (held : List ℕ) → IsNext wider (version_in a) vid made place held
         → (e : WriteErr) → IsWhy e held made.rids a.rows → IsSpared (of_write e) a w ds
     too_much may given vid held next write.Memory why = tt
     too_much may given vid held next (write.TooLong list_pages segment_pages) why =
         let list : List ℕ = list_written made.rids
         in let segment : List ℕ = segment_written held made.rids a.rows
         in let number : ℕ = a.set.number
+        in let commit : raw.Event =
+        says.Commit number vid a.message (zip a.vids made.weights) (length a.rows) made.fresh (spelled_place place) (length (left_out made.rids held)) (extent_at 0 list) (extent_at 0 segment)
         in record {
-          event = says.Commit number vid a.message (zip a.vids made.weights) (length a.rows) made.fresh (spelled_place place) (length (left_out made.rids held))
-              (extent_at 0 list) (extent_at 0 segment);
+          event = adding a.added commit;
           list = list;
           segment = segment;
-          says = ap Some (
+          says = ap Some (content_adding a.added commit list segment ∙ ap (adding_event a.added) (
               (λ i. events.Commit number vid a.message (zip a.vids made.weights) (length a.rows) made.fresh (place_back place i) (length (left_out made.rids held)) (list_in list) (segments_in segment))
-              ∙ event_asked ds (version_in a) vid made place held a.set.schema (known_of number w ds asked.of_world.reached asked.of_world.among) next may.rows given number)
-              ∙ sym (asked_of number a.vids a.message a.rows w ds asked.of_world.among);
-          sized = refl;
-          runs = tt;
+              ∙ event_asked wider (version_in a) vid made place held a.schema (known_of a.added number w ds asked.of_world.reached asked.of_world.among) next may.rows given number))
+              ∙ sym (asked_of number a.vids a.message a.added a.rows w ds asked.of_world.among);
+          sized = sized_adding a.added number vid a.message (zip a.vids made.weights) (length a.rows) made.fresh (spelled_place place) (length (left_out made.rids held)) list segment;
+          runs = runs_adding a.added number vid a.message (zip a.vids made.weights) (length a.rows) made.fresh (spelled_place place) (length (left_out made.rids held)) list segment;
           long = why;
           room = subst (λ n. n ≤ 2 ^ 31) (sym all_records) may.room;
         }

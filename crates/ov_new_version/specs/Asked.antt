@@ -5,6 +5,8 @@
 use Rattle.std.specs.Prelude.{ℕ, List}
 use Rattle.ov_place.specs.declared.place_facts.Place.{Place}
 use Rattle.ov_segment.specs.declared.numbered.Record.{Record}
+use Rattle.ov_value.specs.Shapes.{Shape}
+use Rattle.ov_value.specs.declared.column.Column.{Column}
 use Rattle.ov_model.specs.Assigned.{fresh_rows}
 use Rattle.ov_model.specs.Book.{Row}
 use Rattle.ov_records.specs.Records.{lists_of}
@@ -14,16 +16,19 @@ use Rattle.law_commits.specs.Committing.{rids_for, edges_for, place_for}
 use Rattle.ov_read.specs.Agreement.{Numbers}
 use Rattle.ov_new_version.specs.declared.wanted.Wanted.{Wanted}
 
--- to this dataset, with these parents, whose records these are
+-- to this dataset, with these parents, whose records these are with the added columns
 pub record Asked : Type 0 where
   pub set : Numbers
   pub vids : List ℕ
   pub parents : List (List Record)
   pub message : List ℕ
+  -- the columns that are added, and the schema with them
+  pub added : List Column
+  pub schema : Shape
   pub rows : List Row
 
 abbrev pub asked_in : Cvd → Wanted → Asked
-asked_in d w = record { set = set_in d; vids = w.vids.now; parents = w.parents.now; message = w.message.now; rows = w.rows }
+asked_in d w = record { set = set_in d; vids = w.vids.now; parents = w.parents.now; message = w.message.now; added = w.added.now; schema = w.schema.now; rows = w.rows }
 
 abbrev pub rids_of : Asked → List ℕ
 rids_of a = rids_for a.set a.rows a.parents

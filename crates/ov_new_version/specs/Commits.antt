@@ -6,6 +6,7 @@ use Rattle.ov_event.specs.declared.event.Event as raw
 use Rattle.ov_event.specs.declared.event.Event.TheVariants as says
 use Rattle.ov_fetch.specs.declared.errors.FetchErr.TheVariants as fetch
 use Rattle.ov_place.specs.declared.place_facts.Place.TheVariants.{Own}
+use Rattle.ov_catalog.specs.Raw.{adding}
 use Rattle.ov_core.specs.Brought.{extent_at}
 use Rattle.law_commits.specs.Committing.{JoinedAgrees, added_for}
 use Rattle.ov_version_bytes.specs.Next.{spelled_place}
@@ -18,8 +19,8 @@ use Rattle.ov_new_version.specs.Joined.{joined_of, IsReadOf, RefusesJoined}
 -- the event, where the partition holds these rids already
 abbrev pub event_for : Asked → List ℕ → List ℕ → List ℕ → raw.Event
 event_for a held list segment =
-    says.Commit a.set.number (length a.set.versions + 1) a.message (edges_of a) (length a.rows) (fresh_of a) (spelled_place (place_of a))
-    (added_for (place_of a) a.rows (rids_of a) held) (extent_at 0 list) (extent_at 0 segment)
+    adding a.added (says.Commit a.set.number (length a.set.versions + 1) a.message (edges_of a) (length a.rows) (fresh_of a) (spelled_place (place_of a))
+    (added_for (place_of a) a.rows (rids_of a) held) (extent_at 0 list) (extent_at 0 segment))
 
 -- the dataset's records and the new ones are not too many
 abbrev pub HasRecords : Asked → Type 0

@@ -1,6 +1,6 @@
 //! A commit, from the records of its parents.
 
-ghost use Rattle.std.specs.Prelude.{◌≡◌, ◌≤◌, ◌<◌, ◌+◌, ◌^◌, ℕ, Bool, List, true, None, Some, length, IfOk, OnOk, IfErr, MatchResult};
+ghost use Rattle.std.specs.Prelude.{◌≡◌, ◌⊎◌, ◌≤◌, ◌<◌, ◌+◌, ◌^◌, ℕ, Bool, List, true, None, Some, [], length, IfOk, OnOk, IfErr, MatchResult};
 ghost use Rattle.std.specs.List.{All};
 ghost use Rattle.ov_event.specs.Spelling.{IsEvent};
 ghost use Rattle.ov_host.specs.declared.area.Extent.{Extent};
@@ -13,6 +13,8 @@ ghost use Rattle.ov_catalog.specs.Ready.{IsSet};
 ghost use Rattle.ov_catalog.specs.Sets.{set_in};
 ghost use Rattle.ov_core.specs.Brought.{IsUnplaced};
 ghost use Rattle.law_commits.specs.Agreeing.{ParentsAgree};
+ghost use Rattle.law_commits.specs.Committing.{MayAdd};
+ghost use Rattle.ov_version_bytes.specs.Next.{AreLast};
 ghost use Rattle.ov_read.specs.Partitions.{AreHeld};
 ghost use Rattle.ov_new_version.specs.Asked.{asked_in, fresh_of};
 ghost use Rattle.ov_new_version.specs.Commits.{IsCommitOf, Refuses};
@@ -27,7 +29,7 @@ use ov_version_bytes::{Next, next_version};
 use std::alloc::Global;
 
 /// What a dataset's next version brings, where the records of its parents were read and agree with the dataset's numbers.
-/// Its event applies.
+/// Its event applies, in a store whose format takes the columns that it adds.
 ///
 /// `TooManyRecords` comes where the dataset would have over 2^31 records, else `Damaged` where the version joins a partition that
 /// doesn't agree, and else `TooLong` where the segment has 2^20 pages or more.
@@ -40,14 +42,16 @@ pub fn commit_of(alloc: Global, d: &Cvd, wanted: Wanted) -> Result<Commit, Commi
     requires few { length d.now.versions.items < 65535 }
     requires named { AreParents (length d.now.versions.items) wanted.vids.now }
     requires message { length wanted.message.now ≤ 1024 }
-    requires rows { AreRows d.now.schema wanted.rows }
-    requires order { All (InKeyOrder d.now.schema) wanted.parents.now }
-    requires fit { All (RowsFit d.now.schema) wanted.parents.now }
+    requires columns { wanted.added.now ≡ [] ⊎ AreLast wanted.added.now }
+    requires rows { AreRows wanted.schema.now wanted.rows }
+    requires order { All (InKeyOrder wanted.schema.now) wanted.parents.now }
+    requires fit { All (RowsFit wanted.schema.now) wanted.parents.now }
     requires agree { ParentsAgree (set_in d.now) wanted.vids.now wanted.parents.now }
     requires held { length wanted.held.now ≡ length d.now.layout.parts }
     ensures unplaced { IfOk result (λ c. IsUnplaced c.brought) }
     ensures event { IfOk result (λ c. IsEvent c.brought.event) }
-    ensures applies { IfOk result (λ c. (n : Numbers Extent Extent) → set_numbered d.now.number n ≡ Some (set_in d.now) → first_off c.brought.event n ≡ None) }
+    ensures applies { (format : ℕ) → MayAdd format wanted.entry.added.now (set_in d.now) → IfOk result (λ c. (n : Numbers Extent Extent)
+        → set_numbered d.now.number n ≡ Some (set_in d.now) → first_off format c.brought.event n ≡ None) }
 
     // Over any bytes out of which the rids of the partitions were read.
     ensures is { (told : Bool) (area : List ℕ) → AreHeld told area (set_in d.now) wanted.entry.vids.now wanted.entry.held.now → IfOk result (λ c.
@@ -70,9 +74,11 @@ pub fn commit_of(alloc: Global, d: &Cvd, wanted: Wanted) -> Result<Commit, Commi
         parents,
         held,
         message,
+        added,
+        schema,
         rows,
     } = wanted;
-    let made = made_for(alloc, d, parents, &rows)?;
+    let made = made_for(alloc, d, schema, parents, &rows)?;
     let place = place_of(alloc, d, vids, made.weights.as_slice())?;
     let held = held_at(alloc, d, place, held)?;
     let fresh = made.fresh;
@@ -80,6 +86,7 @@ pub fn commit_of(alloc: Global, d: &Cvd, wanted: Wanted) -> Result<Commit, Commi
         cvd: d.number,
         vid: d.versions.len() as u32 + 1,
         message,
+        added,
         parents: vids,
         rows: &rows,
         made,

@@ -21,20 +21,22 @@ use ov_catalog::{Cvd, next_place};
 use ov_place::Place;
 use ov_records::{Assigned, assign};
 use ov_segment::{RecordTable, RowTable};
+use ov_value::Schema;
 use std::alloc::{AllocError, Global};
 
-/// The rids of these rows, from these parents' records; the new ones come after those of the dataset's records.
+/// The rids of these rows of a schema, from these parents' records; the new ones come after those of the dataset's records.
 /// `TooManyRecords` exactly where one of them would pass 2^31.
 pub(crate) fn made_for(
     alloc: Global,
     d: &Cvd,
+    schema: &Schema,
     parents: &[RecordTable],
     rows: &RowTable,
 ) -> Result<Assigned, CommitErr>
     requires most { d.now.records ≤ 2 ^ 31 }
-    requires rows { AreRows d.now.schema rows.now }
-    requires order { All (InKeyOrder d.now.schema) parents.now }
-    requires fit { All (RowsFit d.now.schema) parents.now }
+    requires rows { AreRows schema.now rows.now }
+    requires order { All (InKeyOrder schema.now) parents.now }
+    requires fit { All (RowsFit schema.now) parents.now }
     ensures rids { IfOk result (λ made. made.rids ≡ rids_for (set_in d.now) rows.now parents.now) }
     ensures weights { IfOk result (λ made. made.weights ≡ map (shared (zip made.rids rows.now)) (lists_of parents.now)) }
     ensures fresh { IfOk result (λ made. made.fresh ≡ fresh_rows rows.now (lists_of parents.now)) }
@@ -45,7 +47,7 @@ pub(crate) fn made_for(
     ensures room { OnOk result (d.now.records + fresh_rows rows.now (lists_of parents.now) ≤ 2 ^ 31) }
     ensures cause { IfErr result (λ e. (e ≡ why.Memory) ⊎ ((e ≡ why.TooManyRecords) × (2 ^ 31 < d.now.records + fresh_rows rows.now (lists_of parents.now)))) }
 {
-    Ok(assign(alloc, &d.schema, parents, rows, d.records + 1)?)
+    Ok(assign(alloc, schema, parents, rows, d.records + 1)?)
 }
 
 /// Where the version with these parents goes, by the weights of their edges.

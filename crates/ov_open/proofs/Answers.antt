@@ -66,8 +66,8 @@ no_events : (events : List Event) → [] ≡ map spelling events → events ≡ 
 no_events [] e = refl
 no_events (x ∷ xs) e = absurd cc
 
-nothing_live : (payloads : List (List ℕ)) (n : Numbers Extent Extent) → payloads ≡ [] → IsReplay payloads n → n ≡ nothing_yet
-nothing_live payloads n none is = is.end ∙ ap numbers_in (no_events is.events (sym none ∙ is.written))
+nothing_live : (format : ℕ) (payloads : List (List ℕ)) (n : Numbers Extent Extent) → payloads ≡ [] → IsReplay format payloads n → n ≡ nothing_yet
+nothing_live format payloads n none is = is.end ∙ ap numbers_in (no_events is.events (sym none ∙ is.written))
 
 nothing_off : (es : List Extent) (there page : ℕ) → es ≡ [] → IsOff es there page → ⊥
 nothing_off es there page none (inl two) =
@@ -75,8 +75,8 @@ nothing_off es there page none (inl two) =
 nothing_off es there page none (inr missing) =
     let zero_pages : covers es page ≡ 0 = ap (λ (xs : List Extent). covers xs page) none in omega (arith, zero_pages, missing.1.covered)
 
-not_stopped : (payloads : List (List ℕ)) (nth : ℕ) → payloads ≡ [] → IsStopped payloads nth → ⊥
-not_stopped payloads nth none is =
+not_stopped : (format : ℕ) (payloads : List (List ℕ)) (nth : ℕ) → payloads ≡ [] → IsStopped format payloads nth → ⊥
+not_stopped format payloads nth none is =
     let zero_payloads : length payloads ≡ 0 = ap length none in omega (arith, zero_payloads, is.there)
 
 -- ---- behind the journal
@@ -116,11 +116,11 @@ module _ (d : Disk) (s1 s2 : State) (numbers : journals.Numbers) (payloads : Lis
         subst (λ (n : journals.Numbers). HasStood d s2.tape.disk n payloads ⊎ IsMade d n payloads) (sym is.journal) (found_then found);
     at = subst (λ (n : journals.Numbers). IsAt payloads n s2) (sym is.journal) at_then;
     settled = pages_then;
-    replays = is.replays;
+    replays = subst (λ (n : journals.Numbers). IsReplay n.format payloads held.numbers) (sym is.journal) is.replays;
     apart = subst (λ (n : ℕ). AreApart (live held.numbers) n) there_is is.apart;
   }
 
-  not_opened : (why : OpenErr) → HasStood d s1.tape.disk numbers payloads ⊎ IsMade d numbers payloads → NotBuilt why numbers.start payloads there → Refuses why d s2.tape.disk
+  not_opened : (why : OpenErr) → HasStood d s1.tape.disk numbers payloads ⊎ IsMade d numbers payloads → NotBuilt why numbers payloads there → Refuses why d s2.tape.disk
   not_opened errors.Host stood is = tt
   not_opened errors.Memory (inl stood) is = inl (stood_then stood).same
   not_opened errors.Memory (inr made) is =
@@ -144,7 +144,7 @@ module _ (d : Disk) (s1 s2 : State) (numbers : journals.Numbers) (payloads : Lis
     }),
     (stood_then stood).same,
   )
-  not_opened (errors.Damaged Journal place) (inr made) is = absurd (not_stopped payloads is.nth made.no_records is.stops)
+  not_opened (errors.Damaged Journal place) (inr made) is = absurd (not_stopped numbers.format payloads is.nth made.no_records is.stops)
   not_opened (errors.Damaged Pages page) (inl stood) is = (
     record {
       kept = kept_by numbers payloads;
@@ -156,9 +156,9 @@ module _ (d : Disk) (s1 s2 : State) (numbers : journals.Numbers) (payloads : Lis
     (stood_then stood).same,
   )
   not_opened (errors.Damaged Pages page) (inr made) is =
-      absurd (nothing_off (live is.numbers) there page (ap live (nothing_live payloads is.numbers made.no_records is.replays)) is.off)
+      absurd (nothing_off (live is.numbers) there page (ap live (nothing_live numbers.format payloads is.numbers made.no_records is.replays)) is.off)
 
-  pub answered : (r : Result Held OpenErr) → MatchResult r (IsBuilt numbers payloads there) (λ why. NotBuilt why numbers.start payloads there)
+  pub answered : (r : Result Held OpenErr) → MatchResult r (IsBuilt numbers payloads there) (λ why. NotBuilt why numbers payloads there)
       → MatchResult r (λ held. IsOpened d held s2) (λ why. Refuses why d s2.tape.disk)
   answered (Ok held) is = is_opened held is
   answered (Err why) is = not_opened why found is
@@ -170,7 +170,7 @@ lies_beside d held s is room = record {
 }
 
 pub beside : (d : Disk) (numbers : journals.Numbers) (payloads : List (List ℕ)) (there : ℕ) (r : Result Held OpenErr) (s1 s2 : State) → s2.tape ≡ s1.tape
-    → MatchResult r (IsBuilt numbers payloads there) (λ why. NotBuilt why numbers.start payloads there)
+    → MatchResult r (IsBuilt numbers payloads there) (λ why. NotBuilt why numbers payloads there)
     → MatchResult r (λ held. IsOpened d held s2) (λ why. Refuses why d s2.tape.disk)
     → numbers.end < length (bytes_of Journal s1) → IfOk r (λ held. IsBeside held s2)
 beside d numbers payloads there (Ok held) s1 s2 same built is room =

@@ -30,23 +30,23 @@ pages_refuse es there pages.Memory low is = tt
 pub page_missing : (es : List Extent) (there page : ℕ) (reserved : Reserved) → AreReserved es reserved → IsMissing es there page → IsOff es there page
 page_missing es there page reserved is missing = inr (shares_none es reserved is, missing)
 
-module _ (payloads : List (List ℕ)) (there : ℕ) (n : Numbers Extent Extent) (es : List Extent) (replays : IsReplay payloads n) (are : es ≡ live n) where
+module _ (journal : journals.Numbers) (payloads : List (List ℕ)) (there : ℕ) (n : Numbers Extent Extent) (es : List Extent) (replays : IsReplay journal.format payloads n) (are : es ≡ live n) where
   pub low : too_high_page es ≡ None
-  low = subst (λ (xs : List Extent). too_high_page xs ≡ None) (sym are) (never_high payloads n replays)
+  low = subst (λ (xs : List Extent). too_high_page xs ≡ None) (sym are) (never_high journal.format payloads n replays)
 
-  pub not_built : (start : ℕ) (why : OpenErr) → NotReserved why es there → NotBuilt why start payloads there
-  not_built start errors.Host is = absurd is
-  not_built start errors.Memory is = tt
-  not_built start errors.NotAStore is = absurd is
-  not_built start (errors.Format found) is = absurd is
-  not_built start (errors.Damaged Journal place) is = absurd is
-  not_built start (errors.Damaged Pages page) is =
+  pub not_built : (why : OpenErr) → NotReserved why es there → NotBuilt why journal payloads there
+  not_built errors.Host is = absurd is
+  not_built errors.Memory is = tt
+  not_built errors.NotAStore is = absurd is
+  not_built (errors.Format found) is = absurd is
+  not_built (errors.Damaged Journal place) is = absurd is
+  not_built (errors.Damaged Pages page) is =
       record { numbers = n; replays = replays; off = subst (λ (xs : List Extent). IsOff xs there page) are is }
 
-  pub built : (numbers : journals.Numbers) (reserved : Reserved) (held : Held) → held ≡ record { journal = numbers; numbers = n } → AreReserved es reserved → AreThere es there
-      → IsBuilt numbers payloads there held
-  built numbers reserved held is once all =
-      subst (λ (h : Held). IsBuilt numbers payloads there h) (sym is)
+  pub built : (reserved : Reserved) (held : Held) → held ≡ record { journal = journal; numbers = n } → AreReserved es reserved → AreThere es there
+      → IsBuilt journal payloads there held
+  built reserved held is once all =
+      subst (λ (h : Held). IsBuilt journal payloads there h) (sym is)
       (record {
         journal = refl;
         replays = replays;

@@ -9,7 +9,7 @@ use Rattle.ov_catalog.specs.Extents.{of_plan, of_set, live}
 use Rattle.ov_catalog.specs.Numbers.{VersionNumbers, PartNumbers, PlanNumbers, SetNumbers, Numbers}
 use Rattle.ov_catalog.specs.Raw.{numbers_in}
 use Rattle.ov_catalog.specs.Wholes.{are_copied, are_placed, are_segments}
-use Rattle.law_snapshots.proofs.Built.{built_whole}
+use Rattle.law_snapshots.proofs.Carrying.{all_whole}
 use Rattle.law_snapshots.specs.Whole.{IsWhole}
 use Rattle.ov_core.specs.Held.{IsReplay}
 
@@ -90,7 +90,7 @@ sets_low : (sets : List (SetNumbers Extent Extent)) → AllByRecursion IsWhole s
 sets_low [] whole = tt
 sets_low (d ∷ sets) whole = joined (of_set d) (flat_map of_set sets) (set_low d whole.0.placed) (sets_low sets whole.1)
 
-pub never_high : (payloads : List (List ℕ)) (n : Numbers Extent Extent) → IsReplay payloads n → too_high_page (live n) ≡ None
-never_high payloads n is =
+pub never_high : (format : ℕ) (payloads : List (List ℕ)) (n : Numbers Extent Extent) → IsReplay format payloads n → too_high_page (live n) ≡ None
+never_high format payloads n is =
     subst (λ (m : Numbers Extent Extent). too_high_page (live m) ≡ None) (sym is.end)
-    (none_high (live (numbers_in is.events)) (sets_low (numbers_in is.events).sets (built_whole is.events is.apply).each))
+    (none_high (live (numbers_in is.events)) (sets_low (numbers_in is.events).sets (all_whole format is.events is.follow).each))

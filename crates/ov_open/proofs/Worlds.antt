@@ -40,14 +40,14 @@ stops_nowhere w c place (inl new) off =
 stops_nowhere w c place (inr made) off =
     let same : made.kept ≡ off.kept = kept_same made.kept off.kept (one_thing (Holds made.kept) (Holds off.kept) c.journal made.by.journal off.stands)
     in let by : StandsBy off.kept made.events w c = subst (λ (k : Kept). StandsBy k made.events w c) same made.by
-    in not_stopped off.kept.payloads (numbers_in made.events) off.nth
-    (record { events = made.events; are = by.spell.are; written = by.spell.written; apply = by.stands.applies; end = refl })
+    in not_stopped off.kept.format off.kept.payloads (numbers_in made.events) off.nth
+    (record { events = made.events; are = by.spell.are; written = by.spell.written; follow = by.stands.follow; end = refl })
     off.stops
 
 -- ---- pages of live extents are apart and there
 
-spelled : (payloads : List (List ℕ)) (n : Numbers Extent Extent) (is : IsReplay payloads n) → Spell is.events payloads
-spelled payloads n is = record { are = is.are; written = is.written }
+spelled : (format : ℕ) (payloads : List (List ℕ)) (n : Numbers Extent Extent) (is : IsReplay format payloads n) → Spell is.events payloads
+spelled format payloads n is = record { are = is.are; written = is.written }
 
 no_page_off : (es : List Extent) (there page : ℕ) → AreApart es there → IsOff es there page → ⊥
 no_page_off es there page apart (inl two) = absurd (omega (arith, apart.once page, two.twice))
@@ -56,7 +56,7 @@ no_page_off es there page apart (inr missing) =
 
 off_nowhere : (w : World) (c : Image) (page : ℕ) → StandsAs w c → HasPageOff page c.pages c.journal → ⊥
 off_nowhere w c page stands off =
-    let by : StandsBy off.kept off.replays.events w c = stands_by off.kept off.replays.events w c stands off.stands (spelled off.kept.payloads off.numbers off.replays)
+    let by : StandsBy off.kept off.replays.events w c = stands_by off.kept off.replays.events w c stands off.stands (spelled off.kept.format off.kept.payloads off.numbers off.replays)
     in let apart : AreApart (live off.numbers) (pages_in c.pages) =
     subst (λ (n : Numbers Extent Extent). AreApart (live n) (pages_in c.pages)) (sym off.replays.end) by.stands.apart
     in no_page_off (live off.numbers) (pages_in c.pages) page apart off.off
@@ -110,7 +110,7 @@ at_world w d held s stands is = record {
   };
   stands =
       stands_by (kept_by held.journal is.payloads) is.replays.events w (as_read s.tape.disk)
-      (stands_then w d held s is stands is.journal) is.at.spells (spelled is.payloads held.numbers is.replays);
+      (stands_then w d held s is stands is.journal) is.at.spells (spelled held.journal.format is.payloads held.numbers is.replays);
   numbers_are = is.replays.end;
 }
 

@@ -22,7 +22,7 @@ pub record IsOpened (d : Disk) (held : Held) (s : State) : Type 0 where
   pub journal : HasStood d s.tape.disk held.journal payloads ⊎ IsMade d held.journal payloads
   pub at : IsAt payloads held.journal s
   pub settled : ArePagesSettled d s.tape.disk
-  pub replays : IsReplay payloads held.numbers
+  pub replays : IsReplay held.journal.format payloads held.numbers
   pub apart : AreApart (live held.numbers) (pages_in d.pages.bytes)
 
 abbrev pub IsOutside : OpenErr → Type 0

@@ -25,7 +25,7 @@ pub record StopsAt (place : ℕ) (journal : List ℕ) : Type 0 where
   pub kept : Kept
   pub stands : AreaIs (Holds kept) journal
   pub nth : ℕ
-  pub stops : IsStopped kept.payloads nth
+  pub stops : IsStopped kept.format kept.payloads nth
   pub there : place ≡ gate_behind kept.start (take nth kept.payloads)
 
 -- the least page that two of these extents cover
@@ -52,7 +52,7 @@ pub record HasPageOff (page : ℕ) (pages journal : List ℕ) : Type 0 where
   pub kept : Kept
   pub stands : AreaIs (Holds kept) journal
   pub numbers : Numbers Extent Extent
-  pub replays : IsReplay kept.payloads numbers
+  pub replays : IsReplay kept.format kept.payloads numbers
   pub off : IsOff (live numbers) (pages_in pages) page
 
 -- at none but Host and Memory anything was written; at Memory a journal may have been made

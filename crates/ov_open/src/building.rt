@@ -26,24 +26,28 @@ pub fn core_of(
     payloads: &[Payload],
     there: u64,
 ) -> Result<Core, OpenErr>
-    ensures { MatchResult result (IsBuilt journal payloads.now there) (λ why. NotBuilt why journal.start payloads.now there) }
+    ensures { MatchResult result (IsBuilt journal payloads.now there) (λ why. NotBuilt why journal payloads.now there) }
 {
-    let catalog = catalog_of(alloc, journal.start(), payloads)?;
+    let catalog = catalog_of(alloc, &journal, payloads)?;
     let extents = live(alloc, &catalog)?;
     let pages = reserved(alloc, &extents, there)?;
     Ok(Core::of(journal, catalog, pages))
 }
 
-// The catalog of these payloads, of a journal whose live half begins at this place.
-fn catalog_of(alloc: Global, start: u32, payloads: &[Payload]) -> Result<Catalog, OpenErr>
-    ensures { MatchResult result (λ catalog. IsReplay payloads.now catalog.numbers) (λ why. NotReplayed why start payloads.now) }
+// The catalog of these payloads, which are the journal's.
+fn catalog_of(
+    alloc: Global,
+    journal: &Journal,
+    payloads: &[Payload],
+) -> Result<Catalog, OpenErr>
+    ensures { MatchResult result (λ catalog. IsReplay journal.now.format payloads.now catalog.numbers) (λ why. NotReplayed why journal.now.format journal.now.start payloads.now) }
 {
-    match replay(alloc, payloads) {
+    match replay(alloc, journal.format(), payloads) {
         Ok(catalog) => Ok(catalog),
         Err(ReplayErr::Memory) => Err(OpenErr::Memory),
         Err(ReplayErr::Damaged { nth }) => Err(OpenErr::Damaged {
             area: Area::Journal,
-            at: gate_behind(start, &payloads[..nth]),
+            at: gate_behind(journal.start(), &payloads[..nth]),
         }),
     }
 }

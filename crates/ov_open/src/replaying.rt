@@ -29,16 +29,16 @@ impl From<AllocError> for ReplayErr {
     }
 }
 
-/// The catalog that a journal's payloads say. `Damaged` exactly at the first payload that spells no event, or an event that
+/// The catalog that the payloads of a journal of this format say. `Damaged` exactly at the first payload that spells no event, or an event that
 /// doesn't follow those before it, unless memory is wanting.
 ///
 /// In time linear in the payloads, but for the searches of each event by halves.
-pub fn replay(alloc: Global, payloads: &[Payload]) -> Result<Catalog, ReplayErr>
-    ensures { MatchResult result (λ catalog. IsReplay payloads.now catalog.numbers) (RefusesPayloads payloads.now) }
+pub fn replay(alloc: Global, format: u32, payloads: &[Payload]) -> Result<Catalog, ReplayErr>
+    ensures { MatchResult result (λ catalog. IsReplay format payloads.now catalog.numbers) (RefusesPayloads format payloads.now) }
 {
     let mut catalog = Catalog::new(alloc);
     for (nth, payload) in payloads.iter().enumerate() {
-        take_in(alloc, &mut catalog, payload.as_slice(), nth)?;
+        take_in(alloc, format, &mut catalog, payload.as_slice(), nth)?;
     }
     Ok(catalog)
 }
@@ -46,18 +46,19 @@ pub fn replay(alloc: Global, payloads: &[Payload]) -> Result<Catalog, ReplayErr>
 // The payload at this place, behind those before it.
 fn take_in(
     alloc: Global,
+    format: u32,
     catalog: &mut Catalog,
     payload: &[u8],
     nth: usize,
 ) -> Result<(), ReplayErr>
     ensures { MatchResult result
-        (λ done. IsTaken payload.now catalog.old.reach catalog.old.numbers catalog.new.numbers catalog.new.reach)
-        (IsLeft payload.now nth catalog.old.reach catalog.old.numbers) }
+        (λ done. IsTaken payload.now format catalog.old.reach catalog.old.numbers catalog.new.numbers catalog.new.reach)
+        (IsLeft payload.now nth (record { format = format; reach = catalog.old.reach }) catalog.old.numbers) }
 {
     let Some(event) = read_event(alloc, payload)? else {
         return Err(ReplayErr::Damaged { nth });
     };
-    match catalog.apply(event) {
+    match catalog.apply(format, event) {
         Ok(()) => Ok(()),
         Err(ApplyErr::Memory) => Err(ReplayErr::Memory),
         Err(ApplyErr::NotNext { .. }) => Err(ReplayErr::Damaged { nth }),

@@ -10,11 +10,12 @@ use Rattle.ov_event.specs.declared.event.PlanTarget.{PlanTarget}
 use Rattle.ov_event.specs.Fields.{AreFew, IsU32}
 use Rattle.ov_event.specs.Spelling.{IsEvent, IsTarget}
 use Rattle.ov_graph.specs.declared.nodes.Node.{Node}
-use Rattle.ov_graph.specs.Splits.{IsDivision, parts_of}
+use Rattle.ov_graph.specs.Splits.{IsDivision, depth_of, parts_of}
 use Rattle.ov_graph.specs.Versions.{reduced}
 use Rattle.ov_host.specs.declared.area.Extent.{Extent}
 use Rattle.ov_layout.specs.Parts.{AreParts}
 use Rattle.ov_lyre.specs.Parts.{lists_of}
+use Rattle.ov_lyre.specs.declared.outcome.Split.{Split}
 use Rattle.ov_match.specs.Matching.{AllSound, NumbersAscend}
 use Rattle.ov_model.specs.Lists.{IsIn}
 use Rattle.ov_catalog.specs.declared.cvd.Cvd.{Cvd}
@@ -30,6 +31,7 @@ use Rattle.ov_catalog.proofs.SplitLemmas.{parts-few, split-is}
 use Rattle.law_events.proofs.Beginning.{off_last, off_none}
 use Rattle.ov_targets.specs.declared.candidates.Partition.{Partition}
 use Rattle.ov_targets.specs.Targets.{AreTargets, AreVids, candidate_in}
+use Rattle.ov_optimize.specs.Planned.{IsSplitFor}
 use Rattle.ov_optimize.specs.Reading.{IsListOf, IsPartitionOf, all_vids}
 use Rattle.ov_optimize.proofs.Applying.{all_spelled, lists_long, targets_fit, targets_long}
 use Rattle.ov_optimize.proofs.Vids.{ids_ascend, ids_below, part_short, part_vids, partition_vids}
@@ -67,6 +69,15 @@ pub split_made : (d : Cvd) (p q : ℕ) (versions : List Version) (nodes : List N
     → versions ≡ d.versions.items → lists_of parts ≡ parts_of nodes p q → IsDivision nodes p q (lists_of parts) → IsSplitOf (set_in d) p q (lists_of parts)
 split_made d p q versions nodes parts are same split division =
     split-is (set_in d) p q nodes (lists_of parts) (are ∙ ap (λ vs. reduced (graph_of (map version_in vs))) same) split division
+
+-- and so is the depth
+pub split_for : (d : Cvd) (p q : ℕ) (versions : List Version) (nodes : List Node) (split : Split) → nodes ≡ reduced (graph_of (map version_in versions))
+    → versions ≡ d.versions.items → lists_of split.parts.items ≡ parts_of nodes p q → split.depth ≡ depth_of nodes p q
+    → IsDivision nodes p q (lists_of split.parts.items) → IsSplitFor (set_in d) p q split
+split_for d p q versions nodes split are same parts depth division = record {
+  parts = split_made d p q versions nodes split.parts.items are same parts division;
+  depth = depth ∙ ap (λ ns. depth_of ns p q) (are ∙ ap (λ vs. reduced (graph_of (map version_in vs))) same);
+}
 
 module _ (d : Cvd) (lists : List (List ℕ)) (partitions : List Partition) (read : IsRead d lists partitions) where
   ascend : NumbersAscend 0 (map candidate_in partitions)

@@ -3,17 +3,22 @@
 --     Says lists partitions s p q e      the event says what these make of the parts of the split
 --     IsPlanned area s p q e      the event says what the lists and segments on the pages make of the parts of the split
 --     IsReport d p q r      the report is what the reply of an optimize tells
+--     IsSplitFor s p q split      it is the split of the dataset's versions at p / q
 use Rattle.std.specs.Prelude.{◌≡◌, ℕ, List}
 use Rattle.std.specs.List.{AllZip}
 use Rattle.ov_event.specs.declared.event.Event.{Event}
 use Rattle.ov_event.specs.declared.event.Event.TheVariants as says
 use Rattle.ov_event.specs.declared.event.PlanTarget.{PlanTarget}
+use Rattle.ov_graph.specs.Splits.{depth_of}
 use Rattle.ov_graph.specs.Versions.{reduced}
+use Rattle.ov_lyre.specs.Parts.{lists_of}
+use Rattle.ov_lyre.specs.declared.outcome.Split.{Split}
 use Rattle.ov_model.specs.Act.{optimized}
 use Rattle.ov_model.specs.Plans as plans
 use Rattle.ov_model.specs.World.{Dataset}
 use Rattle.ov_model.specs.declared.reply.Reply.TheVariants as reply
 use Rattle.ov_catalog.specs.Events.{graph_of, parts_at}
+use Rattle.ov_catalog.specs.Splitting.{IsSplitOf}
 use Rattle.ov_read.specs.Agreement.{Numbers}
 use Rattle.ov_targets.specs.declared.candidates.Partition.{Partition}
 use Rattle.ov_targets.specs.Targets.{AreTargets}
@@ -42,3 +47,8 @@ pub record IsPlanned (area : List ℕ) (s : Numbers) (p q : ℕ) (e : Event) : T
 
 abbrev pub IsReport : Dataset → ℕ → ℕ → Report → Type 0
 IsReport d p q r = reply.Optimize r.depth r.partitions r.stored r.records r.members r.cost r.steps ≡ optimized d p q (plans.parts_at d p q)
+
+-- its parts are those of the definition, each version in one, and its depth is theirs
+pub record IsSplitFor (s : Numbers) (p q : ℕ) (split : Split) : Type 0 where
+  pub parts : IsSplitOf s p q (lists_of split.parts.items)
+  pub depth : split.depth ≡ depth_of (reduced (graph_of s.versions)) p q

@@ -2,8 +2,8 @@
 //! are there, and what will stand when the plan is done.
 //!
 //! [`plan_of`] reads the lists of all versions and the rids of all segments, and tests them against the catalog's numbers.
-//! [`all_lists`] reads the lists alone, [`thresholds`] has what a hundred thresholds come to by them, and [`plan_with`] makes the plan
-//! of one of these, without reading the lists again. What is
+//! [`all_lists`] reads the lists alone, [`thresholds`] has what a hundred thresholds come to by them, [`thresholds_within`] the one of
+//! them that a budget chooses with its split too, and [`plan_with`] makes the plan of this split, without reading the lists again. What is
 //! damaged then stands in `specs/Damages.antt`, what a plan says in `specs/Planned.antt`, and what its report counts in
 //! `specs/Counting.antt`. It only reads; the event that it gives is written elsewhere.
 #![tactic(auto)]
@@ -19,4 +19,4 @@ mod tree;
 pub use listing::all_lists;
 pub use planning::{Planned, plan_of, plan_with};
 pub use report::Report;
-pub use threshold_table::thresholds;
+pub use threshold_table::{thresholds, thresholds_within};

@@ -22,7 +22,7 @@ ghost use Rattle.ov_read.specs.OfWorld.{IsSetOf, IsSpared};
 ghost use Rattle.ov_read.specs.Sizes.{bytes_for, segment_bytes_for};
 ghost use Rattle.ov_core.specs.Brought.{IsBare, content};
 ghost use Rattle.ov_optimize.specs.Damages.{RefusesParts, RefusesPlan};
-ghost use Rattle.ov_optimize.specs.Planned.{IsMade, IsPlanned, IsReport, Says};
+ghost use Rattle.ov_optimize.specs.Planned.{IsMade, IsPlanned, IsReport, IsSplitFor, Says};
 ghost use Rattle.ov_optimize.specs.Reading.{IsListAt, IsListOf, IsPartitionOf, all_vids};
 
 use crate::listing::all_lists;
@@ -33,7 +33,7 @@ use ov_catalog::Cvd;
 use ov_event::{Event, Items, PlanTarget};
 use ov_fetch::FetchErr;
 use ov_host::Host;
-use ov_lyre::split;
+use ov_lyre::{Split, split};
 use ov_member::Members;
 use ov_targets::{Partition, targets_of};
 use std::alloc::{AllocError, Global};
@@ -59,12 +59,24 @@ fn event_of(cvd: u32, p: u32, q: u32, targets: Vec<PlanTarget>) -> Event
     }
 }
 
-/// The plan of the split at p / q, from the lists of all versions and from the partitions.
+/// The split of a dataset's versions at p / q.
+fn split_of(alloc: Global, d: &Cvd, p: u32, q: u32) -> Result<Split, AllocError>
+    requires sound { IsSet d.now }
+    requires threshold { IsTrue (is_threshold p q) }
+    ensures { IfOk result (IsSplitFor (set_in d.now) p q) }
+{
+    let tree = tree_of(alloc, &d.versions)?;
+    let found = split(alloc, &tree, p, q)?;
+    Ok(found)
+}
+
+/// The plan of a split at p / q, from the lists of all versions and from the partitions.
 fn made_of(
     alloc: Global,
     d: &Cvd,
     lists: &[Members],
     partitions: Vec<Partition>,
+    split: &Split,
     p: u32,
     q: u32,
 ) -> Result<Planned, AllocError>
@@ -74,24 +86,25 @@ fn made_of(
     requires numbers { d.now.layout.next ≤ 4294000000 }
     requires lists { AllZip (IsListOf (set_in d.now)) (all_vids (set_in d.now)) lists.now }
     requires parted { AllZip (IsPartitionOf d.now.records) (map part_in d.now.layout.parts) partitions.items }
+    requires split { IsSplitFor (set_in d.now) p q split.now }
     ensures made { IfOk result (IsMade (set_in d.now) p q) }
     ensures event { IfOk result (λ made. IsEvent made.event) }
-    ensures applies { IfOk result (λ made. (n : Numbers Extent Extent) → set_numbered d.now.number n ≡ Some (set_in d.now) → first_off made.event n ≡ None) }
+    ensures applies { IfOk result (λ made. (n : Numbers Extent Extent) → set_numbered d.now.number n ≡ Some (set_in d.now) → (format : ℕ) → first_off format made.event n ≡ None) }
     ensures says { IfOk result (λ made. Says lists.now partitions.items (set_in d.now) p q made.event) }
 {
     let tree = tree_of(alloc, &d.versions)?;
-    let split = split(alloc, &tree, p, q)?;
     // A layout's partitions stand by their numbers, and each has versions.
     let _ = d.layout.parts();
     let targets = targets_of(alloc, lists, partitions, &split.parts)?;
-    let report = report_of(&tree, &split, &targets);
+    let report = report_of(&tree, split, &targets);
     let event = event_of(d.number, p, q, targets);
     Ok(Planned { event, report })
 }
 
 /// The plan of an optimize of a dataset at the threshold p / q, from 1 / 1000000 to 1, from the lists of all its versions, as
-/// [`all_lists`] gives them: the event that begins it, and what will stand when it is done. Nothing is changed, and no list is read
-/// again.
+/// [`all_lists`] gives them, and from the split of its versions there, as
+/// [`thresholds_within`](crate::thresholds_within) gives it: the event that begins it, and what will stand when it is done. Nothing is
+/// changed, no list is read again, and no split is made.
 ///
 /// The plan's targets have all versions, so each partition is emptied by one of them; of all partitions the rids of their segments
 /// are read, each once. `Damaged` where one of these is short, off its grammar, or doesn't bear out the numbers of the catalog, with
@@ -101,6 +114,7 @@ pub fn plan_with<H: Host>(
     host: &mut H,
     d: &Cvd,
     lists: &[Members],
+    split: &Split,
     p: u32,
     q: u32,
 ) -> Result<Planned, FetchErr>
@@ -109,6 +123,7 @@ pub fn plan_with<H: Host>(
     requires threshold { IsTrue (is_threshold p q) }
     requires numbers { d.now.layout.next ≤ 4294000000 }
     requires lists { AllZip (IsListOf (set_in d.now)) (all_vids (set_in d.now)) lists.now }
+    requires split { IsSplitFor (set_in d.now) p q split.now }
     ensures looked { Looked (H.state host.old) (H.state host.new) }
     ensures cause { IsErrOf result FetchErr.Host → Rose (H.state host.old).faults (H.state host.new).faults }
     ensures fetched { (H.state host.new).fetched ≤ (H.state host.old).fetched + segment_bytes_for (set_in d.now) (all_vids (set_in d.now)) }
@@ -116,7 +131,7 @@ pub fn plan_with<H: Host>(
     // On every host the event may be written, and the report counts what it says.
     ensures bare { IfOk result (λ made. IsBare made.event) }
     ensures event { IfOk result (λ made. IsEvent made.event) }
-    ensures applies { IfOk result (λ made. (n : Numbers Extent Extent) → set_numbered d.now.number n ≡ Some (set_in d.now) → first_off made.event n ≡ None) }
+    ensures applies { IfOk result (λ made. (n : Numbers Extent Extent) → set_numbered d.now.number n ≡ Some (set_in d.now) → (format : ℕ) → first_off format made.event n ≡ None) }
     ensures made { IfOk result (IsMade (set_in d.now) p q) }
 
     // Where the bytes are told, a partition is damaged; or the plan says what stands on the pages, if the lists stand there.
@@ -126,7 +141,7 @@ pub fn plan_with<H: Host>(
         → IfOk result (λ made. IsPlanned (page_bytes (H.state host.old)) (set_in d.now) p q made.event) }
 {
     let partitions = all_partitions(alloc, host, d)?;
-    let made = made_of(alloc, d, lists, partitions, p, q)?;
+    let made = made_of(alloc, d, lists, partitions, split, p, q)?;
     Ok(made)
 }
 
@@ -157,7 +172,7 @@ pub fn plan_of<H: Host>(
     // On every host the event may be written, and the report counts what it says.
     ensures bare { IfOk result (λ made. IsBare made.event) }
     ensures event { IfOk result (λ made. IsEvent made.event) }
-    ensures applies { IfOk result (λ made. (n : Numbers Extent Extent) → set_numbered d.now.number n ≡ Some (set_in d.now) → first_off made.event n ≡ None) }
+    ensures applies { IfOk result (λ made. (n : Numbers Extent Extent) → set_numbered d.now.number n ≡ Some (set_in d.now) → (format : ℕ) → first_off format made.event n ≡ None) }
     ensures made { IfOk result (IsMade (set_in d.now) p q) }
 
     // Where the bytes are told, it says what stands on the pages, or they are damaged.
@@ -172,6 +187,7 @@ pub fn plan_of<H: Host>(
         (λ made. (Some (content (event_in made.event) [] []) ≡ Some (asked_as (plan_event ds.cvd.number p q ds))) × IsReport ds p q made.report) IsSpared }
 {
     let lists = all_lists(alloc, host, d)?;
-    let made = plan_with(alloc, host, d, &lists, p, q)?;
+    let split = split_of(alloc, d, p, q)?;
+    let made = plan_with(alloc, host, d, &lists, &split, p, q)?;
     Ok(made)
 }

@@ -4,3 +4,4 @@ mod Places
 mod Taken
 mod Differ
 pub mod Seen
+pub mod Longer

@@ -2,9 +2,12 @@
 --     IsCounted s      the dataset has as many records as it had after any of its versions, or more
 --     IsParent area s vid found      a scan of the version finds these records
 --     RefusesParents e area s vids      why the records of these versions aren't given
-use Rattle.std.specs.Prelude.{◌≡◌, ◌⊎◌, ◌≤◌, ℕ, List, Some, slice_index_or}
+--     with_added added parents      the records with columns more, which are NULL in each row
+use Rattle.std.specs.Prelude.{◌≡◌, ◌⊎◌, ◌≤◌, ℕ, List, [], ◌∷◌, Some, length, map, slice_index_or}
 use Rattle.std.specs.List.{AllZip}
+use Rattle.ov_segment.specs.Tables.{longer}
 use Rattle.ov_segment.specs.declared.numbered.Record.{Record}
+use Rattle.ov_value.specs.declared.column.Column.{Column}
 use Rattle.ov_fetch.specs.declared.errors.FetchErr.{FetchErr}
 use Rattle.ov_fetch.specs.declared.errors.FetchErr.TheVariants.{Host, Memory, Damaged}
 use Rattle.ov_records.specs.Records.{lists_of}
@@ -35,3 +38,7 @@ abbrev pub RefusesParents : FetchErr → List ℕ → Numbers → List ℕ → T
 RefusesParents Host area s vids = Unit {0}
 RefusesParents Memory area s vids = Unit {0}
 RefusesParents (Damaged page) area s vids = IsDamage area s vids page ⊎ AreDiffering area s vids page
+
+abbrev pub with_added : List Column → List (List Record) → List (List Record)
+with_added [] parents = parents
+with_added (column ∷ added) parents = map (map (longer (length (column ∷ added)))) parents

@@ -8,7 +8,9 @@ mod counting;
 mod disagreeing;
 mod reading;
 mod taking;
+mod widening;
 
 pub use counting::records_are_counted;
 pub use disagreeing::first_disagreeing;
 pub use reading::{ParentsRead, parents_of};
+pub use widening::{records_with_columns, with_columns};

@@ -3,7 +3,7 @@
 ghost use Rattle.std.specs.Prelude.{◌≡◌, ◌++◌, [], ◌∷◌, if◌then◌else◌, IfOk};
 
 use ov_model::Cell;
-use ov_value::Row;
+use ov_value::{Column, Row};
 use sqlite_items::Items;
 use std::alloc::{AllocError, Global};
 
@@ -88,6 +88,12 @@ impl<T: Copies> Copies for Items<T> {
 
 impl Copies for Row {
     fn copied(&self, alloc: Global) -> Result<Row, AllocError> {
+        self.copy(alloc)
+    }
+}
+
+impl Copies for Column {
+    fn copied(&self, alloc: Global) -> Result<Column, AllocError> {
         self.copy(alloc)
     }
 }

@@ -20,6 +20,7 @@ mod split;
 mod steps;
 mod tree;
 mod trees;
+mod widening;
 
 pub use copies::{Copies, both, copies_of, onto, onto_if, with_first, with_last};
 pub use dataset::{Cvd, Dataset, Part, Plan, Target};
@@ -34,3 +35,4 @@ pub use small::{is_small_plan, serve_few};
 pub use split::plain_split;
 pub use steps::{copied_more, current, flipped, is_complete, missing, missing_of, plan_steps};
 pub use trees::{depth_at, parts_at, tree_members, tree_records};
+pub use widening::wide;

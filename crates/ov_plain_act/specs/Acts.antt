@@ -28,7 +28,7 @@ session_of s = record { files = files_of s.files; user = s.user }
 
 abbrev pub move_of : Move → KnownMove
 move_of (kept.Init name schema rows) = Init name schema rows
-move_of (kept.Commit cvd version) = Commit cvd version.parents version.message [] version.rows
+move_of (kept.Commit cvd added version) = Commit cvd version.parents version.message added version.rows
 move_of (kept.BeginPlan cvd p q) = BeginPlan cvd p q
 move_of (kept.Copy cvd) = Copy cvd
 move_of (kept.Flip cvd) = Flip cvd
@@ -37,7 +37,7 @@ move_of kept.Checkpoint = Checkpoint
 
 -- what a change makes of the dataset that it is of
 abbrev pub changed_by : Change → Dataset → Dataset
-changed_by (changes.Version version) = committed version.parents version.message [] version.rows
+changed_by (changes.Version added version) = committed version.parents version.message added version.rows
 changed_by (changes.Plan p q) = planned p q
 changed_by changes.Copy = copied_more
 changed_by changes.Flip = flipped
@@ -59,8 +59,7 @@ came s next (Ok rows) = next rows
 abbrev pub is_plain : Command → Bool
 is_plain (asks.Init cvd schema file) = true
 is_plain (asks.Checkout cvd vids file table) = true
-is_plain (asks.Commit cvd vids file message None) = true
-is_plain (asks.Commit cvd vids file message (Some added)) = false
+is_plain (asks.Commit cvd vids file message added) = true
 is_plain (asks.CommitStaged user table message) = true
 is_plain (asks.Run text) = false
 is_plain (asks.Optimize cvd p q) = true

@@ -59,11 +59,11 @@ pub record CanMove (w : World) : Type 0 where
 
 -- a commit has few rows
 abbrev pub IsSmallMove : Move → Type 0
-IsSmallMove (kept.Commit cvd version) = length version.rows < 4294967295
+IsSmallMove (kept.Commit cvd added version) = length version.rows < 4294967295
 IsSmallMove _ = Unit {0}
 
 abbrev pub IsSmallChange : Change → Type 0
-IsSmallChange (changes.Version version) = length version.rows < 4294967295
+IsSmallChange (changes.Version added version) = length version.rows < 4294967295
 IsSmallChange _ = Unit {0}
 
 -- each of these moves has few rows

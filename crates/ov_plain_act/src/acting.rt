@@ -1,17 +1,18 @@
 //! What a command does: a dataset more, a version more, a dataset less, a checkpoint, and whichever command it is.
 
-ghost use Rattle.std.specs.Prelude.{◌≡◌, ◌+◌, ◌≤◌, ◌<◌, ◌^◌, [], length, Some, None, is_some, IfOk, IfSome};
-ghost use Rattle.ov_model.specs.Act.{does, init_refusal, init_deed, commit_refusal, commit_rows, commit_deed, drop_deed, checkpoint_deed, fresh_of, more_refusal, refuses};
+ghost use Rattle.std.specs.Prelude.{◌≡◌, ◌≤◌, ◌^◌, length, Some, is_some, IfOk, IfSome};
+ghost use Rattle.ov_model.specs.Act.{columns_of, does, init_refusal, init_deed, drop_deed, checkpoint_deed, more_refusal, refuses};
 ghost use Rattle.ov_model.specs.Deed.{deed, permitted};
-ghost use Rattle.ov_model.specs.Moves.{version_of, Init};
+ghost use Rattle.ov_model.specs.Moves.{Init};
 ghost use Rattle.ov_model.specs.World.{set_named};
 ghost use Rattle.ov_model.specs.declared.refusal.Refusal.TheVariants as no;
 ghost use Rattle.ov_model.specs.declared.reply.Reply.TheVariants as says;
 ghost use Rattle.ov_plain_act.specs.Acts.{deed_of, session_of, is_plain};
-ghost use Rattle.ov_plain_act.specs.Small.{AllFit, AreSmall, AreSmallMoves, IsSmallCommand, IsSmallSet};
+ghost use Rattle.ov_plain_act.specs.Small.{AreSmall, AreSmallMoves, IsSmallCommand};
 
 use crate::accepted::accepted;
 use crate::budget::{advise_deed, within_deed};
+use crate::committing::{Asked, commit_deed};
 use crate::counts::count_of;
 use crate::deed::{Deed, Move, does, no_cvd, refuses};
 use crate::laying::layout_deed;
@@ -21,14 +22,13 @@ use crate::showing::checkout_deed;
 use crate::staging::{commit_staged_deed, stage_deed};
 use crate::stepping::migrate_deed;
 use crate::tables::{tables_deed, unstage_deed};
-use crate::telling::{count_fresh, log_deed, ls_deed};
+use crate::telling::{log_deed, ls_deed};
 use crate::users::{config_deed, create_user_deed, whoami_deed};
 use crate::world::{World, first_named};
-use ov_answers::{commit_refusal, records_refusal};
-use ov_model::{Command, Refusal, Reply};
-use ov_plain::{Dataset, Version, onto, own_records};
+use ov_model::{Command, Refusal, Reply, Seq};
+use ov_plain::Dataset;
 use ov_users::permit;
-use ov_value::{Row, Schema, Txt};
+use ov_value::{Column, Row, Schema, Txt};
 use sqlite_items::Items;
 use std::alloc::{AllocError, Global};
 
@@ -97,171 +97,10 @@ fn init_deed(
 {
     match init_refusal(alloc, world, cvd)? {
         Some(refusal) => refuses(alloc, session, refusal),
-        None => match accepted(alloc, world, session, schema, file)? {
+        None => match accepted(alloc, world, session, schema, false, file)? {
             Err(refusal) => refuses(alloc, session, refusal),
             Ok(rows) => begins(alloc, session, cvd, schema, rows),
         },
-    }
-}
-
-/// These numbers, each of which fits 32 bits.
-fn fitting(alloc: Global, vids: &[u64]) -> Result<Items<u32>, AllocError>
-    requires { AllFit vids.now }
-    ensures { IfOk result (λ found. found ≡ vids.now) }
-{
-    match vids {
-        [] => Ok(Items::new(alloc)),
-        [vid, rest @ ..] => {
-            let later = fitting(alloc, rest)?;
-            onto(alloc, *vid as u32, later)
-        }
-    }
-}
-
-/// A version of these parents, message and rows.
-fn version_of(
-    alloc: Global,
-    vids: &[u64],
-    message: &Txt,
-    rows: Items<Row>,
-) -> Result<Version, AllocError>
-    requires { AllFit vids.now }
-    ensures { IfOk result (λ version. version ≡ version_of vids.now message.now rows) }
-{
-    let parents = fitting(alloc, vids)?;
-    let message = message.copy(alloc)?;
-    Ok(Version {
-        parents,
-        message,
-        rows,
-    })
-}
-
-/// How many records of a new version no parent gives it.
-pub fn fresh_of(alloc: Global, set: &Dataset, version: &Version) -> Result<u32, AllocError>
-    requires versions { length set.now.cvd.versions < 65535 }
-    requires rows { length version.now.rows ≤ 1000000 }
-    ensures { IfOk result (λ fresh. fresh ≡ fresh_of set.now version.now.parents version.now.message version.now.rows) }
-{
-    let own = own_records(alloc, set.cvd.versions.as_slice(), version)?;
-    Ok(count_fresh(own.as_slice(), set.cvd.versions.len() as u32 + 1))
-}
-
-/// What is told of a commit of a version, of whose records so many are new.
-fn committed(
-    alloc: Global,
-    set: &Dataset,
-    version: &Version,
-    fresh: u32,
-) -> Result<Reply, AllocError>
-    requires versions { length set.now.cvd.versions < 65535 }
-    requires rows { length version.now.rows ≤ 1000000 }
-    ensures { IfOk result (λ reply. reply ≡ says.Commit set.now.cvd.name (length set.now.cvd.versions + 1) (length version.now.rows) fresh) }
-{
-    Ok(Reply::Commit {
-        cvd: set.cvd.name.copy(alloc)?,
-        vid: set.cvd.versions.len() as u32 + 1,
-        rows: version.rows.len() as u32,
-        fresh,
-    })
-}
-
-/// What a commit of this version does.
-fn commit_version(
-    alloc: Global,
-    session: &Session,
-    set: &Dataset,
-    version: Version,
-) -> Result<Deed, AllocError>
-    requires versions { length set.now.cvd.versions < 65535 }
-    requires rows { length version.rows ≤ 1000000 }
-    ensures is { IfOk result (λ deed. deed_of deed ≡ commit_rows (session_of session.now) set.now version.parents version.message [] version.rows) }
-    ensures small { IfOk result (λ deed. AreSmallMoves deed.moves) }
-{
-    let fresh = fresh_of(alloc, set, &version)?;
-    match records_refusal(alloc, set, fresh)? {
-        Some(refusal) => refuses(alloc, session, refusal),
-        None => {
-            let reply = committed(alloc, set, &version, fresh)?;
-            let the_move = Move::Commit {
-                cvd: set.cvd.number,
-                version,
-            };
-            does(alloc, session, the_move, reply)
-        }
-    }
-}
-
-/// A dataset's schema.
-fn schema_of(set: &Dataset) -> &Schema
-    ensures { result.now ≡ set.now.cvd.schema }
-{
-    &set.cvd.schema
-}
-
-/// What a commit of this file to this dataset does, with parents that are accepted.
-fn commit_file(
-    alloc: Global,
-    world: &World,
-    session: &Session,
-    vids: &[u64],
-    message: &Txt,
-    file: &Txt,
-    name: &Txt,
-    set: &Dataset,
-) -> Result<Deed, AllocError>
-    requires accepted { commit_refusal set.now vids.now ≡ None }
-    requires fit { AllFit vids.now }
-    requires versions { length set.now.cvd.versions < 65535 }
-    ensures is { IfOk result (λ deed. deed_of deed ≡ commit_deed world.now (session_of session.now) name.now vids.now message.now [] file.now (Some set.now)) }
-    ensures small { IfOk result (λ deed. AreSmallMoves deed.moves) }
-{
-    match accepted(alloc, world, session, schema_of(set), file)? {
-        Err(reason) => refuses(alloc, session, reason),
-        Ok(rows) => {
-            let version = version_of(alloc, vids, message, rows)?;
-            commit_version(alloc, session, set, version)
-        }
-    }
-}
-
-/// What a commit to this dataset does.
-pub fn commit_of(
-    alloc: Global,
-    world: &World,
-    session: &Session,
-    vids: &[u64],
-    message: &Txt,
-    file: &Txt,
-    name: &Txt,
-    set: &Dataset,
-) -> Result<Deed, AllocError>
-    ensures is { IfOk result (λ deed. deed_of deed ≡ commit_deed world.now (session_of session.now) name.now vids.now message.now [] file.now (Some set.now)) }
-    ensures small { IfOk result (λ deed. AreSmallMoves deed.moves) }
-{
-    match commit_refusal(alloc, set, vids)? {
-        Some(refusal) => refuses(alloc, session, refusal),
-        None => commit_file(alloc, world, session, vids, message, file, name, set),
-    }
-}
-
-/// What a commit with no added columns does.
-fn commit_deed(
-    alloc: Global,
-    world: &World,
-    session: &Session,
-    name: &Txt,
-    vids: &[u64],
-    message: &Txt,
-    file: &Txt,
-) -> Result<Deed, AllocError>
-    requires { AreSmall world.now.sets }
-    ensures is { IfOk result (λ deed. deed_of deed ≡ commit_deed world.now (session_of session.now) name.now vids.now message.now [] file.now (set_named world.now name.now)) }
-    ensures small { IfOk result (λ deed. AreSmallMoves deed.moves) }
-{
-    match first_named(world.sets.as_slice(), name) {
-        None => no_cvd(alloc, session, name),
-        Some(set) => commit_of(alloc, world, session, vids, message, file, name, set),
     }
 }
 
@@ -321,8 +160,7 @@ fn is_plain(command: &Command) -> bool
     match command {
         Command::Init { .. } => true,
         Command::Checkout { .. } => true,
-        Command::Commit { added: None, .. } => true,
-        Command::Commit { added: Some(_), .. } => false,
+        Command::Commit { .. } => true,
         Command::CommitStaged { .. } => true,
         Command::Run { .. } => false,
         Command::Optimize { .. } => true,
@@ -340,6 +178,16 @@ fn is_plain(command: &Command) -> bool
         Command::Whoami => true,
         Command::Unstage { .. } => true,
         Command::Tables => true,
+    }
+}
+
+/// The columns that a commit adds.
+fn columns_of(added: &Option<Seq<Column>>) -> &[Column]
+    ensures { result.now ≡ columns_of added.now }
+{
+    match added {
+        None => &[],
+        Some(added) => added.as_slice(),
     }
 }
 
@@ -429,8 +277,16 @@ fn permitted_deed(
             vids,
             file,
             message,
-            added: None,
-        } => commit_deed(alloc, world, session, cvd, vids.as_slice(), message, file),
+            added,
+        } => {
+            let asked = Asked {
+                vids: vids.as_slice(),
+                message,
+                added: columns_of(added),
+                file,
+            };
+            commit_deed(alloc, world, session, cvd, &asked)
+        }
         Command::Layout { cvd } => layout_deed(alloc, world, session, cvd),
         Command::Log { cvd } => log_deed(alloc, world, session, cvd),
         Command::Ls => ls_deed(alloc, world, session),

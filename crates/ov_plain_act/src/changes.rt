@@ -7,18 +7,26 @@ ghost use Rattle.ov_plain_act.specs.Small.{CanMove, HasPlace, HavePlace, IsSmall
 
 use crate::deed::Move;
 use crate::world::World;
-use ov_plain::{Copies, Dataset, Version, copied_more, flipped, new_set, planned, with_version};
-use ov_value::{Row, Schema, Txt};
+use ov_plain::{
+    Copies, Dataset, Version, copied_more, flipped, new_set, planned, wide, with_version,
+};
+use ov_value::{Column, Row, Schema, Txt};
 use sqlite_items::Items;
 use std::alloc::{AllocError, Global};
 
 /// A change of one dataset.
 #[derive(Drop)]
 pub enum Change {
-    /// A version more.
-    Version(Version),
+    /// A version more, with columns added at the right.
+    Version {
+        added: Items<Column>,
+        version: Version,
+    },
     /// A plan begins, at the threshold p / q.
-    Plan { p: u32, q: u32 },
+    Plan {
+        p: u32,
+        q: u32,
+    },
     /// Its plan's target takes the next missing records.
     Copy,
     /// Its plan's target becomes a partition.
@@ -32,7 +40,10 @@ fn changed_by(alloc: Global, how: &Change, set: Dataset) -> Result<Dataset, Allo
     ensures { IfOk result (λ after. after ≡ changed_by how.now set) }
 {
     match how {
-        Change::Version(version) => with_version(alloc, version.copied(alloc)?, set),
+        Change::Version { added, version } => {
+            let set = wide(alloc, added.as_slice(), &set)?;
+            with_version(alloc, version.copied(alloc)?, set)
+        }
         Change::Plan { p, q } => planned(alloc, *p, *q, set),
         Change::Copy => copied_more(alloc, set),
         Change::Flip => flipped(alloc, set),
@@ -197,9 +208,11 @@ pub fn plain_moved(alloc: Global, the_move: Move, world: World) -> Result<World,
 {
     match the_move {
         Move::Init { name, schema, rows } => with_init(alloc, name, schema, rows, world),
-        Move::Commit { cvd, version } => {
-            with_change(alloc, cvd, &Change::Version(version), world)
-        }
+        Move::Commit {
+            cvd,
+            added,
+            version,
+        } => with_change(alloc, cvd, &Change::Version { added, version }, world),
         Move::BeginPlan { cvd, p, q } => with_change(alloc, cvd, &Change::Plan { p, q }, world),
         Move::Copy { cvd } => with_change(alloc, cvd, &Change::Copy, world),
         Move::Flip { cvd } => with_change(alloc, cvd, &Change::Flip, world),

@@ -10,7 +10,7 @@ ghost use Rattle.ov_plain_act.specs.Small.{AreSmallMoves, IsSmallMove};
 use crate::session::Session;
 use ov_model::{Refusal, Reply};
 use ov_plain::{Copies, Version, onto};
-use ov_value::{Row, Schema, Txt};
+use ov_value::{Column, Row, Schema, Txt};
 use sqlite_items::Items;
 use std::alloc::{AllocError, Global};
 
@@ -23,9 +23,10 @@ pub enum Move {
         schema: Schema,
         rows: Items<Row>,
     },
-    /// A version more of the dataset of this number, with no columns added.
+    /// A version more of the dataset of this number, with columns added at the right.
     Commit {
         cvd: u32,
+        added: Items<Column>,
         version: Version,
     },
     /// A plan of the dataset of this number begins, at the threshold p / q.
@@ -69,8 +70,13 @@ impl Copies for Move {
     fn copied(&self, alloc: Global) -> Result<Move, AllocError> {
         match self {
             Move::Init { name, schema, rows } => copy_of_init(alloc, name, schema, rows),
-            Move::Commit { cvd, version } => Ok(Move::Commit {
+            Move::Commit {
+                cvd,
+                added,
+                version,
+            } => Ok(Move::Commit {
                 cvd: *cvd,
+                added: added.copied(alloc)?,
                 version: version.copied(alloc)?,
             }),
             Move::BeginPlan { cvd, p, q } => Ok(Move::BeginPlan {

@@ -8,6 +8,7 @@ mod accepted;
 mod acting;
 mod budget;
 mod changes;
+mod committing;
 mod counts;
 mod course;
 mod deed;

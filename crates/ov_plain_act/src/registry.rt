@@ -9,7 +9,8 @@ ghost use Rattle.ov_model.specs.Registry.{change_refusal, is_foreign, is_same_co
 ghost use Rattle.ov_plain_act.specs.Acts.{deed_of, session_of};
 ghost use Rattle.ov_plain_act.specs.Small.{AreSmallMoves, IsSmallSet};
 
-use crate::acting::{fresh_of, more_refusal};
+use crate::acting::more_refusal;
+use crate::committing::fresh_of;
 use crate::deed::{Deed, Move, does, refuses};
 use crate::session::Session;
 use crate::world::World;
@@ -276,8 +277,12 @@ fn goes_on(
     match next_refusal(alloc, world, name, set, &version)? {
         Some(refusal) => refuses(alloc, session, refusal),
         None => {
-            let cvd = set.cvd.number;
-            does(alloc, after, Move::Commit { cvd, version }, reply)
+            let the_move = Move::Commit {
+                cvd: set.cvd.number,
+                added: Items::new(alloc),
+                version,
+            };
+            does(alloc, after, the_move, reply)
         }
     }
 }

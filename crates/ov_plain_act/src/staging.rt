@@ -13,7 +13,7 @@ ghost use Rattle.ov_model.specs.declared.reply.Reply.TheVariants as says;
 ghost use Rattle.ov_plain_act.specs.Acts.{deed_of, session_of};
 ghost use Rattle.ov_plain_act.specs.Small.{AreSmall, AreSmallMoves, IsSmallSet};
 
-use crate::acting::commit_of;
+use crate::committing::{Asked, commit_of};
 use crate::deed::{Deed, no_cvd, refuses};
 use crate::registry::{changes, is_foreign, last_rows, stage_name, stage_schema, table_in};
 use crate::session::Session;
@@ -328,16 +328,15 @@ fn commit_row(
         None => no_table(alloc, session, user, table),
         Some(set) => match vids_staged(alloc, row)? {
             None => no_table(alloc, session, user, table),
-            Some(vids) => commit_of(
-                alloc,
-                world,
-                session,
-                vids.as_slice(),
-                message,
-                &file,
-                &set.cvd.name,
-                set,
-            ),
+            Some(vids) => {
+                let asked = Asked {
+                    vids: vids.as_slice(),
+                    message,
+                    added: &[],
+                    file: &file,
+                };
+                commit_of(alloc, world, session, &set.cvd.name, &asked, set)
+            }
         },
     }
 }

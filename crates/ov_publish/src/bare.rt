@@ -34,6 +34,7 @@ pub fn add_bare<H: Host>(
     ensures record { (payloads : List (List ℕ)) → IsAt payloads journal.old (H.state host.old)
         → OnOk result (IsAt (payloads ++ framed.now ∷ []) journal.new (H.state host.new)) }
     ensures room { (H.state host.old).tells ≡ true → OnOk result (journal.new.end < length (bytes_of Area.Journal (H.state host.new))) }
+    ensures format { journal.new.format ≡ journal.old.format }
     ensures full_same { IsErrOf result AppendErr.JournalFull → journal.new ≡ journal.old }
     ensures full_untouched { IsErrOf result AppendErr.JournalFull → H.state host.new ≡ H.state host.old }
 {

@@ -38,6 +38,7 @@ pub fn add<H: Host>(
         → OnOk result (IsAdded (payloads ++ framed.now ∷ []) (with_runs list.entry segment.entry (bytes_of Area.Pages (H.state host.old)))
         (H.state host.old).tape.disk.printed journal.new (H.state host.new)) }
     ensures room { (H.state host.old).tells ≡ true → OnOk result (journal.new.end < length (bytes_of Area.Journal (H.state host.new))) }
+    ensures format { journal.new.format ≡ journal.old.format }
     ensures full_same { IsErrOf result AppendErr.JournalFull → journal.new ≡ journal.old }
     ensures full_untouched { IsErrOf result AppendErr.JournalFull → H.state host.new ≡ H.state host.old }
 {

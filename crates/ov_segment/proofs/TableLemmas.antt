@@ -1,5 +1,5 @@
 -- Places in a buffer: more bytes behind change no record, and one more place is one more record.
-use Rattle.std.proofs.Common.{◌≡◌, ◌<◌, ◌≤◌, ◌+◌, ◌-◌, ℕ, List, [], ◌∷◌, ◌++◌, length, take, drop, get_or, refl, sym, ◌∙◌, ap, subst, arith}
+use Rattle.std.proofs.Common.{◌≡◌, ◌<◌, ◌≤◌, ◌+◌, ◌-◌, ◌/◌, ◌%◌, ◌==◌, ℕ, suc, Bool, true, false, List, [], ◌∷◌, ◌++◌, length, map, take, drop, get_or, refl, sym, ◌∙◌, ap, subst, arith}
 use Rattle.std.specs.List.{All}
 use Rattle.std.proofs.lemmas.List.{take-append-le, drop-append-le, drop_at, take_all, length-drop, length-append, take-append-drop, map_push, get_or-map}
 use Rattle.std.proofs.lemmas.List.Elements.{All-head, All-tail, All-push}
@@ -7,12 +7,13 @@ use Rattle.ov_value.specs.declared.column.Column.{Column}
 use Rattle.ov_value.specs.declared.value.Value.{Value}
 use Rattle.ov_value.specs.Shapes.{Shape}
 use Rattle.ov_value.specs.Spelling.{IsRow, row_spelling}
-use Rattle.ov_value.specs.Decoding.{row_of, AreRow}
+use Rattle.ov_value.specs.Decoding.{body_of, decoded, nulls_of, row_of, step_rest, AreRow}
+use Rattle.ov_value.proofs.Longer.{row_longer}
 use Rattle.ov_value.proofs.MarkLemmas.{row_spelled}
 use Rattle.ov_value.proofs.Standing.{row_is, are_row}
 use Rattle.ov_segment.specs.declared.numbered.Record.{Record}
 use Rattle.ov_segment.specs.declared.place.Place.{Place}
-use Rattle.ov_segment.specs.Tables.{piece, record_at, records_at, IsAt, AreAt}
+use Rattle.ov_segment.specs.Tables.{longer, piece, record_at, records_at, IsAt, AreAt}
 
 piece_more : (bytes more : List ℕ) (p : Place) → p.start ≤ p.end → p.end ≤ length bytes → piece (bytes ++ more) p ≡ piece bytes p
 piece_more bytes more p order within =
@@ -89,3 +90,38 @@ pub row_spelled_here : (schema : Shape) (row : List Value) → IsRow schema row
 row_spelled_here schema row is =
     let spelled = row_spelled schema (row_spelling row).marked (row_spelling row).bytes row is (refl, refl) in
     (are_row schema.columns (row_spelling row).marked (row_spelling row).bytes row spelled, row_is schema.columns (row_spelling row).marked (row_spelling row).bytes row spelled)
+
+-- ---- columns more
+
+decoded_long : (columns : List Column) (nulls : ℕ) (bytes : List ℕ) → length (decoded columns nulls bytes) ≡ length columns
+decoded_long [] nulls bytes = refl
+decoded_long (column ∷ columns) nulls bytes = ap (λ n. suc n) (decoded_long columns (nulls / 2) (step_rest column.kind (nulls % 2 == 1) bytes))
+
+module _ (columns added : List Column) (bytes : List ℕ) where
+  is_longer : (p : Place) → IsAt columns bytes p → IsAt (columns ++ added) bytes p
+  is_longer p h = record { order = h.order; within = h.within; spelled = (row_longer columns added p.marked (piece bytes p) h.spelled).0 }
+
+  -- of at least one record
+  pub are_longer : (p : Place) (places : List Place) → AreAt columns bytes (p ∷ places)
+      → All (λ r. length r.row + length added ≤ 64) (records_at columns bytes (p ∷ places)) → AreAt (columns ++ added) bytes (p ∷ places)
+  are_longer p places h short =
+      let first = All-head (λ (r : Record). length r.row + length added ≤ 64) (record_at columns bytes p) (records_at columns bytes places) short in record {
+        few = omega (arith, length-append columns added, first, decoded_long columns (nulls_of p.marked (piece bytes p)) (body_of p.marked (piece bytes p)));
+        at = λ k d lt. is_longer (get_or (p ∷ places) k d) (h.at k d lt);
+      }
+
+  pub records_longer : (places : List Place) → All (IsAt columns bytes) places → records_at (columns ++ added) bytes places ≡ map (longer (length added)) (records_at columns bytes places)
+  records_longer [] h = refl
+  records_longer (p ∷ places) h =
+      let here = All-head (IsAt columns bytes) p places h in
+      let row = (row_longer columns added p.marked (piece bytes p) here.spelled).1 in
+      let others = records_longer places (All-tail (IsAt columns bytes) p places h) in
+      λ i. record { rid = p.rid; row = row i } ∷ others i
+
+pub some_longer : (columns added : List Column) (bytes : List ℕ) (places : List Place) → (length places == 0) ≡ false → AreAt columns bytes places
+    → All (λ r. length r.row + length added ≤ 64) (records_at columns bytes places) → AreAt (columns ++ added) bytes places
+some_longer columns added bytes [] some h short = absurd (clash some)
+  where
+    clash : true ≡ false → ⊥
+    clash e = cc
+some_longer columns added bytes (p ∷ places) some h short = are_longer columns added bytes p places h short

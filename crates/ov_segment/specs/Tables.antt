@@ -3,10 +3,12 @@
 --     records_at columns bytes places      those at all places, in order
 --     AreAt columns bytes places      the bytes at each place spell a row of the columns, of which there are at most 64
 --     Content      what contracts see of a table: its columns and its records
-use Rattle.std.specs.Prelude.{◌≤◌, ◌+◌, ◌-◌, ℕ, Bool, false, List, [], ◌∷◌, ◌++◌, length, map, take, drop, slice_index_or}
+--     longer n r      a record's row with so many columns more, which are NULL
+use Rattle.std.specs.Prelude.{◌≤◌, ◌+◌, ◌-◌, ℕ, Bool, false, List, [], ◌∷◌, ◌++◌, length, map, replicate, take, drop, slice_index_or}
 use Rattle.std.specs.List.{All}
 use Rattle.ov_value.specs.declared.column.Column.{Column}
 use Rattle.ov_value.specs.Decoding.{row_of, AreRow}
+use Rattle.ov_value.specs.declared.value.Value.TheVariants.{Null}
 use Rattle.ov_segment.specs.declared.numbered.Record.{Record}
 use Rattle.ov_segment.specs.declared.place.Place.{Place}
 
@@ -46,6 +48,10 @@ pushed table r = record table { records = table.records ++ r ∷ [] }
 -- with the records of another at the end
 abbrev pub joined : Content → Content → Content
 joined table other = record table { records = table.records ++ other.records }
+
+-- a record's row with so many columns more, all NULL
+abbrev pub longer : ℕ → Record → Record
+longer n r = record { rid = r.rid; row = r.row ++ replicate n Null }
 
 -- the place behind so many bytes more
 abbrev pub moved_by : ℕ → Place → Place

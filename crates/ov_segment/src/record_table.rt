@@ -1,12 +1,13 @@
 //! A list of records in one buffer.
 
-ghost use Rattle.std.specs.Prelude.{◌≡◌, ◌<◌, ◌^◌, ◌++◌, IfOk, OnOk, length, map, slice_index_or};
+ghost use Rattle.std.specs.Prelude.{◌≡◌, ◌<◌, ◌≤◌, ◌+◌, ◌^◌, ◌++◌, IfOk, OnOk, length, map, slice_index_or};
 ghost use Rattle.std.specs.List.{All};
 ghost use Rattle.ov_segment.specs.declared.numbered.Record.{Record as RecordValue};
+ghost use Rattle.ov_segment.specs.Tables.{longer};
 
 use crate::row_ref::RowRef;
 use crate::table::Table;
-use ov_value::Cells;
+use ov_value::{Cells, Column};
 use std::alloc::{AllocError, Global};
 use std::marker::Model;
 
@@ -46,6 +47,15 @@ impl RecordTable {
         ensures { (none : RecordValue) → IfOk result (λ made. made ≡ map (λ i. slice_index_or self i none) order.now) }
     {
         let table = self.table.at(order)?;
+        Ok(RecordTable { table })
+    }
+
+    /// The same records, whose rows have columns more, which are NULL. No row's bytes are copied or read.
+    pub fn widened(self, alloc: Global, added: &[Column]) -> Result<RecordTable, AllocError>
+        requires { All (λ r. length r.row + length added.now ≤ 64) self }
+        ensures { IfOk result (λ made. made ≡ map (longer (length added.now)) self) }
+    {
+        let table = self.table.widened(alloc, added)?;
         Ok(RecordTable { table })
     }
 

@@ -1,6 +1,6 @@
 //! Records in one buffer.
 
-ghost use Rattle.std.specs.Prelude.{◌≡◌, ◌==◌, ◌<◌, ◌≤◌, ◌+◌, ◌^◌, List, [], length, map, IfOk, OnOk, OnErr, slice_index_or};
+ghost use Rattle.std.specs.Prelude.{◌≡◌, ◌==◌, ◌<◌, ◌≤◌, ◌+◌, ◌++◌, ◌^◌, List, [], length, map, IfOk, OnOk, OnErr, slice_index_or};
 ghost use Rattle.std.specs.List.{All, dedup};
 ghost use Rattle.std.specs.List.Sorted.{IsPermutation, IsNonDecreasingBy, IsStableByKey};
 ghost use Rattle.std.specs.Ordering.{nat_cmp};
@@ -9,7 +9,7 @@ ghost use Rattle.ov_value.specs.Decoding.{row_of, AreRow};
 ghost use Rattle.ov_value.specs.declared.value.Value.{Value as RowValue};
 ghost use Rattle.ov_segment.specs.Drafts.{IsWhole};
 ghost use Rattle.ov_segment.specs.declared.numbered.Record.{Record as RecordValue};
-ghost use Rattle.ov_segment.specs.Tables.{joined, moved_by, places_in, pushed};
+ghost use Rattle.ov_segment.specs.Tables.{joined, longer, moved_by, places_in, pushed};
 
 use crate::draft::RowDraft;
 use crate::place::Place;
@@ -253,6 +253,29 @@ impl Table {
         })
     }
 
+    /// The same records with columns more, which are NULL in each row. A row's bytes don't depend on NULLs at its end, so it
+    /// takes time and memory for the columns alone.
+    pub fn widened(self, alloc: Global, added: &[Column]) -> Result<Table, AllocError>
+        requires { All (λ r. length r.row + length added.now ≤ 64) self.records }
+        ensures { IfOk result (λ made. made.records ≡ map (longer (length added.now)) self.records) }
+    {
+        // Without a record nothing says how many columns there are.
+        if self.places.is_empty() {
+            return Ok(self);
+        }
+        let Table {
+            columns,
+            bytes,
+            places,
+        } = self;
+        let columns = both_of(alloc, &columns, added)?;
+        Ok(Table {
+            columns,
+            bytes,
+            places,
+        })
+    }
+
     /// Of successive records with one rid the first stays.
     pub fn drop_repeats(&mut self)
         ensures columns { self.new.columns ≡ self.old.columns }
@@ -280,6 +303,16 @@ fn copies_of(alloc: Global, columns: &[Column]) -> Result<Vec<Column>, AllocErro
         copies.push(column.copy(alloc)?)?;
     }
     Ok(copies)
+}
+
+fn both_of(alloc: Global, columns: &[Column], added: &[Column]) -> Result<Vec<Column>, AllocError>
+    ensures { IfOk result (λ all. all.items ≡ columns.now ++ added.now) }
+{
+    let mut all = copies_of(alloc, columns)?;
+    for column in added {
+        all.push(column.copy(alloc)?)?;
+    }
+    Ok(all)
 }
 
 fn drop_repeated(places: &mut Vec<Place>)

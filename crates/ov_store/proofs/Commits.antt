@@ -212,7 +212,7 @@ plain_commit w held name s wish same found off =
 module _ (w : World) (area : List ℕ) (s : Numbers) (d : Dataset) (of_world : IsSetOf w d area s) (wish : Wish) (made : List Row) (parents : List (List Record))
     (sorted : made ≡ in_key_order s.schema wish.rows) where
   abbrev asked : Asked
-  asked = record { set = s; vids = wish.vids; parents = parents; message = wish.message; rows = made }
+  asked = record { set = s; vids = wish.vids; parents = parents; message = wish.message; added = []; schema = s.schema; rows = made }
 
   numbered_as : HasNumbers s d
   numbered_as = numbers w area s d of_world

@@ -63,8 +63,8 @@ found_there name cvd (d ∷ sets) e = by (is_named name d) (d.number == cvd) ref
         by_number : d.number ≡ cvd → ⊥
         by_number same = let yes_it : (d.number == cvd) ≡ true = eq-eqb d.number cvd same in cc
 
-pub drop_applies : (n : Numbers Extent Extent) (name : List ℕ) (cvd : ℕ) → number_named n name ≡ Some cvd → first_off (says.Drop cvd) n ≡ None
-drop_applies n name cvd e = found_there name cvd n.sets e
+pub drop_applies : (format : ℕ) (n : Numbers Extent Extent) (name : List ℕ) (cvd : ℕ) → number_named n name ≡ Some cvd → first_off format (says.Drop cvd) n ≡ None
+drop_applies format n name cvd e = found_there name cvd n.sets e
 
 named_there : (name : List ℕ) (d : Dataset) (sets : List Dataset) → first_set (named name) sets ≡ Some d → IfThere (λ x. Unit {0}) (first_set (numbered d.cvd.number) sets)
 named_there name d [] e = absurd cc

@@ -5,13 +5,13 @@ use Rattle.std.proofs.lemmas.Bool.{eq-eqb, leb-true, ne_eqb}
 use Rattle.ov_host.specs.declared.area.Extent.{Extent}
 use Rattle.ov_event.specs.declared.event.Event as raw
 use Rattle.ov_model.specs.Lists.{IsIn}
-use Rattle.ov_catalog.specs.Applying.{AllApply, AtStart, is_named}
+use Rattle.ov_catalog.specs.Applying.{AllFollow, is_named, start_of}
 use Rattle.ov_catalog.specs.Events.{numbered}
 use Rattle.ov_catalog.specs.Numbers.{SetNumbers, nothing_yet}
 use Rattle.ov_catalog.specs.Planning.{ascend_from}
 use Rattle.ov_catalog.specs.Raw.{numbers_in}
 use Rattle.law_snapshots.specs.Whole.{numbers_of}
-use Rattle.law_snapshots.proofs.Built.{built_whole}
+use Rattle.law_snapshots.proofs.Carrying.{all_whole}
 
 abbrev Set : Type 0
 Set = SetNumbers Extent Extent
@@ -57,7 +57,7 @@ found_in name (d ∷ sets) s e = by (is_named name d) e (found_in name sets s)
     by true is later = inl (sym (ap (λ o. elim o as (λ _. Set) [ None ↦ d | Some x ↦ x ]) is))
     by false is later = inr (later is)
 
-pub named_numbered : (events : List raw.Event) → AllApply AtStart events nothing_yet → (name : List ℕ) (s : Set)
+pub named_numbered : (format : ℕ) (events : List raw.Event) → AllFollow (start_of format) events nothing_yet → (name : List ℕ) (s : Set)
     → find (is_named name) (numbers_in events).sets ≡ Some s → find (numbered s.number) (numbers_in events).sets ≡ Some s
-named_numbered events apply name s found =
-    in_numbered 1 (numbers_in events).sets s (built_whole events apply).rise (found_in name (numbers_in events).sets s found)
+named_numbered format events follow name s found =
+    in_numbered 1 (numbers_in events).sets s (all_whole format events follow).rise (found_in name (numbers_in events).sets s found)

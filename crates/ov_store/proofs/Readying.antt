@@ -1,5 +1,5 @@
 -- A version is made ready from what was read of its parents.
-use Rattle.std.proofs.Common.{◌≡◌, ◌∙◌, ◌≤◌, ◌<◌, ◌^◌, ℕ, true, List, length, sym, ap, subst, arith}
+use Rattle.std.proofs.Common.{◌≡◌, ◌∙◌, ◌≤◌, ◌<◌, ◌^◌, ℕ, true, List, [], length, sym, ap, subst, arith}
 use Rattle.std.specs.Prelude.{IsUtf8, Some, None}
 use Rattle.std.specs.List.{All, AllZip}
 use Rattle.ov_event.specs.declared.event.Event as raw
@@ -49,16 +49,16 @@ reading_spared w held s at name set d wish vids e found named there is =
 module _ (set : Set) (wish : Wish) (vids : List ℕ) (parents : List (List Record)) (made : List Row) (vids_are : vids ≡ wish.vids) (sorted : made ≡ in_key_order set.schema wish.rows) where
   -- as the code asks
   abbrev as_asked : Asked
-  as_asked = record { set = set; vids = vids; parents = parents; message = wish.message; rows = made }
+  as_asked = record { set = set; vids = vids; parents = parents; message = wish.message; added = []; schema = set.schema; rows = made }
 
   asked_is : as_asked ≡ asked_of set wish parents
-  asked_is = λ i. record { set = set; vids = vids_are i; parents = parents; message = wish.message; rows = sorted i }
+  asked_is = λ i. record { set = set; vids = vids_are i; parents = parents; message = wish.message; added = []; schema = set.schema; rows = sorted i }
 
   abbrev as_wished : Asked
-  as_wished = record { set = set; vids = wish.vids; parents = parents; message = wish.message; rows = made }
+  as_wished = record { set = set; vids = wish.vids; parents = parents; message = wish.message; added = []; schema = set.schema; rows = made }
 
   wished_is : as_asked ≡ as_wished
-  wished_is = λ i. record { set = set; vids = vids_are i; parents = parents; message = wish.message; rows = made }
+  wished_is = λ i. record { set = set; vids = vids_are i; parents = parents; message = wish.message; added = []; schema = set.schema; rows = made }
 
   module _ (s : State) (read : s.tells ≡ true → AllZip (IsParent (page_bytes s) set) vids parents) where
     module _ (agree : ParentsAgree set vids parents) where

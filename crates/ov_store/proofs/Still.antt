@@ -29,7 +29,7 @@ module _ (w : World) (held : Held) (s : State) (at : IsAtWorld w held s) (c : Im
     by = record {
       journal = subst (IsJournal (kept_by held.journal at.payloads)) (sym journal_same) at.stands.journal;
       spell = at.stands.spell;
-      stands = subst (λ pages. StandsFor at.events (readings_of pages) w) (sym pages_same) at.stands.stands;
+      stands = subst (λ pages. StandsFor held.journal.format at.events (readings_of pages) w) (sym pages_same) at.stands.stands;
       epoch = at.stands.epoch;
       format = at.stands.format;
       records = at.stands.records;

@@ -38,7 +38,7 @@ pub record IsDone (b : Bringing) (old new : Held) : Type 0 where
 pub record IsReady (b : Brought) (held : Held) : Type 0 where
   pub unplaced : IsUnplaced b
   pub event : IsEvent b.event
-  pub applies : first_off b.event held.numbers ≡ None
+  pub applies : first_off held.journal.format b.event held.numbers ≡ None
 
 -- Refusals by numbers come first, then those for want of room: of pages, and only then of the journal.
 abbrev pub IsWhy : Option StoreErr → Bringing → Held → State → State → StoreErr → Type 0

@@ -69,7 +69,7 @@ pub record Wish : Type 0 where
   pub rows : List Row
 
 abbrev pub asked_of : Set → Wish → List (List Record) → Asked
-asked_of s wish parents = record { set = s; vids = wish.vids; parents = parents; message = wish.message; rows = in_key_order s.schema wish.rows }
+asked_of s wish parents = record { set = s; vids = wish.vids; parents = parents; message = wish.message; added = []; schema = s.schema; rows = in_key_order s.schema wish.rows }
 
 -- the parents' records, as they were read
 pub record AreRead (s : Set) (wish : Wish) (t : State) (parents : List (List Record)) : Type 0 where

@@ -169,6 +169,8 @@ impl Store {
             parents: &read.records,
             held: &read.held,
             message,
+            added: &[],
+            schema: &d.schema,
             rows,
         };
         let Commit { brought, fresh } = commit_of(self.alloc, d, wanted)?;

@@ -104,7 +104,7 @@ impl Store {
         ensures by { (s : Set) → set_in self.now.held.numbers name.now ≡ Some s → IfOk result (IsPlanBy s p q (H.state host.old)) }
         ensures bare { IfOk result (λ planned. IsBare planned.event) }
         ensures event { IfOk result (λ planned. IsEvent planned.event) }
-        ensures applies { IfOk result (λ planned. first_off planned.event self.now.held.numbers ≡ None) }
+        ensures applies { IfOk result (λ planned. first_off self.now.held.journal.format planned.event self.now.held.numbers ≡ None) }
         ensures why { IfErr result (IsUnplanned name.now p q self.now.held (H.state host.old) (H.state host.new)) }
         ensures asks { (w : World) (d : Dataset) → IsAtWorld w self.now.held (H.state host.old) → set_named w name.now ≡ Some d
             → IfOk result (λ planned. Asks (BeginPlan d.cvd.number p q) w planned.event) }

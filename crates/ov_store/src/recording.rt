@@ -67,7 +67,7 @@ impl Store {
         requires call { MayCall self.old (H.state host.old) }
         requires bare { IsBare event }
         requires event { IsEvent event }
-        requires applies { first_off event self.old.held.numbers ≡ None }
+        requires applies { first_off self.old.held.journal.format event self.old.held.numbers ≡ None }
         ensures passes { Passes (H.state host.old) (H.state host.new) }
         ensures made { OnOk result (IsRecorded self.old.held self.new.held event) }
         ensures why { IfErr result (λ off. IsWhyNotRecorded off self.old.held event (H.state host.old) (H.state host.new)) }

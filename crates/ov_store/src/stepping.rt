@@ -99,7 +99,7 @@ impl Store {
     // Records the flip of the current target of the dataset with this number.
     fn record_flip<H: Host>(&mut self, host: &mut H, cvd: u32) -> Result<(), ChangeErr>
         requires call { MayCall self.old (H.state host.old) }
-        requires applies { first_off (says.Flip cvd) self.old.held.numbers ≡ None }
+        requires applies { first_off self.old.held.journal.format (says.Flip cvd) self.old.held.numbers ≡ None }
         ensures passes { Passes (H.state host.old) (H.state host.new) }
         ensures made { OnOk result (IsRecorded self.old.held self.new.held (says.Flip cvd)) }
         ensures why { IfErr result (λ off. IsWhyNotRecorded off self.old.held (says.Flip cvd) (H.state host.old) (H.state host.new)) }

@@ -12,7 +12,7 @@ ghost use Rattle.ov_core.specs.Brought.{Asks, IsBare};
 ghost use Rattle.ov_core.specs.Held.{IsByJournal};
 ghost use Rattle.ov_fetch.specs.Extents.{Looked, page_bytes};
 ghost use Rattle.ov_optimize.specs.Damages.{HasBadPart, IsListDamage};
-ghost use Rattle.ov_optimize.specs.Planned.{IsReport};
+ghost use Rattle.ov_optimize.specs.Planned.{IsReport, IsSplitFor};
 ghost use Rattle.ov_read.specs.Sizes.{list_bytes_for, segment_bytes_for};
 ghost use Rattle.law_room.specs.Room.{Entry, IsWithin, Made};
 ghost use Rattle.ov_store.specs.Committing.{Set};
@@ -27,6 +27,7 @@ use crate::plan_errors::PlanErr;
 use crate::planning::unrecorded;
 use crate::store::Store;
 use ov_host::Host;
+use ov_lyre::Split;
 use ov_member::Members;
 use ov_optimize::{Planned, Report, all_lists, plan_with};
 
@@ -77,16 +78,18 @@ impl Store {
         p: u64,
         q: u64,
         lists: &[Members],
+        split: &Split,
     ) -> Result<Planned, PlanErr>
         requires allowed { optimize_off self.now.held.numbers name.now p q ≡ None }
         requires listed { (s : Set) → set_in self.now.held.numbers name.now ≡ Some s → AreListsOf s (H.state host.old) lists.now }
+        requires split { (s : Set) → set_in self.now.held.numbers name.now ≡ Some s → IsSplitFor s p q split.now }
         ensures looked { Looked (H.state host.old) (H.state host.new) }
         ensures fetched { (s : Set) → set_in self.now.held.numbers name.now ≡ Some s
             → (H.state host.new).fetched ≤ (H.state host.old).fetched + segment_bytes_for s (vids_in s) }
         ensures by { (s : Set) → set_in self.now.held.numbers name.now ≡ Some s → IfOk result (IsPlanBy s p q (H.state host.old)) }
         ensures bare { IfOk result (λ planned. IsBare planned.event) }
         ensures event { IfOk result (λ planned. IsEvent planned.event) }
-        ensures applies { IfOk result (λ planned. first_off planned.event self.now.held.numbers ≡ None) }
+        ensures applies { IfOk result (λ planned. first_off self.now.held.journal.format planned.event self.now.held.numbers ≡ None) }
         ensures why { IfErr result (IsUnreadied (H.state host.old) (H.state host.new) (set_in self.now.held.numbers name.now)) }
         ensures asks { (w : World) (d : Dataset) → IsAtWorld w self.now.held (H.state host.old) → set_named w name.now ≡ Some d
             → IfOk result (λ planned. Asks (BeginPlan d.cvd.number p q) w planned.event) }
@@ -96,11 +99,20 @@ impl Store {
     {
         let d = self.may_plan(name, p, q)?;
         self.core.is_replayed();
-        Ok(plan_with(self.alloc, host, d, lists, p as u32, q as u32)?)
+        Ok(plan_with(
+            self.alloc,
+            host,
+            d,
+            lists,
+            split,
+            p as u32,
+            q as u32,
+        )?)
     }
 
-    /// Begins a plan at the threshold p / q, as [`Store::optimize`] does, from the lists that [`Store::lists`] gave: these aren't read
-    /// again. It is for a threshold that was chosen by them, once [`Store::may_optimize`] has allowed it.
+    /// Begins a plan at the threshold p / q, as [`Store::optimize`] does, from the lists that [`Store::lists`] gave, and from the split
+    /// there that was made of them: these aren't read again, and it isn't made again. It is for a threshold that was chosen by them,
+    /// once [`Store::may_optimize`] has allowed it.
     ///
     /// `Damaged` where a segment of the dataset is damaged, and then `JournalFull`. All memory is taken before the first write. It
     /// costs the pages of the segments of all partitions, each read once; the write of its record; and two syncs.
@@ -111,10 +123,12 @@ impl Store {
         p: u64,
         q: u64,
         lists: &[Members],
+        split: &Split,
     ) -> Result<Report, PlanErr>
         requires call { MayCall self.old (H.state host.old) }
         requires allowed { optimize_off self.old.held.numbers name.now p q ≡ None }
         requires listed { (s : Set) → set_in self.old.held.numbers name.now ≡ Some s → AreListsOf s (H.state host.old) lists.now }
+        requires split { (s : Set) → set_in self.old.held.numbers name.now ≡ Some s → IsSplitFor s p q split.now }
         ensures told { (H.state host.new).tells ≡ (H.state host.old).tells }
         ensures kept { (H.state host.new).keeps ≡ (H.state host.old).keeps }
         ensures faults { (H.state host.old).faults ≤ (H.state host.new).faults }
@@ -144,7 +158,7 @@ impl Store {
             → MatchResult result (λ made. IsWithin entry (and_made past (BeginPlan d.cvd.number p q) w) self.new.held)
             (IsPlanLack entry past (BeginPlan d.cvd.number p q) w) }
     {
-        let planned = match self.plan_from(host, name, p, q, lists) {
+        let planned = match self.plan_from(host, name, p, q, lists, split) {
             Ok(planned) => planned,
             Err(off) => return Err(self.unplanned(off)),
         };

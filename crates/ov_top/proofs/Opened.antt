@@ -35,8 +35,8 @@ one_list (x ∷ a) (y ∷ b) are others e =
     in let rest : a ≡ b = one_list a b are.1 others.1 (tail_is (spelling x) (spelling y) (map spelling a) (map spelling b) e)
     in λ i. same i ∷ rest i
 
-one_replay : (payloads : List (List ℕ)) (m n : Numbers Extent Extent) → IsReplay payloads m → IsReplay payloads n → m ≡ n
-one_replay payloads m n a b = a.end ∙ ap numbers_in (one_list a.events b.events a.are b.are (sym a.written ∙ b.written)) ∙ sym b.end
+one_replay : (format : ℕ) (payloads : List (List ℕ)) (m n : Numbers Extent Extent) → IsReplay format payloads m → IsReplay format payloads n → m ≡ n
+one_replay format payloads m n a b = a.end ∙ ap numbers_in (one_list a.events b.events a.are b.are (sym a.written ∙ b.written)) ∙ sym b.end
 
 nothing_spelled : (events : List Event) → [] ≡ map spelling events → events ≡ []
 nothing_spelled [] e = refl
@@ -55,18 +55,18 @@ kept_same : (a b : Kept) → Holds a ≡ Holds b → a ≡ b
 kept_same a b e = cc
 
 -- what another reading of the same journal has, it has too
-replays_as : (n : Numbers Extent Extent) (d : Disk) (store : IsStore n d) (other : Kept) → Holds store.kept ≡ Holds other → IsReplay other.payloads n
-replays_as n d store other e = subst (λ (k : Kept). IsReplay k.payloads n) (kept_same store.kept other e) store.replays
+replays_as : (n : Numbers Extent Extent) (d : Disk) (store : IsStore n d) (other : Kept) → Holds store.kept ≡ Holds other → IsReplay other.format other.payloads n
+replays_as n d store other e = subst (λ (k : Kept). IsReplay k.format k.payloads n) (kept_same store.kept other e) store.replays
 
 store_stops : (n : Numbers Extent Extent) (d : Disk) (place : ℕ) → IsStore n d → StopsAt place d.journal.bytes → ⊥
 store_stops n d place store off =
-    not_stopped off.kept.payloads n off.nth
+    not_stopped off.kept.format off.kept.payloads n off.nth
     (replays_as n d store off.kept (one_thing (Holds store.kept) (Holds off.kept) d.journal.bytes store.journal off.stands)) off.stops
 
 store_off : (n : Numbers Extent Extent) (d : Disk) (page : ℕ) → IsStore n d → HasPageOff page d.pages.bytes d.journal.bytes → ⊥
 store_off n d page store off =
     let same : n ≡ off.numbers =
-    one_replay off.kept.payloads n off.numbers
+    one_replay off.kept.format off.kept.payloads n off.numbers
     (replays_as n d store off.kept (one_thing (Holds store.kept) (Holds off.kept) d.journal.bytes store.journal off.stands)) off.replays
     in no_page_off (live n) (pages_in d.pages.bytes) page store.apart
     (subst (λ (m : Numbers Extent Extent). IsOff (live m) (pages_in d.pages.bytes) page) (sym same) off.off)
@@ -102,7 +102,7 @@ not_refused (errors.Damaged Pages page) d e (n, inr empty) (off, same) =
 
 pub says_one : (a b : Numbers Extent Extent) (d : Disk) → OpensAs a d → OpensAs b d → a ≡ b
 says_one a b d (inl store) (inl other) =
-    one_replay other.kept.payloads a b
+    one_replay other.kept.format other.kept.payloads a b
     (replays_as a d store other.kept (one_thing (Holds store.kept) (Holds other.kept) d.journal.bytes store.journal other.journal)) other.replays
 says_one a b d (inl store) (inr empty) =
     let x : Holds store.kept ≡ Unmade = one_thing (Holds store.kept) Unmade d.journal.bytes store.journal empty.journal in absurd cc

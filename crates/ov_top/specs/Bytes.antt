@@ -15,7 +15,7 @@ use Rattle.ov_core.specs.Held.{IsReplay}
 pub record IsStore (numbers : Numbers Extent Extent) (d : Disk) : Type 0 where
   pub kept : Kept
   pub journal : IsJournal kept d.journal.bytes
-  pub replays : IsReplay kept.payloads numbers
+  pub replays : IsReplay kept.format kept.payloads numbers
   pub apart : AreApart (live numbers) (pages_in d.pages.bytes)
 
 -- no journal was made yet, and there are no pages and no numbers

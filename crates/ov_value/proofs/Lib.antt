@@ -13,3 +13,4 @@ pub mod CellLemmas
 pub mod Ascii
 pub mod FullLemmas
 pub mod PlanLemmas
+pub mod Longer

@@ -94,11 +94,12 @@ not_held_all (r ∷ rs) = ap (λ qs. r ∷ qs) (not_held_all rs)
 pub first_applies : (name : List ℕ) (schema : Shape) (rows : List Row) (list segment : List ℕ) → is_name name ≡ true → IsSound schema → AreRows schema rows
     → AreRuns [] (counted 1 (length rows)) rows list segment
     → (n : Numbers Extent Extent) → n.next < 4294967295 → list_any (is_named name) n.sets ≡ false → length n.sets < 1024
-    → first_off (first_event name schema rows list segment) n ≡ None
-first_applies name schema rows list segment named sound are runs =
+    → (format : ℕ) → first_off format (first_event name schema rows list segment) n ≡ None
+first_applies name schema rows list segment named sound are runs n next new room format =
     let rids : List ℕ = counted 1 (length rows)
     in let given = counted_given rows are.few
     in let kept : length (not_held [] (numbered rids rows)) ≡ length rows = ap (λ (rs : List Record). length rs) (not_held_all (numbered rids rows)) ∙ numbered_long rids rows given.as_many
     in init_applies name schema (length rows) (extent_at 0 list) (extent_at 0 segment) named sound are.few
     (list_sound [] rids rows list segment are.few given runs)
     (subst (λ n. is_segment n (extent_at 0 segment) ≡ true) kept (segment_sound schema [] rids rows list segment are given runs))
+    n next new room

@@ -2,40 +2,46 @@
 use Rattle.std.proofs.Common.{◌≡◌, ◌⊎◌, ◌≤◌, ◌+◌, ◌==◌, ◌||◌, ℕ, suc, Bool, true, false, List, [], ◌∷◌, ◌++◌, length, map, refl, sym, ◌∙◌, ap, subst, inl, inr, arith}
 use Rattle.std.specs.Prelude.{Some, not, if◌then◌else◌}
 use Rattle.std.specs.Option.{option_map}
-use Rattle.std.specs.List.{zip}
+use Rattle.std.specs.List.{AllByRecursion, zip}
 use Rattle.std.proofs.lemmas.Bool.{eq-eqb, eqb-true}
+use Rattle.std.proofs.lemmas.List.{length-append}
+use Rattle.ov_event.specs.declared.event.Event as raw
 use Rattle.ov_event.specs.declared.event.Event.TheVariants as says
 use Rattle.ov_event.specs.declared.event.Placed.{Placed}
 use Rattle.ov_event.specs.Fields.{IsU32, IsText, IsExtent}
-use Rattle.ov_event.specs.Spelling.{AreParents, IsEvent, IsPlaced}
+use Rattle.ov_event.specs.Spelling.{AreColumns, AreParents, IsColumn, IsEvent, IsPlaced}
 use Rattle.ov_host.specs.declared.area.Extent.{Extent}
 use Rattle.ov_place.specs.declared.place_facts.Place.{Place}
 use Rattle.ov_place.specs.declared.place_facts.Place.TheVariants.{Own, Join}
 use Rattle.ov_value.specs.Shapes.{Shape}
+use Rattle.ov_value.specs.declared.column.Column.{Column}
 use Rattle.ov_member.specs.Rids.{has, left_out}
 use Rattle.ov_model.specs.Book.{Row, Version}
 use Rattle.ov_model.specs.Lists.{IsIn, AreIn, AllAreIn}
-use Rattle.ov_model.specs.Moves.{Commit, numbered as is_numbered, piece_of, placed_at, version_of}
+use Rattle.ov_model.specs.Moves.{Commit, numbered as is_numbered, piece_of, placed_at, version_of, wide}
 use Rattle.ov_model.specs.Records.{Rec, is_same_row, is_same_rec, is_among, lacking, recs, record_of, records_of, order_of, rid_in, fresh_in, weights}
 use Rattle.ov_model.specs.World.{Part, Dataset, World, held, first_set}
 use Rattle.ov_model.proofs.Growing.{same_rec-refl, recs_more, length_recs, order_of_more, rid_more}
+use Rattle.ov_model.proofs.Ordering.{wide_ordered}
 use Rattle.ov_model.proofs.Origins.{same_row_is, all_known, in_left}
 use Rattle.ov_records.specs.declared.outcome.Assigned.{Assigned}
 use Rattle.ov_segment.specs.declared.numbered.Record.{Record}
 use Rattle.ov_catalog.specs.Events as events
-use Rattle.ov_catalog.specs.Events.{Event}
-use Rattle.ov_catalog.specs.Raw.{place_in}
+use Rattle.ov_catalog.specs.Events.{Event, adding_event}
+use Rattle.ov_catalog.specs.Raw.{adding, event_in, place_in}
 use Rattle.ov_catalog.specs.Reached.{AreRows, Reached}
-use Rattle.ov_catalog.specs.Shown.{Records, sorted_by, list_of, segment_of, held_by, added_to, commit_event, commit_in}
+use Rattle.ov_catalog.specs.Shown.{Records, sorted_by, list_of, segment_of, held_by, added_to, commit_event, commit_in, in_set, wide_event}
 use Rattle.ov_catalog.specs.Stands.{asked_as, asked_event}
-use Rattle.ov_catalog.proofs.Good.{IsKnown, found_known, good}
+use Rattle.ov_catalog.proofs.Good.{IsKnown, found_ordered, good, set_known}
 use Rattle.ov_catalog.proofs.Showing.{PiecesAreIn}
-use Rattle.ov_core.specs.Brought.{segments_in}
+use Rattle.ov_core.specs.Brought.{BringsRuns, content, extent_at, segments_in, with_extents}
+use Rattle.ov_core.proofs.Texts.{schema_spelled}
+use Rattle.law_events.specs.Fitting.{IsSoundEvent}
 use Rattle.law_events.proofs.Counts.{joined_at, last_are}
 use Rattle.law_image.proofs.Readers.{both_true}
 use Rattle.law_image.specs.Lists.{list_in}
 use Rattle.law_image.specs.Segments.{as_kept}
-use Rattle.ov_version_bytes.specs.Next.{IsNext, held_at, spelled_place}
+use Rattle.ov_version_bytes.specs.Next.{AreLast, IsNext, held_at, spelled_place}
 use Rattle.ov_version_bytes.specs.Written.{AreGiven, numbered, not_held, list_written, segment_written}
 use Rattle.ov_version_bytes.proofs.Edges.{weights_zip}
 use Rattle.ov_version_bytes.proofs.Keeping.{numbered_rids}
@@ -212,12 +218,74 @@ module _ (d : Dataset) (v : Version) (vid : ℕ) (made : Assigned) (place : Plac
       ≡ asked_as (commit_event cvd d v)
   event_asked cvd = λ i. events.Commit cvd (next.vid_is i) v.message (weights_are i) (length v.rows) (fresh_is i) (next.place_is i) (count_is i) (list_is i) (segments_are i)
 
-pub asked_of : (cvd : ℕ) (parents message : List ℕ) (rows : List Row) (w : World) (d : Dataset) → first_set (is_numbered cvd) w.sets ≡ Some d
-    → asked_event (Commit cvd parents message [] rows) w ≡ Some (asked_as (commit_event cvd d (version_of parents message rows)))
-asked_of cvd parents message rows w d found = ap (λ o. option_map asked_as (commit_in cvd (version_of parents message rows) o)) found
+-- what the World asks of a commit, where these columns are added
+pub asked_of : (cvd : ℕ) (parents message : List ℕ) (added : List Column) (rows : List Row) (w : World) (d : Dataset) → first_set (is_numbered cvd) w.sets ≡ Some d
+    → asked_event (Commit cvd parents message added rows) w ≡ Some (adding_event added (asked_as (commit_event cvd (wide added d) (version_of parents message rows))))
+asked_of cvd parents message [] rows w d found = ap (λ o. option_map asked_as (commit_in cvd (version_of parents message rows) o)) found
+asked_of cvd parents message (column ∷ added) rows w d found =
+    ap (λ o. option_map asked_as (in_set (λ x. Some (wide_event cvd (column ∷ added) (wide (column ∷ added) x) (version_of parents message rows))) o)) found
 
-pub known_of : (cvd : ℕ) (w : World) (d : Dataset) → Reached w → first_set (is_numbered cvd) w.sets ≡ Some d → IsKnown d
-known_of cvd w d reached found = found_known cvd d w.sets (good w reached).known found
+-- what an event says with columns, with what its bytes spell
+pub content_adding : (added : List Column) (e : raw.Event) (list segment : List ℕ) → content (event_in (adding added e)) list segment ≡ adding_event added (content (event_in e) list segment)
+content_adding [] e list segment = refl
+content_adding (column ∷ added) (says.Init name schema rows l s) list segment = refl
+content_adding (column ∷ added) (says.Commit cvd vid message parents rows fresh place more l s) list segment = refl
+content_adding (column ∷ added) (says.Plan cvd p q targets) list segment = refl
+content_adding (column ∷ added) (says.Copy cvd count s) list segment = refl
+content_adding (column ∷ added) (says.Flip cvd) list segment = refl
+content_adding (column ∷ added) (says.Drop cvd) list segment = refl
+content_adding (column ∷ added) (says.Base next) list segment = refl
+content_adding (column ∷ added) (says.Whole said) list segment = refl
+content_adding (column ∷ added) (says.Wide cvd vid message columns parents rows fresh place more l s) list segment = refl
+
+pub sound_adding : (added : List Column) (cvd vid : ℕ) (message : List ℕ) (edges : List (ℕ × ℕ)) (rows fresh : ℕ) (place : Placed) (more : ℕ) (list segment : Extent)
+    → IsSoundEvent (says.Commit cvd vid message edges rows fresh place more list segment) → IsSoundEvent (adding added (says.Commit cvd vid message edges rows fresh place more list segment))
+sound_adding [] cvd vid message edges rows fresh place more list segment sound = sound
+sound_adding (column ∷ added) cvd vid message edges rows fresh place more list segment sound = sound
+
+pub sound_added : (added : List Column) (cvd vid : ℕ) (message : List ℕ) (edges : List (ℕ × ℕ)) (rows fresh : ℕ) (place : Placed) (more : ℕ) (list segment : Extent)
+    → IsSoundEvent (adding added (says.Commit cvd vid message edges rows fresh place more list segment)) → IsSoundEvent (says.Commit cvd vid message edges rows fresh place more list segment)
+sound_added [] cvd vid message edges rows fresh place more list segment sound = sound
+sound_added (column ∷ added) cvd vid message edges rows fresh place more list segment sound = sound
+
+-- it brings the same runs
+pub runs_adding : (added : List Column) (cvd vid : ℕ) (message : List ℕ) (edges : List (ℕ × ℕ)) (rows fresh : ℕ) (place : Placed) (more : ℕ) (list segment : List ℕ)
+    → BringsRuns (adding added (says.Commit cvd vid message edges rows fresh place more (extent_at 0 list) (extent_at 0 segment))) list
+runs_adding [] cvd vid message edges rows fresh place more list segment = tt
+runs_adding (column ∷ added) cvd vid message edges rows fresh place more list segment = tt
+
+pub sized_adding : (added : List Column) (cvd vid : ℕ) (message : List ℕ) (edges : List (ℕ × ℕ)) (rows fresh : ℕ) (place : Placed) (more : ℕ) (list segment : List ℕ)
+    → with_extents (extent_at 0 list) (extent_at 0 segment) (adding added (says.Commit cvd vid message edges rows fresh place more (extent_at 0 list) (extent_at 0 segment)))
+    ≡ adding added (says.Commit cvd vid message edges rows fresh place more (extent_at 0 list) (extent_at 0 segment))
+sized_adding [] cvd vid message edges rows fresh place more list segment = refl
+sized_adding (column ∷ added) cvd vid message edges rows fresh place more list segment = refl
+
+-- the dataset with the columns has known records
+pub known_of : (added : List Column) (cvd : ℕ) (w : World) (d : Dataset) → Reached w → first_set (is_numbered cvd) w.sets ≡ Some d → IsKnown (wide added d)
+known_of added cvd w d reached found = set_known (wide added d) (wide_ordered added d (found_ordered cvd d w.sets (good w reached).sound.ordered found))
+
+-- ---- columns that are added have a spelling
+
+last_columns : (front added : List Column) → AllByRecursion IsColumn (front ++ added) → AllByRecursion IsColumn added
+last_columns [] added all = all
+last_columns (column ∷ front) added all = last_columns front added all.1
+
+columns_spelled : (added : List Column) → AreLast added → AreColumns added
+columns_spelled added is =
+    let all = (schema_spelled is.schema is.sound).0
+    in let both : AreColumns (is.front ++ added) = subst AreColumns is.columns_are all
+    in (omega (arith, both.0, length-append is.front added), last_columns is.front added both.1)
+
+columns_fit : (added : List Column) → (added ≡ []) ⊎ AreLast added → AreColumns added
+columns_fit added (inl none) = subst AreColumns (sym none) (omega arith, tt)
+columns_fit added (inr are) = columns_spelled added are
+
+pub wide_spelled : (added : List Column) (cvd vid : ℕ) (message : List ℕ) (edges : List (ℕ × ℕ)) (rows fresh : ℕ) (place : Placed) (more : ℕ) (list segment : Extent)
+    → (added ≡ []) ⊎ AreLast added → IsEvent (says.Commit cvd vid message edges rows fresh place more list segment)
+    → IsEvent (says.Wide cvd vid message added edges rows fresh place more list segment)
+unfolding IsEvent
+wide_spelled added cvd vid message edges rows fresh place more list segment are is =
+    (is.0, is.1, is.2, columns_fit added are, is.3, is.4, is.5, is.6, is.7, is.8, is.9)
 
 pub place_back : (place : Place) → place_in (spelled_place place) ≡ place
 place_back Own = refl

@@ -1,11 +1,14 @@
--- One more version of a dataset, without added columns.
+-- One more version of a dataset. Where columns are added, the dataset has them.
 --     IsNext d v vid made place held      what the store knows of the version is as the dataset has it
-use Rattle.std.specs.Prelude.{◌≡◌, ℕ, ◌+◌, List, [], length, map}
+--     AreLast added      the columns are the last ones of a sound schema
+use Rattle.std.specs.Prelude.{◌≡◌, ℕ, ◌+◌, List, [], ◌++◌, length, map}
 use Rattle.ov_event.specs.declared.event.Placed.{Placed}
 use Rattle.ov_event.specs.declared.event.Placed.TheVariants as at
 use Rattle.ov_place.specs.declared.place_facts.Place.{Place}
 use Rattle.ov_place.specs.declared.place_facts.Place.TheVariants.{Own, Join}
 use Rattle.ov_member.specs.Rids.{has}
+use Rattle.ov_value.specs.Shapes.{Shape, IsSound}
+use Rattle.ov_value.specs.declared.column.Column.{Column}
 use Rattle.ov_model.specs.Book.{Version}
 use Rattle.ov_model.specs.Moves.{placed_at}
 use Rattle.ov_model.specs.Records.{Rec, order_of, rid_in}
@@ -26,6 +29,12 @@ pub record IsNext (d : Dataset) (v : Version) (vid : ℕ) (made : Assigned) (pla
   pub records : AreRecords d.cvd.versions v made.rids made.weights made.fresh
   pub place_is : place ≡ placed_at d v
   pub held_is : (rid : ℕ) → has held rid ≡ has (map (rid_in (order_of d.cvd.versions)) (held_at place d.parts)) rid
+
+pub record AreLast (added : List Column) : Type 0 where
+  pub schema : Shape
+  pub front : List Column
+  pub sound : IsSound schema
+  pub columns_are : schema.columns ≡ front ++ added
 
 -- the place as an event has it
 abbrev pub spelled_place : Place → Placed

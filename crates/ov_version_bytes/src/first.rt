@@ -1,6 +1,6 @@
 //! The first version of a dataset.
 
-ghost use Rattle.std.specs.Prelude.{◌≡◌, ◌<◌, ◌≤◌, IsTrue, IfOk, IfErr, false, length, None, Some, [], map};
+ghost use Rattle.std.specs.Prelude.{◌≡◌, ◌<◌, ◌≤◌, ℕ, IsTrue, IfOk, IfErr, false, length, None, Some, [], map};
 ghost use Rattle.std.specs.List.{list_any};
 ghost use Rattle.ov_event.specs.Spelling.{IsEvent};
 ghost use Rattle.ov_host.specs.declared.area.Extent.{Extent as AnExtent};
@@ -42,7 +42,7 @@ pub fn first_version(
     ensures event { IfOk result (λ b. IsEvent b.event) }
     ensures says { IfOk result (λ b. (w : World) → Some (content (event_in b.event) b.list.items b.segment.items) ≡ asked_event (Init name.now schema.now rows.now) w) }
     ensures applies { IfOk result (λ b. (n : Numbers AnExtent AnExtent) → n.next < 4294967295 → list_any (is_named name.now) n.sets ≡ false → length n.sets < 1024
-        → first_off b.event n ≡ None) }
+        → (format : ℕ) → first_off format b.event n ≡ None) }
     ensures event_is { IfOk result (λ b. b.event ≡ first_event name.now schema.now rows.now b.list.items b.segment.items) }
     ensures list { IfOk result (λ b. b.list.items ≡ list_written (counted 1 (length rows.now))) }
     ensures segment { IfOk result (λ b. b.segment.items ≡ segment_written [] (counted 1 (length rows.now)) rows.now) }
@@ -89,7 +89,7 @@ fn schema_of(alloc: Global, schema: &Schema) -> Result<RawSchema, AllocError>
     })
 }
 
-fn copies_of(alloc: Global, columns: &[Column]) -> Result<Vec<Column>, AllocError>
+pub(crate) fn copies_of(alloc: Global, columns: &[Column]) -> Result<Vec<Column>, AllocError>
     ensures { IfOk result (λ copies. copies.items ≡ columns.now) }
 {
     let mut copies = Vec::with_capacity(alloc, columns.len())?;

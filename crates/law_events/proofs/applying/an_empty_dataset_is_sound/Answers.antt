@@ -6,4 +6,4 @@ pub returns-clause-sound : goal.returns-clause-sound
 returns-clause-sound c = (refl, refl)
 
 pub returns-clause-spells : goal.returns-clause-spells
-returns-clause-spells c = λ r read. (empty-move r read).spells
+returns-clause-spells c = λ r read. (empty-move 2 r read).spells

@@ -1,4 +1,4 @@
-use Rattle.law_snapshots.proofs.Followed.{snapshot_applies, snapshot_follows}
+use Rattle.law_snapshots.proofs.Followed.{snapshot_follows}
 use Rattle.law_snapshots.proofs.Saying.{is_snapshot, one_snapshot}
 use Rattle.law_snapshots.proofs.laws.a_snapshot_follows.Goals as goal
 
@@ -10,6 +10,3 @@ returns-clause-one c = one_snapshot
 
 pub returns-clause-follows : goal.returns-clause-follows
 returns-clause-follows c = snapshot_follows
-
-pub returns-clause-applies : goal.returns-clause-applies
-returns-clause-applies c = snapshot_applies

@@ -1,5 +1,4 @@
-use Rattle.law_snapshots.proofs.Built.{built_whole, one_whole}
-use Rattle.law_snapshots.proofs.Carrying.{all_whole, nothing_whole, one_carried}
+use Rattle.law_snapshots.proofs.Carrying.{all_whole, nothing_whole, one_carried, one_whole}
 use Rattle.law_snapshots.proofs.laws.what_follows_is_whole.Goals as goal
 
 pub returns-clause-start : goal.returns-clause-start
@@ -10,9 +9,6 @@ returns-clause-one c = one_carried
 
 pub returns-clause-all : goal.returns-clause-all
 returns-clause-all c = all_whole
-
-pub returns-clause-built : goal.returns-clause-built
-returns-clause-built c = built_whole
 
 pub returns-clause-each : goal.returns-clause-each
 returns-clause-each c = one_whole

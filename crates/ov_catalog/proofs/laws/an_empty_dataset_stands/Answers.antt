@@ -6,4 +6,4 @@ use Rattle.ov_catalog.proofs.WorkedLemmas.{empty-move}
 use Rattle.ov_catalog.proofs.laws.an_empty_dataset_stands.Goals as goal
 
 pub returns : goal.returns
-returns c r read = one_more [] r empty_world empty_event empty_move (nothing_stands r) (empty-move r read)
+returns c format r read = one_more format [] r empty_world empty_event empty_move (nothing_stands format r) (empty-move format r read)

@@ -3,7 +3,7 @@ use Rattle.ov_host.specs.Stops.{Only}
 use Rattle.ov_core.specs.AtWorld.{IsAtNext, IsEither}
 use Rattle.law_room.specs.Room.{IsWithin}
 use Rattle.ov_model.specs.Moves.{BeginPlan}
-use Rattle.ov_optimize.specs.Planned.{IsReport}
+use Rattle.ov_optimize.specs.Planned.{IsReport, IsSplitFor}
 use Rattle.ov_store.specs.Planning.{IsBegun, IsPlanLack, begun_in}
 use Rattle.ov_store.specs.Scanning.{set_in}
 use Rattle.ov_store.specs.Thresholds.{IsUnbegunWith}
@@ -34,6 +34,11 @@ returns-in_err-lists-clause-still g c = λ w refusal at refused.
     still_world_looked w w c.args.store.now.held (g.H.Host.state c.args.host.now) (g.H.Host.state c.choose.new.host) c.in_err-lists.ensures.looked at
 
 -- ---- its plan began
+
+pub begin_plan-requires-clause-split : goal.begin_plan-requires-clause-split
+begin_plan-requires-clause-split g c = λ s named.
+    let from : c.from.result ≡ c.in_ok-lists.field-0.p = search rules
+    in subst (λ q. IsSplitFor s q 100 c.in_ok-lists.field-0.split) (sym from) (c.in_ok-lists.ensures.split s named)
 
 pub returns-in-Ok-clause-done : goal.returns-in-Ok-clause-done
 returns-in-Ok-clause-done g c = λ s named.

@@ -21,5 +21,5 @@ returns-clause-world g c = λ w d at named.
     in let area = page_bytes (g.H.Host.state c.args.host.now)
     in let s = sets.set_in c.in-Some.d.now
     in let of = found_set w c.args.store.now.held (g.H.Host.state c.args.host.now) at c.args.name.now s d found named
-    in c.in_ok-lines.ensures.world w d area of
+    in c.in_ok-offers.ensures.world w d area of
     (subst (AllZip (IsListAt area s) (all_vids s)) (sym c.deref.ensures.value) ((c.in-Ok.ensures.listed s found).read at.at.told))

@@ -8,7 +8,7 @@ use Rattle.ov_publish.proofs.Adding.{none_stops}
 use Rattle.ov_core.proofs.writing.write_change.Goals as goal
 
 pub apply_reserved-requires-clause-applies : goal.apply_reserved-requires-clause-applies
-apply_reserved-requires-clause-applies g c = rw c.in_ok-framed.ensures.numbers c.requires.applies
+apply_reserved-requires-clause-applies g c = (c.args.journal.now.format, rw c.in_ok-framed.ensures.numbers c.requires.applies)
 
 pub returns-in_err-framed-clause-stops : goal.returns-in_err-framed-clause-stops
 returns-in_err-framed-clause-stops g c payloads live at free =

@@ -17,6 +17,8 @@ use Rattle.ov_new_version.specs.Joined.{part_at, joined_of, IsPlaceThere, IsRead
 use Rattle.ov_new_version.proofs.Answering.{err_match, not_held, not_written}
 use Rattle.ov_new_version.proofs.Making.{MayBe, IsMade, made_is, may_be, vid_is, few_named, rids_given, event_told, commit_is, applies}
 use Rattle.ov_new_version.proofs.Worlds.{all_records, is_next, made_spared, spared, too_much}
+use Rattle.ov_model.specs.Moves.{wide}
+use Rattle.ov_new_version.proofs.Widened.{wide_records}
 use Rattle.ov_new_version.proofs.Placing.{as_many, place_there, joined_is}
 use Rattle.ov_new_version.proofs.committing.commit_of.Goals as goal
 
@@ -98,6 +100,7 @@ returns-in_err-brought-clause-refuses c =
 
 pub returns-clause-applies : goal.returns-clause-applies
 returns-clause-applies c =
+    λ format may_add n.
     let a : Asked = asked_in c.args.d.now c.args.wanted
     in let is : IsMade a c.in_ok-made.made c.in_ok-place.place =
     made_is a c.in_ok-made.made c.as_slice.result.now c.in_ok-place.place c.as_slice.ensures c.in_ok-made.ensures.rids c.in_ok-made.ensures.weights c.in_ok-made.ensures.fresh c.in_ok-place.ensures
@@ -112,7 +115,7 @@ returns-clause-applies c =
     event_told a c.in_ok-made.made c.in_ok-place.place is held own b.event (c.len.result + 1) b.list.items b.segment.items
     (vid_is c.args.d.now (c.len.result + 1) (ap (λ n. n + 1) count))
     (c.in_ok-brought.ensures.event_is)
-    in applies a c.in_ok-made.made c.in_ok-place.place is held own may b.event b.list.items b.segment.items c.in_ok-held.ensures.agrees e_is c.in_ok-brought.ensures.sound
+    in applies a c.in_ok-made.made c.in_ok-place.place is held own may b.event b.list.items b.segment.items c.in_ok-held.ensures.agrees e_is c.in_ok-brought.ensures.sound format may_add n
 
 pub returns-clause-is : goal.returns-clause-is
 returns-clause-is c =
@@ -156,8 +159,8 @@ returns-in_err-brought-clause-world c =
     in let read : IsReadOf a.set area (part_at a.set c.in_ok-place.place) held = c.in_ok-held.ensures.answer area a.vids have served
     in let made = c.in_ok-made.made
     in let counts = numbers w area a.set ds asked.of_world
-    in let are : AreRecords ds.cvd.versions (version_in a) made.rids made.weights made.fresh =
-    c.in_ok-made.ensures.records ds.cvd.versions (version_in a) refl asked.parents counts.records
+    in let are : AreRecords (wide a.added ds).cvd.versions (version_in a) made.rids made.weights made.fresh =
+    c.in_ok-made.ensures.records (wide a.added ds).cvd.versions (version_in a) refl asked.parents (counts.records ∙ sym (wide_records a.added ds))
     in let next = is_next a w ds area asked made c.in_ok-place.place is are (c.len.result + 1) held (vid_is c.args.d.now (c.len.result + 1) (ap (λ n. n + 1) count)) there read
     in let given : AreGiven made.rids a.rows = subst (λ rids. AreGiven rids a.rows) (sym is.rids) (rids_given a may)
     in let e = c.in_err-brought.field-0.0
@@ -184,8 +187,8 @@ returns-clause-world c =
     in let read : IsReadOf a.set area (part_at a.set c.in_ok-place.place) held = c.in_ok-held.ensures.answer area a.vids have served
     in let made = c.in_ok-made.made
     in let counts = numbers w area a.set ds asked.of_world
-    in let are : AreRecords ds.cvd.versions (version_in a) made.rids made.weights made.fresh =
-    c.in_ok-made.ensures.records ds.cvd.versions (version_in a) refl asked.parents counts.records
+    in let are : AreRecords (wide a.added ds).cvd.versions (version_in a) made.rids made.weights made.fresh =
+    c.in_ok-made.ensures.records (wide a.added ds).cvd.versions (version_in a) refl asked.parents (counts.records ∙ sym (wide_records a.added ds))
     in let next = is_next a w ds area asked made c.in_ok-place.place is are (c.len.result + 1) held (vid_is c.args.d.now (c.len.result + 1) (ap (λ n. n + 1) count)) there read
     in record {
       says = c.in_ok-brought.ensures.says w ds asked.of_world.reached asked.of_world.among next;

@@ -7,7 +7,7 @@ use Rattle.ov_catalog.specs.Planning.{plan_off}
 use Rattle.ov_catalog.specs.Sets.{set_in}
 use Rattle.ov_catalog.specs.Splitting.{IsSplitOf}
 use Rattle.ov_targets.specs.Targets.{AreTargets, AreVids, versions_in}
-use Rattle.ov_optimize.proofs.Making.{IsRead, applies, numbers_ascend, parts_count, parts_short, parts_there, segments_sound, spelled, split_made, targets_paired, versions_there}
+use Rattle.ov_optimize.proofs.Making.{IsRead, applies, numbers_ascend, parts_count, parts_short, parts_there, segments_sound, spelled, targets_paired, versions_there}
 use Rattle.ov_optimize.proofs.planning.made_of.Goals as goal
 
 pub targets_of-requires-clause-parts : goal.targets_of-requires-clause-parts
@@ -19,9 +19,8 @@ targets_of-requires-clause-parts c =
     let partitions = c.args.partitions.items in
     let read : IsRead c.args.d.now c.args.lists.now c.args.partitions.items =
     record { set = c.requires.sound; sound = c.parts.ensures.sound; listed = c.requires.lists; parted = c.requires.parted } in
-    let parts : List (Vec ℕ Global) = c.in_ok-split.split.parts.items in
-    let split : IsSplitOf (set_in c.args.d.now) c.args.p c.args.q (lists_of c.in_ok-split.split.parts.items) =
-    split_made d p q c.deref.result.now c.in_ok-tree.tree.nodes.items parts c.in_ok-tree.ensures.nodes c.deref.ensures.value c.in_ok-split.ensures.parts c.in_ok-split.ensures.division in
+    let parts : List (Vec ℕ Global) = c.args.split.now.parts.items in
+    let split : IsSplitOf (set_in c.args.d.now) c.args.p c.args.q (lists_of c.args.split.now.parts.items) = c.requires.split.parts in
     subst (All (λ part. AreVids (length lists) part.items)) (sym c.deref-2.ensures.value) (parts_there d lists partitions read p q parts split)
 
 pub targets_of-requires-clause-versions : goal.targets_of-requires-clause-versions
@@ -51,9 +50,8 @@ report_of-report-requires-clause-few c =
     let partitions = c.args.partitions.items in
     let read : IsRead c.args.d.now c.args.lists.now c.args.partitions.items =
     record { set = c.requires.sound; sound = c.parts.ensures.sound; listed = c.requires.lists; parted = c.requires.parted } in
-    let parts : List (Vec ℕ Global) = c.in_ok-split.split.parts.items in
-    let split : IsSplitOf (set_in c.args.d.now) c.args.p c.args.q (lists_of c.in_ok-split.split.parts.items) =
-    split_made d p q c.deref.result.now c.in_ok-tree.tree.nodes.items parts c.in_ok-tree.ensures.nodes c.deref.ensures.value c.in_ok-split.ensures.parts c.in_ok-split.ensures.division in
+    let parts : List (Vec ℕ Global) = c.args.split.now.parts.items in
+    let split : IsSplitOf (set_in c.args.d.now) c.args.p c.args.q (lists_of c.args.split.now.parts.items) = c.requires.split.parts in
     parts_count d lists partitions read p q parts split
 
 pub report_of-report-requires-clause-short : goal.report_of-report-requires-clause-short
@@ -65,9 +63,8 @@ report_of-report-requires-clause-short c =
     let partitions = c.args.partitions.items in
     let read : IsRead c.args.d.now c.args.lists.now c.args.partitions.items =
     record { set = c.requires.sound; sound = c.parts.ensures.sound; listed = c.requires.lists; parted = c.requires.parted } in
-    let parts : List (Vec ℕ Global) = c.in_ok-split.split.parts.items in
-    let split : IsSplitOf (set_in c.args.d.now) c.args.p c.args.q (lists_of c.in_ok-split.split.parts.items) =
-    split_made d p q c.deref.result.now c.in_ok-tree.tree.nodes.items parts c.in_ok-tree.ensures.nodes c.deref.ensures.value c.in_ok-split.ensures.parts c.in_ok-split.ensures.division in
+    let parts : List (Vec ℕ Global) = c.args.split.now.parts.items in
+    let split : IsSplitOf (set_in c.args.d.now) c.args.p c.args.q (lists_of c.args.split.now.parts.items) = c.requires.split.parts in
     parts_short d lists partitions read p q parts split
 
 pub report_of-report-requires-clause-paired : goal.report_of-report-requires-clause-paired
@@ -79,10 +76,9 @@ report_of-report-requires-clause-paired c =
     let partitions = c.args.partitions.items in
     let read : IsRead c.args.d.now c.args.lists.now c.args.partitions.items =
     record { set = c.requires.sound; sound = c.parts.ensures.sound; listed = c.requires.lists; parted = c.requires.parted } in
-    let parts : List (Vec ℕ Global) = c.in_ok-split.split.parts.items in
-    let split : IsSplitOf (set_in c.args.d.now) c.args.p c.args.q (lists_of c.in_ok-split.split.parts.items) =
-    split_made d p q c.deref.result.now c.in_ok-tree.tree.nodes.items parts c.in_ok-tree.ensures.nodes c.deref.ensures.value c.in_ok-split.ensures.parts c.in_ok-split.ensures.division in
-    let are : AreTargets c.args.lists.now c.args.partitions.items (lists_of c.in_ok-split.split.parts.items) c.in_ok-targets.targets.items =
+    let parts : List (Vec ℕ Global) = c.args.split.now.parts.items in
+    let split : IsSplitOf (set_in c.args.d.now) c.args.p c.args.q (lists_of c.args.split.now.parts.items) = c.requires.split.parts in
+    let are : AreTargets c.args.lists.now c.args.partitions.items (lists_of c.args.split.now.parts.items) c.in_ok-targets.targets.items =
     subst (λ ps. AreTargets lists partitions (map versions_in ps) c.in_ok-targets.targets.items) c.deref-2.ensures.value c.in_ok-targets.ensures in
     ap length c.deref-3.ensures.value ∙ targets_paired d lists partitions read p q parts split c.in_ok-targets.targets.items are
 
@@ -95,15 +91,14 @@ event_of-event-requires c =
     let partitions = c.args.partitions.items in
     let read : IsRead c.args.d.now c.args.lists.now c.args.partitions.items =
     record { set = c.requires.sound; sound = c.parts.ensures.sound; listed = c.requires.lists; parted = c.requires.parted } in
-    let parts : List (Vec ℕ Global) = c.in_ok-split.split.parts.items in
-    let split : IsSplitOf (set_in c.args.d.now) c.args.p c.args.q (lists_of c.in_ok-split.split.parts.items) =
-    split_made d p q c.deref.result.now c.in_ok-tree.tree.nodes.items parts c.in_ok-tree.ensures.nodes c.deref.ensures.value c.in_ok-split.ensures.parts c.in_ok-split.ensures.division in
-    let are : AreTargets c.args.lists.now c.args.partitions.items (lists_of c.in_ok-split.split.parts.items) c.in_ok-targets.targets.items =
+    let parts : List (Vec ℕ Global) = c.args.split.now.parts.items in
+    let split : IsSplitOf (set_in c.args.d.now) c.args.p c.args.q (lists_of c.args.split.now.parts.items) = c.requires.split.parts in
+    let are : AreTargets c.args.lists.now c.args.partitions.items (lists_of c.args.split.now.parts.items) c.in_ok-targets.targets.items =
     subst (λ ps. AreTargets lists partitions (map versions_in ps) c.in_ok-targets.targets.items) c.deref-2.ensures.value c.in_ok-targets.ensures in
     spelled d lists partitions read p q parts split c.in_ok-targets.targets.items are c.requires.numbers
 
 pub returns-clause-applies : goal.returns-clause-applies
-returns-clause-applies c n found =
+returns-clause-applies c n found format =
     let d = c.args.d.now in
     let p = c.args.p in
     let q = c.args.q in
@@ -111,11 +106,10 @@ returns-clause-applies c n found =
     let partitions = c.args.partitions.items in
     let read : IsRead c.args.d.now c.args.lists.now c.args.partitions.items =
     record { set = c.requires.sound; sound = c.parts.ensures.sound; listed = c.requires.lists; parted = c.requires.parted } in
-    let parts : List (Vec ℕ Global) = c.in_ok-split.split.parts.items in
-    let split : IsSplitOf (set_in c.args.d.now) c.args.p c.args.q (lists_of c.in_ok-split.split.parts.items) =
-    split_made d p q c.deref.result.now c.in_ok-tree.tree.nodes.items parts c.in_ok-tree.ensures.nodes c.deref.ensures.value c.in_ok-split.ensures.parts c.in_ok-split.ensures.division in
-    let are : AreTargets c.args.lists.now c.args.partitions.items (lists_of c.in_ok-split.split.parts.items) c.in_ok-targets.targets.items =
+    let parts : List (Vec ℕ Global) = c.args.split.now.parts.items in
+    let split : IsSplitOf (set_in c.args.d.now) c.args.p c.args.q (lists_of c.args.split.now.parts.items) = c.requires.split.parts in
+    let are : AreTargets c.args.lists.now c.args.partitions.items (lists_of c.args.split.now.parts.items) c.in_ok-targets.targets.items =
     subst (λ ps. AreTargets lists partitions (map versions_in ps) c.in_ok-targets.targets.items) c.deref-2.ensures.value c.in_ok-targets.ensures in
-    subst (λ e. first_off e n ≡ None) (sym c.event_of-event.ensures.is)
+    subst (λ e. first_off format e n ≡ None) (sym c.event_of-event.ensures.is)
     (ap (of_live (plan_off p q c.in_ok-targets.targets.items)) found
     ∙ applies d lists partitions read p q parts split c.in_ok-targets.targets.items are c.requires.idle c.requires.threshold c.requires.numbers)

@@ -63,7 +63,7 @@ returns-clause-says c = λ w.
     in λ i. Some (events.Init (c.in_ok-copy.ensures.ok i) (shape_in (c.in_ok-schema_of.ensures.made i)) (count i) (list i) (segments i))
 
 pub returns-clause-applies : goal.returns-clause-applies
-returns-clause-applies c = λ n next new room.
-    ap (λ e. first_off e n) (event_is c)
+returns-clause-applies c = λ n next new room format.
+    ap (λ e. first_off format e n) (event_is c)
     ∙ first_applies c.args.name.now c.args.schema.now c.args.rows.now c.in_ok-runs.runs.list.items c.in_ok-runs.runs.segment.items c.requires.name c.in_ok-schema_of.ensures.sound c.requires.rows (written c)
-    n next new room
+    n next new room format

@@ -58,3 +58,9 @@ invariant_of-self c =
       space-stays inside.room inside.sets c.reserve.new.self same c.in_err-reserve.ensures.capacity c.self.invariant.1,
       subst (λ (ds : List Cvd). AreUpTo inside.reach (numbers_of ds)) (sym same) c.self.invariant.2,
     )
+
+pub returns-clause-reach : goal.returns-clause-reach
+returns-clause-reach c =
+    let inside = c.self.inside in
+    let is = number-is inside.next c.args.said.number inside.reach (numbers_of inside.sets.items) c.in_ok-check_number.ensures c.self.invariant.2 in
+    rw (← c.self.view_is) (sym is.goes_on)

@@ -31,11 +31,11 @@ write_change-requires-clause-applies g c =
     let n = c.self.inside.catalog.numbers in
     let b = c.args.brought in
     let at = c.in_ok-at.at in
-    let applies : first_off b.event n ≡ None = rw (← c.self.view_is) at c.requires.applies in
+    let applies : first_off c.self.inside.journal.format b.event n ≡ None = rw (← c.self.view_is) at c.requires.applies in
     let placed : ArePlaced (live n) b.list.items b.segment.items at.list at.segment =
     placed_by (live n) c.deref.result.now c.deref-2.result.now b at.list at.segment c.deref.ensures.value c.deref-2.ensures.value (c.in_ok-at.ensures.placed (live n) c.self.invariant.0) in
     let segment_is : at.segment ≡ extent_at at.segment.page b.segment.items = c.in_ok-at.ensures.segment_is ∙ ap (extent_at at.segment.page) c.deref-2.ensures.value in
-    rw c.placed-event.ensures (applies_now n c.self.invariant.1 b c.requires.unplaced applies at.list at.segment placed segment_is)
+    rw c.placed-event.ensures (applies_now n c.self.invariant.1 b c.requires.unplaced c.self.inside.journal.format applies at.list at.segment placed segment_is)
 
 pub write_change-requires-clause-spelled : goal.write_change-requires-clause-spelled
 write_change-requires-clause-spelled g c =
@@ -51,11 +51,11 @@ invariant_of-self-in-Ok g c =
     let n = c.self.inside.catalog.numbers in
     let b = c.args.brought in
     let at = c.in_ok-at.at in
-    let applies : first_off b.event n ≡ None = rw (← c.self.view_is) at c.requires.applies in
+    let applies : first_off c.self.inside.journal.format b.event n ≡ None = rw (← c.self.view_is) at c.requires.applies in
     let placed : ArePlaced (live n) b.list.items b.segment.items at.list at.segment =
     placed_by (live n) c.deref.result.now c.deref-2.result.now b at.list at.segment c.deref.ensures.value c.deref-2.ensures.value (c.in_ok-at.ensures.placed (live n) c.self.invariant.0) in
     let segment_is : at.segment ≡ extent_at at.segment.page b.segment.items = c.in_ok-at.ensures.segment_is ∙ ap (extent_at at.segment.page) c.deref-2.ensures.value in
-    kept_add n c.self.invariant.1 b c.requires.unplaced applies at.list at.segment placed segment_is c.placed-event.result c.write_change.new.catalog.numbers c.reserve_runs.new.pages
+    kept_add n c.self.invariant.1 b c.requires.unplaced c.self.inside.journal.format applies at.list at.segment placed segment_is c.placed-event.result c.write_change.new.catalog.numbers c.reserve_runs.new.pages
     c.placed-event.ensures c.in-Ok.ensures.applied (c.in_ok-at.ensures.reserved (live n) c.self.invariant.0)
 
 pub returns-in-Ok-clause-made : goal.returns-in-Ok-clause-made
@@ -82,7 +82,7 @@ returns-in-Ok-clause-beside g c =
     let at = c.in_ok-at.at in
     let s0 = g.H.Host.state c.args.host.now in
     let s1 = g.H.Host.state c.write_change.new.host in
-    let applies : first_off b.event n ≡ None = rw (← c.self.view_is) at c.requires.applies in
+    let applies : first_off c.self.inside.journal.format b.event n ≡ None = rw (← c.self.view_is) at c.requires.applies in
     let placed : ArePlaced (live n) b.list.items b.segment.items at.list at.segment =
     placed_by (live n) c.deref.result.now c.deref-2.result.now b at.list at.segment c.deref.ensures.value c.deref-2.ensures.value (c.in_ok-at.ensures.placed (live n) c.self.invariant.0) in
     let one : Run = record { page = at.list.page; bytes = c.deref-3.result } in
@@ -92,7 +92,7 @@ returns-in-Ok-clause-beside g c =
     let segment_is : at.segment ≡ extent_at at.segment.page b.segment.items = c.in_ok-at.ensures.segment_is ∙ ap (extent_at at.segment.page) c.deref-2.ensures.value in
     rw (← c.self.view_is) (λ payloads is beside. record {
       journal = c.in-Ok.ensures.room is.told;
-      pages = pages_there n c.self.invariant.1 b c.requires.unplaced applies at.list at.segment placed segment_is c.placed-event.result c.write_change.new.catalog.numbers
+      pages = pages_there n c.self.invariant.1 b c.requires.unplaced c.self.inside.journal.format applies at.list at.segment placed segment_is c.placed-event.result c.write_change.new.catalog.numbers
           s0.tape.disk.pages.bytes s1.tape.disk.pages.bytes c.placed-event.ensures c.in-Ok.ensures.applied
           (ap (λ (a : Stored). a.bytes) (c.in-Ok.ensures.done payloads is).rest ∙ runs_are b.list.items b.segment.items at.list at.segment one two carry s0.tape.disk.pages.bytes)
           beside.pages;
@@ -121,7 +121,7 @@ returns-in-Ok-clause-stops g c =
     let at = c.in_ok-at.at in
     let s0 = g.H.Host.state c.args.host.now in
     let s1 = g.H.Host.state c.write_change.new.host in
-    let applies : first_off b.event n ≡ None = rw (← c.self.view_is) at c.requires.applies in
+    let applies : first_off c.self.inside.journal.format b.event n ≡ None = rw (← c.self.view_is) at c.requires.applies in
     let placed : ArePlaced (live n) b.list.items b.segment.items at.list at.segment =
     placed_by (live n) c.deref.result.now c.deref-2.result.now b at.list at.segment c.deref.ensures.value c.deref-2.ensures.value (c.in_ok-at.ensures.placed (live n) c.self.invariant.0) in
     let one : Run = record { page = at.list.page; bytes = c.deref-3.result } in
@@ -139,7 +139,7 @@ returns-in-Ok-clause-done g c =
     let at = c.in_ok-at.at in
     let s0 = g.H.Host.state c.args.host.now in
     let s1 = g.H.Host.state c.write_change.new.host in
-    let applies : first_off b.event n ≡ None = rw (← c.self.view_is) at c.requires.applies in
+    let applies : first_off c.self.inside.journal.format b.event n ≡ None = rw (← c.self.view_is) at c.requires.applies in
     let placed : ArePlaced (live n) b.list.items b.segment.items at.list at.segment =
     placed_by (live n) c.deref.result.now c.deref-2.result.now b at.list at.segment c.deref.ensures.value c.deref-2.ensures.value (c.in_ok-at.ensures.placed (live n) c.self.invariant.0) in
     let one : Run = record { page = at.list.page; bytes = c.deref-3.result } in
@@ -159,14 +159,14 @@ returns-in-Ok-clause-by_journal g c =
     let at = c.in_ok-at.at in
     let s0 = g.H.Host.state c.args.host.now in
     let s1 = g.H.Host.state c.write_change.new.host in
-    let applies : first_off b.event n ≡ None = rw (← c.self.view_is) at c.requires.applies in
+    let applies : first_off c.self.inside.journal.format b.event n ≡ None = rw (← c.self.view_is) at c.requires.applies in
     let placed : ArePlaced (live n) b.list.items b.segment.items at.list at.segment =
     placed_by (live n) c.deref.result.now c.deref-2.result.now b at.list at.segment c.deref.ensures.value c.deref-2.ensures.value (c.in_ok-at.ensures.placed (live n) c.self.invariant.0) in
     let segment_is : at.segment ≡ extent_at at.segment.page b.segment.items = c.in_ok-at.ensures.segment_is ∙ ap (extent_at at.segment.page) c.deref-2.ensures.value in
     let spelled : IsEvent c.placed-event.result = event_spelled b (live n) at.list at.segment c.requires.unplaced c.requires.event placed c.placed-event.result c.placed-event.ensures in
-    let follows : first_off c.placed-event.result n ≡ None = rw c.placed-event.ensures (applies_now n c.self.invariant.1 b c.requires.unplaced applies at.list at.segment placed segment_is) in
+    let follows : first_off c.self.inside.journal.format c.placed-event.result n ≡ None = rw c.placed-event.ensures (applies_now n c.self.invariant.1 b c.requires.unplaced c.self.inside.journal.format applies at.list at.segment placed segment_is) in
     let later : Held = record { journal = c.write_change.new.journal; numbers = c.write_change.new.catalog.numbers } in
-    rw (← c.self.view_is) (by_journal_more held later c.placed-event.result (spelling c.placed-event.result) s0 s1 spelled follows refl c.in-Ok.ensures.applied
+    rw (← c.self.view_is) (by_journal_more held later c.placed-event.result (spelling c.placed-event.result) s0 s1 spelled follows refl c.in-Ok.ensures.format c.in-Ok.ensures.applied
     (λ payloads is. (c.in-Ok.ensures.done payloads is).at))
 
 pub returns-clause-why : goal.returns-clause-why
@@ -187,7 +187,7 @@ returns-clause-stops g c =
     let at = c.in_ok-at.at in
     let s0 = g.H.Host.state c.args.host.now in
     let s1 = g.H.Host.state c.write_change.new.host in
-    let applies : first_off b.event n ≡ None = rw (← c.self.view_is) at c.requires.applies in
+    let applies : first_off c.self.inside.journal.format b.event n ≡ None = rw (← c.self.view_is) at c.requires.applies in
     let placed : ArePlaced (live n) b.list.items b.segment.items at.list at.segment =
     placed_by (live n) c.deref.result.now c.deref-2.result.now b at.list at.segment c.deref.ensures.value c.deref-2.ensures.value (c.in_ok-at.ensures.placed (live n) c.self.invariant.0) in
     let one : Run = record { page = at.list.page; bytes = c.deref-3.result } in

@@ -27,16 +27,16 @@ returns-in_err-add_bare-clause-stops g c =
     let held : Held = record { journal = c.self.inside.journal; numbers = c.self.inside.catalog.numbers } in
     let s0 = g.H.Host.state c.args.host.now in
     let s1 = g.H.Host.state c.add_bare.new.host in
-    let applies : first_off c.args.event held.numbers ≡ None = rw (← c.self.view_is) at c.requires.applies in
+    let applies : first_off c.self.inside.journal.format c.args.event held.numbers ≡ None = rw (← c.self.view_is) at c.requires.applies in
     rw (← c.self.view_is) (λ w m is asks.
     bare_stops w held s0 is m c.args.event c.requires.event applies c.requires.bare asks c.in_ok-framed.framed c.in_ok-framed.ensures.«record» s1 c.in_err-add_bare.ensures.stops)
 
 pub free_all-requires : goal.free_all-requires
 free_all-requires g c =
     let n = c.self.inside.catalog.numbers in
-    let applies : first_off c.args.event n ≡ None = rw (← c.self.view_is) at c.requires.applies in
+    let applies : first_off c.self.inside.journal.format c.args.event n ≡ None = rw (← c.self.view_is) at c.requires.applies in
     let apart : IsApart c.args.event n = subst (λ (x : Numbers Extent Extent). IsApart c.args.event x) c.in_ok-framed.ensures.numbers c.is_apart.ensures in
-    let both = bare_kept c.args.event n c.self.invariant.1 applies apart c.requires.bare c.ready.new.catalog.numbers c.apply_reserved.new.self.numbers c.new-freed.result.items c.ready.new.freed.items
+    let both = bare_kept c.args.event n c.self.invariant.1 c.self.inside.journal.format applies apart c.requires.bare c.ready.new.catalog.numbers c.apply_reserved.new.self.numbers c.new-freed.result.items c.ready.new.freed.items
     c.apply_reserved.new.freed.items c.deref.result.now c.self.inside.pages
     c.in_ok-framed.ensures.numbers c.apply_reserved.ensures.applied c.new-freed.ensures.items c.in_ok-framed.ensures.freed c.apply_reserved.ensures.freed c.deref.ensures.value
     c.self.invariant.0 in
@@ -45,9 +45,9 @@ free_all-requires g c =
 pub invariant_of-self-2 : goal.invariant_of-self-2
 invariant_of-self-2 g c =
     let n = c.self.inside.catalog.numbers in
-    let applies : first_off c.args.event n ≡ None = rw (← c.self.view_is) at c.requires.applies in
+    let applies : first_off c.self.inside.journal.format c.args.event n ≡ None = rw (← c.self.view_is) at c.requires.applies in
     let apart : IsApart c.args.event n = subst (λ (x : Numbers Extent Extent). IsApart c.args.event x) c.in_ok-framed.ensures.numbers c.is_apart.ensures in
-    let both = bare_kept c.args.event n c.self.invariant.1 applies apart c.requires.bare c.ready.new.catalog.numbers c.apply_reserved.new.self.numbers c.new-freed.result.items c.ready.new.freed.items
+    let both = bare_kept c.args.event n c.self.invariant.1 c.self.inside.journal.format applies apart c.requires.bare c.ready.new.catalog.numbers c.apply_reserved.new.self.numbers c.new-freed.result.items c.ready.new.freed.items
     c.apply_reserved.new.freed.items c.deref.result.now c.self.inside.pages
     c.in_ok-framed.ensures.numbers c.apply_reserved.ensures.applied c.new-freed.ensures.items c.in_ok-framed.ensures.freed c.apply_reserved.ensures.freed c.deref.ensures.value
     c.self.invariant.0 in
@@ -81,7 +81,7 @@ returns-clause-stops g c =
     let held : Held = record { journal = c.self.inside.journal; numbers = c.self.inside.catalog.numbers } in
     let s0 = g.H.Host.state c.args.host.now in
     let s1 = g.H.Host.state c.add_bare.new.host in
-    let applies : first_off c.args.event held.numbers ≡ None = rw (← c.self.view_is) at c.requires.applies in
+    let applies : first_off c.self.inside.journal.format c.args.event held.numbers ≡ None = rw (← c.self.view_is) at c.requires.applies in
     rw (← c.self.view_is) (λ w m is asks.
     bare_stops w held s0 is m c.args.event c.requires.event applies c.requires.bare asks c.in_ok-framed.framed c.in_ok-framed.ensures.«record» s1 c.in_ok-add_bare.ensures.stops)
 
@@ -90,11 +90,11 @@ returns-clause-beside g c =
     let n = c.self.inside.catalog.numbers in
     let s0 = g.H.Host.state c.args.host.now in
     let s1 = g.H.Host.state c.add_bare.new.host in
-    let applies : first_off c.args.event n ≡ None = rw (← c.self.view_is) at c.requires.applies in
+    let applies : first_off c.self.inside.journal.format c.args.event n ≡ None = rw (← c.self.view_is) at c.requires.applies in
     let apart : IsApart c.args.event n = subst (λ (x : Numbers Extent Extent). IsApart c.args.event x) c.in_ok-framed.ensures.numbers c.is_apart.ensures in
     rw (← c.self.view_is) (λ payloads is rest beside. record {
       journal = c.in_ok-add_bare.ensures.room is.told;
-      pages = bare_there c.args.event n c.self.invariant.1 applies apart c.requires.bare c.ready.new.catalog.numbers c.apply_reserved.new.self.numbers s0.tape.disk.pages.bytes s1.tape.disk.pages.bytes
+      pages = bare_there c.args.event n c.self.invariant.1 c.self.inside.journal.format applies apart c.requires.bare c.ready.new.catalog.numbers c.apply_reserved.new.self.numbers s0.tape.disk.pages.bytes s1.tape.disk.pages.bytes
           c.in_ok-framed.ensures.numbers c.apply_reserved.ensures.applied
           (ap (λ (a : Stored). a.bytes) (c.in_ok-add_bare.ensures.done payloads is rest).rest)
           beside.pages;
@@ -105,7 +105,7 @@ returns-clause-done g c =
     let held : Held = record { journal = c.self.inside.journal; numbers = c.self.inside.catalog.numbers } in
     let s0 = g.H.Host.state c.args.host.now in
     let s1 = g.H.Host.state c.add_bare.new.host in
-    let applies : first_off c.args.event held.numbers ≡ None = rw (← c.self.view_is) at c.requires.applies in
+    let applies : first_off c.self.inside.journal.format c.args.event held.numbers ≡ None = rw (← c.self.view_is) at c.requires.applies in
     let later : Held = record { journal = c.add_bare.new.journal; numbers = c.apply_reserved.new.self.numbers } in
     let numbers : later.numbers ≡ applied (event_in c.args.event) held.numbers = c.apply_reserved.ensures.applied ∙ ap (applied (event_in c.args.event)) c.in_ok-framed.ensures.numbers in
     rw (← c.self.view_is) (λ w m is asks.
@@ -118,8 +118,8 @@ returns-clause-by_journal g c =
     let n = c.self.inside.catalog.numbers in
     let s0 = g.H.Host.state c.args.host.now in
     let s1 = g.H.Host.state c.add_bare.new.host in
-    let applies : first_off c.args.event n ≡ None = rw (← c.self.view_is) at c.requires.applies in
+    let applies : first_off c.self.inside.journal.format c.args.event n ≡ None = rw (← c.self.view_is) at c.requires.applies in
     let later : Held = record { journal = c.add_bare.new.journal; numbers = c.apply_reserved.new.self.numbers } in
     let numbers : later.numbers ≡ applied (event_in c.args.event) held.numbers = c.apply_reserved.ensures.applied ∙ ap (applied (event_in c.args.event)) c.in_ok-framed.ensures.numbers in
-    rw (← c.self.view_is) (by_journal_more held later c.args.event c.in_ok-framed.framed s0 s1 c.requires.event applies c.in_ok-framed.ensures.«record» numbers
+    rw (← c.self.view_is) (by_journal_more held later c.args.event c.in_ok-framed.framed s0 s1 c.requires.event applies c.in_ok-framed.ensures.«record» c.in_ok-add_bare.ensures.format numbers
     c.in_ok-add_bare.ensures.«record»)

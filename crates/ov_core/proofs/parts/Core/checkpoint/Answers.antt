@@ -2,10 +2,10 @@ use Rattle.std.proofs.Common.{◌≡◌, ◌<◌, ◌^◌, ℕ, List, sym, ap, s
 use Rattle.ov_host.specs.Disk.{Stored}
 use Rattle.ov_host.proofs.Stops.{only_start, only_wider}
 use Rattle.ov_journal.specs.Checkpoints.{snapshot_kept}
-use Rattle.ov_journal.specs.Held.{IsAt, IsOldOrNew, SameButJournal, kept_by}
+use Rattle.ov_journal.specs.Held.{IsAt, IsOldOrNew, Numbers, SameButJournal, kept_by}
 use Rattle.law_image.specs.Pages.{pages_in}
 use Rattle.ov_model.specs.Moves.{Checkpoint}
-use Rattle.ov_core.specs.Held.{Held}
+use Rattle.ov_core.specs.Held.{Held, IsReplay}
 use Rattle.ov_core.specs.Rooms.{HasNoPlace, KeepsPages, snapshot_payloads}
 use Rattle.ov_core.proofs.Storing.{still}
 use Rattle.ov_core.proofs.Taking.{at_rest, call_stops, ended, epoch_left, replayed_whole, replays, taken}
@@ -60,7 +60,8 @@ returns-clause-by_journal g c =
     rw (← c.self.view_is) (λ by. record {
       payloads = snapshot_payloads n;
       at = subst (λ ps. IsAt ps c.checkpoint.new.self s1) said (c.in_ok-checkpoint.ensures.done by.payloads by.at);
-      replays = replays n (replayed_whole n c.self.invariant.1) c.in_ok-snapshot.ensures.events;
+      replays = subst (λ (format : ℕ). IsReplay format (snapshot_payloads n) n) (sym (ap (λ (j : Numbers). j.format) c.in_ok-checkpoint.ensures.numbers))
+          (replays n (replayed_whole n c.self.invariant.1) c.in_ok-snapshot.ensures.events);
     })
 
 pub returns-clause-done : goal.returns-clause-done

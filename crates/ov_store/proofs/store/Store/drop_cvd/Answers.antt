@@ -19,7 +19,7 @@ returns-in_default-clause-stops g c = λ w at. still w (dropped c.args.name.now 
 
 pub drop_cvd-requires-clause-applies : goal.drop_cvd-requires-clause-applies
 drop_cvd-requires-clause-applies g c =
-    drop_applies c.self.inside.core.numbers c.args.name.now c.in-Some.cvd
+    drop_applies c.self.inside.core.journal.format c.self.inside.core.numbers c.args.name.now c.in-Some.cvd
     (subst (λ (held : Held). number_named held.numbers c.args.name.now ≡ Some c.in-Some.cvd) (sym (ap (λ kept. kept.held) c.self.view_is)) (sym c.in-Some.ensures))
 
 pub returns-in-Ok-clause-stops : goal.returns-in-Ok-clause-stops

@@ -60,7 +60,7 @@ pub parents_of-requires-clause-counted : goal.parents_of-requires-clause-counted
 parents_of-requires-clause-counted g c =
     let numbers : c.self.inside.core.numbers ≡ c.args.self.now.held.numbers = ap (λ kept. kept.held.numbers) c.self.view_is
     in let replayed : IsReplayed c.args.self.now.held.numbers = subst (λ n. IsReplayed n) numbers c.is_replayed.ensures
-    in all_counted replayed.events (sets.set_in c.in_ok-d.field-0.d.now) replayed.apply
+    in all_counted replayed.format replayed.events (sets.set_in c.in_ok-d.field-0.d.now) replayed.follow
     (found_in c.args.name.now (numbers_in replayed.events).sets (sets.set_in c.in_ok-d.field-0.d.now) (subst (λ n. set_in n c.args.name.now ≡ Some (sets.set_in c.in_ok-d.field-0.d.now)) replayed.are c.in_ok-d.ensures.found))
 
 pub returns-in_err-read-clause-spared : goal.returns-in_err-read-clause-spared
@@ -77,7 +77,7 @@ pub commit_of-requires-clause-most : goal.commit_of-requires-clause-most
 commit_of-requires-clause-most g c =
     let numbers : c.self.inside.core.numbers ≡ c.args.self.now.held.numbers = ap (λ kept. kept.held.numbers) c.self.view_is
     in let replayed : IsReplayed c.args.self.now.held.numbers = subst (λ n. IsReplayed n) numbers c.is_replayed.ensures
-    in few_records replayed.events (sets.set_in c.in_ok-d.field-0.d.now) replayed.apply
+    in few_records replayed.format replayed.events (sets.set_in c.in_ok-d.field-0.d.now) replayed.follow
     (found_in c.args.name.now (numbers_in replayed.events).sets (sets.set_in c.in_ok-d.field-0.d.now) (subst (λ n. set_in n c.args.name.now ≡ Some (sets.set_in c.in_ok-d.field-0.d.now)) replayed.are c.in_ok-d.ensures.found))
 
 pub returns-in_err-brought-clause-why : goal.returns-in_err-brought-clause-why
@@ -126,11 +126,11 @@ returns-clause-ready g c =
     in let replayed : IsReplayed c.args.self.now.held.numbers = subst (λ n. IsReplayed n) numbers c.is_replayed.ensures
     in let numbered : set_numbered (sets.set_in c.in_ok-d.field-0.d.now).number c.args.self.now.held.numbers ≡ Some (sets.set_in c.in_ok-d.field-0.d.now)
     = subst (λ n. set_numbered (sets.set_in c.in_ok-d.field-0.d.now).number n ≡ Some (sets.set_in c.in_ok-d.field-0.d.now)) (sym replayed.are)
-    (named_numbered replayed.events replayed.apply c.args.name.now (sets.set_in c.in_ok-d.field-0.d.now) (subst (λ n. set_in n c.args.name.now ≡ Some (sets.set_in c.in_ok-d.field-0.d.now)) replayed.are c.in_ok-d.ensures.found))
+    (named_numbered replayed.format replayed.events replayed.follow c.args.name.now (sets.set_in c.in_ok-d.field-0.d.now) (subst (λ n. set_in n c.args.name.now ≡ Some (sets.set_in c.in_ok-d.field-0.d.now)) replayed.are c.in_ok-d.ensures.found))
     in record {
       unplaced = c.in_ok-brought.ensures.unplaced;
       event = c.in_ok-brought.ensures.event;
-      applies = c.in_ok-brought.ensures.applies c.args.self.now.held.numbers numbered;
+      applies = c.in_ok-brought.ensures.applies c.args.self.now.held.journal.format tt c.args.self.now.held.numbers numbered;
     }
 
 pub returns-clause-by : goal.returns-clause-by

@@ -33,8 +33,8 @@ returns-clause-applies g c =
     in let replayed : IsReplayed c.args.self.now.held.numbers = subst (λ n. IsReplayed n) numbers c.is_replayed.ensures
     in let numbered : set_numbered (sets.set_in c.in_ok-d.d.now).number c.args.self.now.held.numbers ≡ Some (sets.set_in c.in_ok-d.d.now)
     = subst (λ n. set_numbered (sets.set_in c.in_ok-d.d.now).number n ≡ Some (sets.set_in c.in_ok-d.d.now)) (sym replayed.are)
-    (named_numbered replayed.events replayed.apply c.args.name.now (sets.set_in c.in_ok-d.d.now) (subst (λ n. set_in n c.args.name.now ≡ Some (sets.set_in c.in_ok-d.d.now)) replayed.are c.in_ok-d.ensures.found))
-    in c.in_ok-plan_of.ensures.applies c.args.self.now.held.numbers numbered
+    (named_numbered replayed.format replayed.events replayed.follow c.args.name.now (sets.set_in c.in_ok-d.d.now) (subst (λ n. set_in n c.args.name.now ≡ Some (sets.set_in c.in_ok-d.d.now)) replayed.are c.in_ok-d.ensures.found))
+    in c.in_ok-plan_of.ensures.applies c.args.self.now.held.numbers numbered c.args.self.now.held.journal.format
 
 pub returns-clause-asks : goal.returns-clause-asks
 returns-clause-asks g c = λ w d at named.

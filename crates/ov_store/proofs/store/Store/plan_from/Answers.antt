@@ -31,6 +31,9 @@ returns-in_err-d-clause-refused g c = λ w at. absurd (never_refused c.in_err-d.
 pub plan_with-requires-clause-lists : goal.plan_with-requires-clause-lists
 plan_with-requires-clause-lists g c = (c.requires.listed (sets.set_in c.in_ok-d.d.now) c.in_ok-d.ensures.found).are
 
+pub plan_with-requires-clause-split : goal.plan_with-requires-clause-split
+plan_with-requires-clause-split g c = c.requires.split (sets.set_in c.in_ok-d.d.now) c.in_ok-d.ensures.found
+
 -- ---- what it reads is damaged, or there is no memory
 
 pub returns-in_err-plan_with-clause-why : goal.returns-in_err-plan_with-clause-why
@@ -65,8 +68,8 @@ returns-clause-applies g c =
     in let replayed : IsReplayed c.args.self.now.held.numbers = subst (λ n. IsReplayed n) numbers c.is_replayed.ensures
     in let numbered : set_numbered (sets.set_in c.in_ok-d.d.now).number c.args.self.now.held.numbers ≡ Some (sets.set_in c.in_ok-d.d.now)
     = subst (λ n. set_numbered (sets.set_in c.in_ok-d.d.now).number n ≡ Some (sets.set_in c.in_ok-d.d.now)) (sym replayed.are)
-    (named_numbered replayed.events replayed.apply c.args.name.now (sets.set_in c.in_ok-d.d.now) (subst (λ n. set_in n c.args.name.now ≡ Some (sets.set_in c.in_ok-d.d.now)) replayed.are c.in_ok-d.ensures.found))
-    in c.in_ok-plan_with.ensures.applies c.args.self.now.held.numbers numbered
+    (named_numbered replayed.format replayed.events replayed.follow c.args.name.now (sets.set_in c.in_ok-d.d.now) (subst (λ n. set_in n c.args.name.now ≡ Some (sets.set_in c.in_ok-d.d.now)) replayed.are c.in_ok-d.ensures.found))
+    in c.in_ok-plan_with.ensures.applies c.args.self.now.held.numbers numbered c.args.self.now.held.journal.format
 
 pub returns-clause-asks : goal.returns-clause-asks
 returns-clause-asks g c = λ w d at named.

@@ -95,10 +95,14 @@ pub returns-in-Err-bring-clause-room : goal.returns-in-Err-bring-clause-room
 returns-in-Err-bring-clause-room g c = λ w m entry past at next within.
     subst (IsStepLack entry past m w) (sym c.from-in-Err-bring.ensures)
     (copy_lacks entry past c.args.self.now.held m w within (g.H.Host.state c.step_for.new.host) (g.H.Host.state c.bring.new.host) c.in-Some-Copy.brought c.in-Err-bring.off
-    (record { unplaced = (subst (IsReady c.args.self.now.held.numbers) (c.in-Some-Copy.is ∙ ap Some c.in-Some-Copy.field-0-is) c.in-Ok.ensures.ready).is.unplaced; event = (subst (IsReady c.args.self.now.held.numbers) (c.in-Some-Copy.is ∙ ap Some c.in-Some-Copy.field-0-is) c.in-Ok.ensures.ready).is.event; applies = (subst (IsReady c.args.self.now.held.numbers) (c.in-Some-Copy.is ∙ ap Some c.in-Some-Copy.field-0-is) c.in-Ok.ensures.ready).applies })
+    (record { unplaced = (subst (IsReady c.args.self.now.held.numbers) (c.in-Some-Copy.is ∙ ap Some c.in-Some-Copy.field-0-is) c.in-Ok.ensures.ready).is.unplaced; event = (subst (IsReady c.args.self.now.held.numbers) (c.in-Some-Copy.is ∙ ap Some c.in-Some-Copy.field-0-is) c.in-Ok.ensures.ready).is.event; applies = (subst (IsReady c.args.self.now.held.numbers) (c.in-Some-Copy.is ∙ ap Some c.in-Some-Copy.field-0-is) c.in-Ok.ensures.ready).applies c.args.self.now.held.journal.format })
     (copy_brings w c.in-Some-Copy.brought (subst (IsNextOf w) (c.in-Some-Copy.is ∙ ap Some c.in-Some-Copy.field-0-is) (c.in-Ok.ensures.world w at)) m next) c.in-Err-bring.ensures.why)
 
 -- ---- a flip
+
+pub record_flip-requires-clause-applies : goal.record_flip-requires-clause-applies
+record_flip-requires-clause-applies g c =
+    (subst (IsReady c.args.self.now.held.numbers) (c.in-Some-Flip.is ∙ ap Some c.in-Some-Flip.field-0-is) c.in-Ok.ensures.ready).applies c.args.self.now.held.journal.format
 
 pub returns-in-Ok-record_flip-clause-done : goal.returns-in-Ok-record_flip-clause-done
 returns-in-Ok-record_flip-clause-done g c =
