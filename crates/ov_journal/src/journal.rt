@@ -4,7 +4,7 @@ ghost use Rattle.ov_host.specs.Host.{Rose, bytes_of};
 ghost use Rattle.ov_host.specs.Stops.{Only};
 ghost use Rattle.ov_journal.specs.Checkpoints.{HasNoRoom, IsRoom, start_for, snapshot_kept, turned_to};
 ghost use Rattle.ov_journal.specs.Held.{Numbers, Passes, AtRest, IsAt, IsOldOrNew, IsStill, SameButJournal, kept_by};
-ghost use Rattle.ov_journal.specs.Journal.{and_one};
+ghost use Rattle.ov_journal.specs.Journal.{IsKnown, and_one};
 ghost use Rattle.ov_journal.specs.Snapshots.{size_of};
 
 use crate::errors::AppendErr;
@@ -29,6 +29,7 @@ pub struct Journal {
 impl Model for Journal {
     ghost use Rattle.std.specs.Prelude.{◌<◌, ◌≤◌, ◌^◌};
     ghost use Rattle.ov_journal.specs.Held.{Numbers};
+    ghost use Rattle.ov_journal.specs.Journal.{IsKnown};
 
     ghost Value = { Numbers };
 
@@ -41,13 +42,13 @@ impl Model for Journal {
       spare_open = j.live.spare_open;
     } };
 
-    ghost invariant = { λ j. (38 ≤ j.live.start) × (j.live.start ≤ j.end) × (j.end < 2 ^ 28) };
+    ghost invariant = { λ j. (38 ≤ j.live.start) × (j.live.start ≤ j.end) × (j.end < 2 ^ 28) × IsKnown j.live.format };
 }
 
 impl Journal {
     // The journal with this first closed gate and this live slot.
     pub(crate) fn at(end: u64, live: Live) -> Journal
-        requires { (38 ≤ live.start) × (live.start ≤ end) × (end < 2 ^ 28) }
+        requires { (38 ≤ live.start) × (live.start ≤ end) × (end < 2 ^ 28) × IsKnown live.format }
         ensures { result ≡ record {
           end = end;
           epoch = live.epoch;
@@ -93,6 +94,13 @@ impl Journal {
         ensures { (38 ≤ self.now.start) × (self.now.start ≤ self.now.end) × (self.now.end < 2 ^ 28) }
     {
         let _ = &self.end;
+    }
+
+    /// The live slot's format is one that is known.
+    pub fn is_known(&self)
+        ensures { IsKnown self.now.format }
+    {
+        let _ = &self.live;
     }
 
     /// Whether the record and a closed gate behind it end at 2^28 or before.
