@@ -35,11 +35,7 @@ pub fn core_of(
 }
 
 // The catalog of these payloads, which are the journal's.
-fn catalog_of(
-    alloc: Global,
-    journal: &Journal,
-    payloads: &[Payload],
-) -> Result<Catalog, OpenErr>
+fn catalog_of(alloc: Global, journal: &Journal, payloads: &[Payload]) -> Result<Catalog, OpenErr>
     ensures { MatchResult result (λ catalog. IsReplay journal.now.format payloads.now catalog.numbers) (λ why. NotReplayed why journal.now.format journal.now.start payloads.now) }
 {
     match replay(alloc, journal.format(), payloads) {

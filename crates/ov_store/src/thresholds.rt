@@ -99,15 +99,7 @@ impl Store {
     {
         let d = self.may_plan(name, p, q)?;
         self.core.is_replayed();
-        Ok(plan_with(
-            self.alloc,
-            host,
-            d,
-            lists,
-            split,
-            p as u32,
-            q as u32,
-        )?)
+        Ok(plan_with(self.alloc, host, d, lists, split, p as u32, q as u32)?)
     }
 
     /// Begins a plan at the threshold p / q, as [`Store::optimize`] does, from the lists that [`Store::lists`] gave, and from the split
