@@ -98,12 +98,16 @@ def record(payload):
     return b"\xa5" + u32(len(payload)) + payload
 
 
-def commit(vid, parents, counts, runs, cvd=1, message="more", part=1):
+def commit(vid, parents, counts, runs, cvd=1, message="more", part=1, added=None):
     """Gives the event of a version that joins a partition, or, where that is 0, gets its own. What is counted are its rows, its new
-    records, and those that are added to the partition."""
+    records, and those that are added to the partition. One that adds columns has their names and kinds, and may have none."""
     edges = len(parents).to_bytes(2, "big") + b"".join(u32(*edge) for edge in parents)
     place = b"\x01" + u32(part) if part else b"\0"
-    return b"\x02" + u32(cvd, vid) + text(message) + edges + u32(*counts[:2]) + place + u32(counts[2], *runs)
+    behind = edges + u32(*counts[:2]) + place + u32(counts[2], *runs)
+    if added is None:
+        return b"\x02" + u32(cvd, vid) + text(message) + behind
+    columns = bytes([len(added)]) + b"".join(text(name) + bytes([kind]) for name, kind in added)
+    return b"\x09" + u32(cvd, vid) + text(message) + columns + behind
 
 
 def journal_of(payloads):

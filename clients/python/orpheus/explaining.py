@@ -15,12 +15,13 @@ USUAL = {
     18: "wait until its migration is done: migrate() takes all steps",
     19: "a version has at most 1,000,000 rows",
     20: "a store has at most 1,024 datasets",
-    23: "the store is of format 1, which has no NULL: checkpoint() makes it one of format 2",
+    23: "the store is of format 1, which has no NULL and takes no added columns: checkpoint() makes it one of format 2",
     34: "the file isn't UTF-8: `iconv -f latin1 -t utf-8 old.csv > new.csv` may be what it takes",
     35: "a file has at most 67,108,864 bytes",
     36: "a row has at most 65,536 bytes",
     51: "this program has no such command",
     53: "this program has no such option, or a name or a message is too long",
+    64: "each name stands once; a column that a commit added is there in all versions, and isn't added again",
     71: "names that end in .staged, and datasets that begin with orpheus_, are the store's own",
 }
 FIXES = {
@@ -113,7 +114,7 @@ def of_file(why, about):
         return headers(path, header_of(about, why.line))
     if why.number == 35:
         return [f"{path} has {os.path.getsize(path):,} bytes"]
-    found = re.match(r"row (\d+)", why.text)
+    found = re.match(r"row ([1-9]\d*)", why.text)
     if not found:
         return []
     first, last, fields = row_of(path, int(found[1]))

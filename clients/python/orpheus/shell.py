@@ -153,20 +153,20 @@ class Shell:
         return self.store.init(cvd, path, given.get("-s"), given.get("-k"), show=self.show)
 
     def do_commit(self, words):
-        """commit DATASET FILE.. -v PARENTS -m MESSAGE: makes the next version, or of several files one after another"""
-        words, given = options(words, ("-v", "-m", "-f"))
+        """commit DATASET FILE.. -v PARENTS -m MESSAGE [-a COLUMNS]: makes the next version, or of several files one after another"""
+        words, given = options(words, ("-v", "-m", "-f", "-a"))
         words += [given["-f"]] if "-f" in given else []
         if len(words) < 2 or "-v" not in given:
             raise Usage(self.do_commit.__doc__)
         cvd, *files = words
         if len(files) == 1:
-            return self.store.commit(cvd, files[0], vids(given["-v"]), given.get("-m", ""))
+            return self.store.commit(cvd, files[0], vids(given["-v"]), given.get("-m", ""), add=given.get("-a"))
         parents = self.store.vids(cvd, vids(given["-v"]))
         following = len(self.store.log(cvd)) + 1
         with self.store.batch(progress=self.bar) as batch:
             made = []
             for at, path in enumerate(files):
-                made.append(batch.commit(cvd, path, parents, given.get("-m", os.path.basename(path))))
+                made.append(batch.commit(cvd, path, parents, given.get("-m", os.path.basename(path)), add=None if at else given.get("-a")))
                 parents = [following + at]
         return table_of([it.result for it in made], replies.Made)
 

@@ -455,10 +455,14 @@ class Batch:
         line = f"init {word(cvd, 'dataset')} -s {word(schema.said())} -k {word(','.join(schema.key))} -f {path}"
         return self._add(line, replies.made, file=file.path, schema=schema)
 
-    def commit(self, cvd, source, parents, message="", types=None):
-        file = self.files.enter_context(self.store._commit_file(cvd, source, None, types))
+    def commit(self, cvd, source, parents, message="", add=None, types=None):
+        file = self.files.enter_context(self.store._commit_file(cvd, source, add, types))
         file.name = os.path.join(file.folder, file.name)
-        return self._add(self.store._commit_line(cvd, file, parents, message), replies.made, file=file.path, schema=file.schema)
+        line = self.store._commit_line(cvd, file, parents, message, add)
+        if add:
+            # (the next commits of this run are of the wider schema)
+            self.store._schemas[cvd] = file.schema
+        return self._add(line, replies.made, file=file.path, schema=file.schema)
 
     def checkout(self, cvd, vids, to):
         path = os.path.abspath(os.fspath(to))
@@ -486,7 +490,9 @@ class Batch:
                     if progress:
                         progress(number, len(self.pending))
         except faults.Refused as why:
-            # (told when the run has ended, since to tell it may take runs of its own, and before the files of rows go)
+            # (told when the run has ended, since to tell it may take runs of its own, and before the files of rows go; columns of
+            # commits that weren't reached aren't there)
+            self.store._schemas.clear()
             why._about = {"done": self.pending.index(self.asked), **self.asked.about}
             why._about = {**why._about, "told": why.explain()}
             raise

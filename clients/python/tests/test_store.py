@@ -106,8 +106,33 @@ class Commands(Case):
         store = self.people()
         self.refused(53, store.stage, "people", 1, "t")
         self.refused(53, store.commit_staged, "ann.t")
-        self.refused(53, store.commit, "people", [{"id": 1}], 1, add={"city": "text"})
         self.assertEqual(len(store.log("people")), 2)
+
+    def test_columns_are_added(self):
+        store = self.people()
+        rows = [{**row, "mail": None} for row in store.checkout("people", 2)]
+        rows[0]["mail"] = "ann@example.org"
+        self.assertEqual(store.commit("people", rows, 2, "adds mail", add={"mail": "text"})[1:], (3, 3, 1))
+        self.assertEqual(store.schema("people").said(), f"{SCHEMA},mail:text")
+        self.assertEqual([row["mail"] for row in store.checkout("people", [1, 3])], [None, None, None])
+        wide = self.put("wide.csv", "id,name,score,mail,ok\n1,ann,10,\\N,t\n2,bob,20,\\N,\n")
+        why = self.refused(64, store.commit, "people", wide, 1, add="mail:text,ok:flag")
+        self.assertIn("isn't added again", why.explain())
+        self.refused(31, store.commit, "people", wide, 1)
+        self.assertEqual(store.commit("people", wide, 1, "ok", add="ok:flag")[1:], (4, 2, 1))
+        self.assertEqual(store.diff("people", 1, 4).changed[0].new["ok"], True)
+
+    def test_columns_are_added_in_a_batch(self):
+        store = self.people()
+        wide = self.put("wide.csv", "id,name,score,ok\n1,ann,10,t\n")
+        with store.batch() as batch:
+            first = batch.commit("people", wide, 2, "ok", add="ok:flag")
+            second = batch.commit("people", [{"id": 2, "name": "bob", "score": 25, "ok": False}], 3, "rows")
+        self.assertEqual((first.result[1:], second.result[1:]), ((3, 1, 1), (4, 1, 1)))
+        with self.assertRaises(orpheus.Refused):
+            with store.batch() as batch:
+                batch.commit("people", wide, 9, "none", add="more:int")
+        self.assertEqual(store.schema("people").said(), f"{SCHEMA},ok:flag")
 
 
 class Beside(Case):

@@ -2,8 +2,8 @@
 use Rattle.std.proofs.Common.{◌≡◌, ◌≤◌, ◌<◌, ◌+◌, ℕ, Bool, List, [], length, refl, sym, ◌∙◌, ap, subst, inl, inr}
 use Rattle.std.specs.Prelude.{None}
 use Rattle.std.proofs.lemmas.Option.{slice_get_within}
-use Rattle.law_forms.specs.BuiltShapes.{served_forms}
-use Rattle.law_forms.proofs.BuiltForms.{all_asked}
+use Rattle.ov_model.specs.Forms.{all_forms}
+use Rattle.ov_model.proofs.AllFormed.{all_ask}
 use Rattle.law_image.specs.Images.{IsMade, IsNew, StandsAs, StandsBy}
 use Rattle.law_partitions.specs.PlanEnds.{HasAllVersions, IsSplit}
 use Rattle.law_partitions.proofs.SoundLines.{lines_name}
@@ -39,11 +39,11 @@ module _ (steps : ℕ) (w : World) (failed : Bool) (old new : Ends) (told : IsTo
 
   run : IsRun w it.items
   run =
-      run_by served_forms (as_read old.host.tape.disk) w steps (session_at old) (lines_of old.script.left) played.space
-      (lines_name served_forms (lines_of old.script.left) (all_asked (lines_of old.script.left))) told.stands
+      run_by all_forms (as_read old.host.tape.disk) w steps (session_at old) (lines_of old.script.left) played.space
+      (lines_name all_forms (lines_of old.script.left) (all_ask (lines_of old.script.left))) told.stands
 
   at_end : it.world ≡ world_at w it.items last
-  at_end = course_ends served_forms steps w (session_at old) (lines_of old.script.left) played.space ∙ sym (at_last w it.items)
+  at_end = course_ends all_forms steps w (session_at old) (lines_of old.script.left) played.space ∙ sym (at_last w it.items)
 
   stands_there : StandsAs (world_at w it.items last) image
   stands_there = subst (λ v. StandsAs v image) at_end played.stands

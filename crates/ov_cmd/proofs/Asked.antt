@@ -1,14 +1,12 @@
--- Each command that a line asks for, by all forms and by those that are built.
+-- Each command that a line asks for.
 use Rattle.std.proofs.Common.{◌≡◌, ℕ, List, subst}
 use Rattle.std.specs.Prelude.{Option, Some, None, Result, Ok, Err, IfOk}
-use Rattle.law_forms.specs.Built.{IsBuilt, built_forms}
-use Rattle.law_forms.proofs.BuiltForms.{asked, built}
 use Rattle.ov_model.specs.Formed.{AsksSo, IsAsked}
 use Rattle.ov_model.specs.Forms.{all_forms}
 use Rattle.ov_model.specs.Line.{line_of}
 use Rattle.ov_model.specs.declared.command.Command.{Command}
 use Rattle.ov_model.proofs.AllFormed.{line_asks}
-use Rattle.ov_cmd.specs.Asked.{AsksAny, AsksBuilt}
+use Rattle.ov_cmd.specs.Asked.{AsksAny}
 use Rattle.ov_cmd.specs.Said.{said}
 use Rattle.ov_cmd.specs.declared.line_err.LineErr.{LineErr}
 
@@ -19,11 +17,3 @@ any_said line (Some command) e = subst (AsksSo IsAsked) e (line_asks line)
 pub asks_any : (line : List ℕ) (r : Result (Option Command) LineErr) → IfOk r (λ c. line_of all_forms line ≡ said c) → IfOk r AsksAny
 asks_any line (Ok c) e = any_said line c e
 asks_any line (Err why) e = tt
-
-built_said : (line : List ℕ) (c : Option Command) → line_of built_forms line ≡ said c → AsksBuilt c
-built_said line None e = tt
-built_said line (Some command) e = (subst (AsksSo IsAsked) e (asked line), subst (AsksSo IsBuilt) e (built line))
-
-pub asks_built : (line : List ℕ) (r : Result (Option Command) LineErr) → IfOk r (λ c. line_of built_forms line ≡ said c) → IfOk r AsksBuilt
-asks_built line (Ok c) e = built_said line c e
-asks_built line (Err why) e = tt

@@ -20,6 +20,6 @@ mod values;
 mod word;
 mod words;
 
-pub use line::{read_built_line, read_line};
+pub use line::read_line;
 pub use line_err::LineErr;
 pub use numbers::vids_of;

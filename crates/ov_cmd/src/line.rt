@@ -2,11 +2,10 @@
 
 ghost use Rattle.std.specs.Prelude.{◌≡◌, ◌≢◌, IfOk, IfErr, Ok, [], ◌∷◌, map};
 ghost use Rattle.std.specs.Option.{option_map};
-ghost use Rattle.law_forms.specs.Built.{built_forms};
 ghost use Rattle.ov_model.specs.Forms.{all_forms};
 ghost use Rattle.ov_model.specs.Line.{line_of, by_form, by_name, form_of as form_of_name, first_of, has_second as has_second_of, made_by, read_words as read_words_of, Asks};
 ghost use Rattle.ov_model.specs.Words.{words_of as words_in_text, is_note as is_note_of, next_word as next_word_of, without_blanks as without_blanks_of};
-ghost use Rattle.ov_cmd.specs.Asked.{AsksAny, AsksBuilt};
+ghost use Rattle.ov_cmd.specs.Asked.{AsksAny};
 ghost use Rattle.ov_cmd.specs.Errors.{Refuses};
 ghost use Rattle.ov_cmd.specs.Following.{next_of};
 ghost use Rattle.ov_cmd.specs.Said.{said, RefusesLine};
@@ -19,7 +18,7 @@ use crate::make::make;
 use crate::next::{Next, blanks, next_word, without_blanks};
 use crate::options::{missing, missing_word};
 use crate::order::read_words;
-use crate::table::{all, built};
+use crate::table::all;
 use crate::values::Values;
 use crate::word::Word;
 use crate::words::words_of;
@@ -186,13 +185,4 @@ pub fn read_line(alloc: Global, line: &[u8]) -> Result<Option<Command>, LineErr>
     ensures err { IfErr result (RefusesLine (line_of all_forms line.now)) }
 {
     read_line_of(alloc, all(), line)
-}
-
-/// The same, of the commands that the program has so far: it is one of these, with no staged table and no added column.
-pub fn read_built_line(alloc: Global, line: &[u8]) -> Result<Option<Command>, LineErr>
-    ensures ok { IfOk result (λ c. line_of built_forms line.now ≡ said c) }
-    ensures asked { IfOk result AsksBuilt }
-    ensures err { IfErr result (RefusesLine (line_of built_forms line.now)) }
-{
-    read_line_of(alloc, built(), line)
 }

@@ -1,7 +1,6 @@
 //! The table of forms: a row for each command. A command is added by adding its row.
 
 ghost use Rattle.std.specs.Prelude.{◌≡◌, map};
-ghost use Rattle.law_forms.specs.Built.{built_forms};
 ghost use Rattle.ov_model.specs.Forms.{all_forms};
 ghost use Rattle.ov_cmd.specs.Table.{form_of};
 
@@ -85,13 +84,6 @@ const KEY: Choice = Choice {
 const ADDED: Choice = Choice {
     letter: "-a",
     reads: Reading::SchemaItems,
-    needed: false,
-    rival: "",
-};
-
-const TO_FILE: Choice = Choice {
-    letter: "-f",
-    reads: Reading::FileName,
     needed: false,
     rival: "",
 };
@@ -307,170 +299,9 @@ static ALL: [Form; 19] = [
     },
 ];
 
-/// The commands that the program has so far.
-static BUILT: [Form; 18] = [
-    Form {
-        name: "init",
-        second: None,
-        whole: false,
-        params: &[CVD],
-        choices: &[SCHEMA, KEY, FILE],
-        maker: Maker::Init,
-    },
-    Form {
-        name: "checkout",
-        second: None,
-        whole: false,
-        params: &[CVD],
-        choices: &[VIDS, TO_FILE],
-        maker: Maker::Checkout,
-    },
-    Form {
-        name: "commit",
-        second: None,
-        whole: false,
-        params: &[CVD],
-        choices: &[VIDS, FILE, MESSAGE],
-        maker: Maker::Commit,
-    },
-    Form {
-        name: "run",
-        second: None,
-        whole: true,
-        params: &[],
-        choices: &[],
-        maker: Maker::Run,
-    },
-    Form {
-        name: "optimize",
-        second: None,
-        whole: false,
-        params: &[CVD],
-        choices: &[THRESHOLD, BUDGET_OR_THRESHOLD],
-        maker: Maker::Optimize,
-    },
-    Form {
-        name: "advise",
-        second: None,
-        whole: false,
-        params: &[CVD],
-        choices: &[BUDGET, RATIO],
-        maker: Maker::Advise,
-    },
-    Form {
-        name: "migrate",
-        second: None,
-        whole: false,
-        params: &[Param {
-            what: "n",
-            reads: Reading::CountTo { most: 1_000_000 },
-        }],
-        choices: &[],
-        maker: Maker::Migrate,
-    },
-    Form {
-        name: "layout",
-        second: None,
-        whole: false,
-        params: &[CVD],
-        choices: &[],
-        maker: Maker::Layout,
-    },
-    Form {
-        name: "log",
-        second: None,
-        whole: false,
-        params: &[CVD],
-        choices: &[],
-        maker: Maker::Log,
-    },
-    Form {
-        name: "drop",
-        second: None,
-        whole: false,
-        params: &[CVD],
-        choices: &[],
-        maker: Maker::DropCvd,
-    },
-    Form {
-        name: "ls",
-        second: None,
-        whole: false,
-        params: &[],
-        choices: &[],
-        maker: Maker::Ls,
-    },
-    Form {
-        name: "checkpoint",
-        second: None,
-        whole: false,
-        params: &[],
-        choices: &[],
-        maker: Maker::Checkpoint,
-    },
-    Form {
-        name: "whoami",
-        second: None,
-        whole: false,
-        params: &[],
-        choices: &[],
-        maker: Maker::Whoami,
-    },
-    Form {
-        name: "tables",
-        second: None,
-        whole: false,
-        params: &[],
-        choices: &[],
-        maker: Maker::Tables,
-    },
-    Form {
-        name: "generate",
-        second: None,
-        whole: false,
-        params: &[CVD, SEED, ROWS, VERSIONS],
-        choices: &[],
-        maker: Maker::Generate,
-    },
-    Form {
-        name: "create_user",
-        second: None,
-        whole: false,
-        params: &[NAME],
-        choices: &[],
-        maker: Maker::CreateUser,
-    },
-    Form {
-        name: "config",
-        second: None,
-        whole: false,
-        params: &[NAME],
-        choices: &[],
-        maker: Maker::Config,
-    },
-    Form {
-        name: "unstage",
-        second: None,
-        whole: false,
-        params: &[Param {
-            what: "user.table",
-            reads: Reading::StagedTable,
-        }],
-        choices: &[],
-        maker: Maker::Unstage,
-    },
-];
-
 /// The forms of every command of the product.
 pub(crate) fn all() -> &'static [Form]
     ensures { map form_of result.now ≡ all_forms }
 {
     &ALL
-}
-
-/// The forms of the commands that the program has so far.
-pub(crate) fn built() -> &'static [Form]
-    ensures { map form_of result.now ≡ built_forms }
-{
-    &BUILT
 }

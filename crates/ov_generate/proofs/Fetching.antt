@@ -15,11 +15,11 @@ use Rattle.ov_generate.specs.Reads.{AreBegun, Begun, HasFetched, IsAfter, IsFirs
 pub bytes_there : (o : Option Set) (set : Set) (vid parent : ℕ) → o ≡ Some set → vid ≡ parent → bytes_for set (vid ∷ []) ≡ bytes_of o parent
 bytes_there o set vid parent is same = ap (λ p. bytes_for set (p ∷ [])) same ∙ sym (ap (λ x. bytes_of x parent) is)
 
-pub version_is_made : (r : Result Committed StoreErr) (name : List ℕ) (count vid parent : ℕ) (old new : Held) (k : IsKnown old.numbers name) (wish : Wish) (t : State) → wish.vids ≡ parent ∷ []
+pub version_is_made : (r : Result Committed StoreErr) (name : List ℕ) (count vid parent : ℕ) (old new : Held) (k : IsKnown old.numbers name) (wish : Wish) (t : State) → wish.vids ≡ parent ∷ [] → wish.added ≡ []
     → IsGrown count (vid + 1) wish.rows → IfOk r (IsCommitted k.set wish t old new) → OnOk r (IsVersionMade name count vid parent old new)
-version_is_made (Ok made) name count vid parent old new k wish t vids grown is =
-    record { set = k.set; named = k.named; wish = wish; vids_are = vids; grown = grown; read = t; made = made; committed = is }
-version_is_made (Err off) name count vid parent old new k wish t vids grown is = tt
+version_is_made (Ok made) name count vid parent old new k wish t vids none grown is =
+    record { set = k.set; named = k.named; wish = wish; vids_are = vids; none_added = none; grown = grown; read = t; made = made; committed = is }
+version_is_made (Err off) name count vid parent old new k wish t vids none grown is = tt
 
 module _ (name : List ℕ) (seed count : ℕ) (before : Held) (old : State) where
   -- so many versions were made

@@ -61,7 +61,7 @@ product_most n k le most = grind arith
 hundredth : (count : ℕ) → count ≤ 1000000 → fresh_most count ≤ 10002
 hundredth count most = grind arith
 
-module _ (w : World) (name : List ℕ) (number count : ℕ) (g : Grown) (h : HasGrown w name number count g) (wish : Wish) (vids_are : wish.vids ≡ (parent_next g).is ∷ []) (message_is : wish.message ≡ codes "gen")
+module _ (w : World) (name : List ℕ) (number count : ℕ) (g : Grown) (h : HasGrown w name number count g) (wish : Wish) (vids_are : wish.vids ≡ (parent_next g).is ∷ []) (message_is : wish.message ≡ codes "gen") (none_added : wish.added ≡ [])
     (rows_are : wish.rows ≡ (rows_next count g).is) (versions : length g.done + 1 ≤ 65535) (most : count + (length g.done + 1) ≤ 1000000) where
   rows_grown : IsGrown count (length g.done + 1 + 1) (rows_next count g).is
   rows_grown = next_grown w name number count g h
@@ -71,8 +71,17 @@ module _ (w : World) (name : List ℕ) (number count : ℕ) (g : Grown) (h : Has
       (λ i. in_key_order (h.schema_is i) (rows_are i))
       ∙ in-order generated_schema (rows_next count g).is (begin-ordered count 1 (count + (length g.done + 1 + 1)) (rows_next count g).is rows_grown)
 
-  pub move_is : commit_move h.set wish.vids wish.message wish.rows ≡ move_next number count g
-  move_is = λ i. Commit (h.number_is i) (vids_are i) (message_is i) [] (ordered i)
+  -- what is asked adds no columns
+  abbrev plain : Wish
+  plain = record { vids = wish.vids; message = wish.message; added = []; rows = wish.rows }
+
+  wish_is : wish ≡ plain
+  wish_is = λ i. record { vids = wish.vids; message = wish.message; added = none_added i; rows = wish.rows }
+
+  pub move_is : commit_move h.set wish.vids wish.message wish.added wish.rows ≡ move_next number count g
+  move_is =
+      ap (λ (x : Wish). commit_move h.set x.vids x.message x.added x.rows) wish_is
+      ∙ (λ i. Commit (h.number_is i) (vids_are i) (message_is i) [] (ordered i))
 
   pub committed_is : committed name wish w ≡ moved (move_next number count g) w
   committed_is = ap (λ o. with_commit o wish w) h.named ∙ ap (λ m. moved m w) move_is
@@ -96,9 +105,9 @@ module _ (w : World) (name : List ℕ) (number count : ℕ) (g : Grown) (h : Has
       below_full : nat_le 65535 (length g.done) ≡ false
       below_full = grind arith
 
-  few_fresh : length (order_of h.set.cvd.versions) + fresh_in_world h.set wish ≤ 2 ^ 31
+  few_fresh : length (order_of h.set.cvd.versions) + fresh_in_world h.set plain ≤ 2 ^ 31
   few_fresh =
-      let fresh_is : fresh_in_world h.set wish ≡ fresh_of h.set ((parent_next g).is ∷ []) (codes "gen") (rows_next count g).is
+      let fresh_is : fresh_in_world h.set plain ≡ fresh_of h.set ((parent_next g).is ∷ []) (codes "gen") (rows_next count g).is
       = λ i. fresh_of h.set (vids_are i) (message_is i) (ordered i)
       in omega (
         arith,
@@ -111,10 +120,11 @@ module _ (w : World) (name : List ℕ) (number count : ℕ) (g : Grown) (h : Has
 
   pub none_refused : version_refusal w h.set wish ≡ None
   none_refused =
-      ap (λ o. option_or o (content_refusal w h.set wish)) parents_pass
-      ∙ ap (λ o. option_or o (records_refusal h.set (fresh_in_world h.set wish)))
+      ap (version_refusal w h.set) wish_is
+      ∙ ap (λ o. option_or o (content_refusal w h.set plain)) parents_pass
+      ∙ ap (λ o. option_or o (records_refusal h.set (fresh_in_world h.set plain)))
       ((λ i. rows_refusal w (h.schema_is i) false (rows_are i)) ∙ rows_pass w count (length g.done + 1 + 1) (rows_next count g).is rows_grown (omega arith) (omega (arith, most)))
-      ∙ ap (λ b. if_so b (no.TooManyRecords h.set.cvd.name)) (le-ltb (2 ^ 31) (length (order_of h.set.cvd.versions) + fresh_in_world h.set wish) few_fresh)
+      ∙ ap (λ b. if_so b (no.TooManyRecords h.set.cvd.name)) (le-ltb (2 ^ 31) (length (order_of h.set.cvd.versions) + fresh_in_world h.set plain) few_fresh)
 
   module _ (before : Held) (old mid new : State) (at : IsAtWorld w before old) (looked : Looked old mid) where
     abbrev m : Move
@@ -129,7 +139,7 @@ module _ (w : World) (name : List ℕ) (number count : ℕ) (g : Grown) (h : Has
         (subst (λ (v : World). Only mid.tape new.tape (IsEither w v (printed_of mid))) committed_is only)
 
     pub is_moved : (now : Held) → Only mid.tape new.tape (IsEither w (committed name wish w) (printed_of mid)) → IsAtNext (committed name wish w) now mid new
-        → ((entry : Entry) (past : List Made) → IsWithin entry past before → IsWithin entry (and_made past (commit_move h.set wish.vids wish.message wish.rows) w) now)
+        → ((entry : Entry) (past : List Made) → IsWithin entry past before → IsWithin entry (and_made past (commit_move h.set wish.vids wish.message wish.added wish.rows) w) now)
         → IsMoved m w before now old new
     is_moved now only next within = record {
       stops = stops_from only;
@@ -141,7 +151,7 @@ module _ (w : World) (name : List ℕ) (number count : ℕ) (g : Grown) (h : Has
     }
 
     pub un_moved : (off : StoreErr) → Only mid.tape new.tape (IsEither w (committed name wish w) (printed_of mid)) → IsRefusedAs name (version_refusal w h.set wish) off
-        → ((entry : Entry) (past : List Made) → IsWithin entry past before → IsLack entry past (commit_move h.set wish.vids wish.message wish.rows) w off)
+        → ((entry : Entry) (past : List Made) → IsWithin entry past before → IsLack entry past (commit_move h.set wish.vids wish.message wish.added wish.rows) w off)
         → IsUnmoved m w before old new off
     un_moved off only refused lack =
         by off (subst (λ o. IsRefusedAs name o off) none_refused refused) (λ entry past in_. subst (λ (x : Move). IsLack entry past x w off) move_is (lack entry past in_))

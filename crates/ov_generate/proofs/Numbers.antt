@@ -13,13 +13,17 @@ use Rattle.ov_place.specs.declared.place_facts.Place.{Place}
 use Rattle.ov_catalog.specs.Events.{Commit, Init, applied, change, new_set, numbered, version_of, with_version}
 use Rattle.ov_catalog.specs.Numbers.{Numbers}
 use Rattle.ov_catalog.specs.Raw.{event_in}
+use Rattle.ov_event.specs.declared.event.Event as raw
+use Rattle.ov_new_version.specs.Asked.{Asked}
+use Rattle.ov_new_version.specs.Commits.{event_for}
+use Rattle.ov_value.specs.declared.column.Column.{Column}
 use Rattle.ov_core.specs.Brought.{with_extents}
 use Rattle.ov_core.specs.Held.{Held}
 use Rattle.ov_model.specs.Book.{Row}
 use Rattle.ov_model.specs.Generator.{generated_schema}
 use Rattle.ov_store.specs.Beginning.{first_of}
 use Rattle.ov_store.specs.Changes.{IsDone}
-use Rattle.ov_store.specs.Committing.{IsCommitted, Set, Wish}
+use Rattle.ov_store.specs.Committing.{IsCommitted, Set, Wish, asked_of}
 use Rattle.ov_store.specs.Refusals.{new_off, off_if}
 use Rattle.ov_store.specs.declared.errors.StoreErr.{StoreErr}
 use Rattle.ov_store.specs.declared.errors.StoreErr.TheVariants as why
@@ -104,9 +108,14 @@ more_known n name k number vid message parents rows fresh place added list segme
     let later = changed_found number (with_version (version_of parents message rows fresh list) place added segments) name (λ x. refl) (λ x. refl) n.sets k.set k.named
     in record { set = later.0; named = later.1; schema_is = later.2 ∙ k.schema_is }
 
-pub known_more : (name : List ℕ) (old new : Held) (k : IsKnown old.numbers name) (wish : Wish) (t : State) (made : Committed) → IsCommitted k.set wish t old new made
+-- the event of a version that brings no columns
+event_alone : (a : Asked) (held list segment : List ℕ) (e : raw.Event) → e ≡ event_for a held list segment → a.added ≡ [] → e ≡ event_for (record a { added = [] }) held list segment
+event_alone a held list segment e is none = is ∙ ap (λ (added : List Column). event_for (record a { added = added }) held list segment) none
+
+pub known_more : (name : List ℕ) (old new : Held) (k : IsKnown old.numbers name) (wish : Wish) (t : State) (made : Committed) → wish.added ≡ [] → IsCommitted k.set wish t old new made
     → IsKnown new.numbers name
-known_more name old new k wish t made done =
+known_more name old new k wish t made none done =
     subst (λ n. IsKnown n name)
-    (sym (done.done.applied_is ∙ ap (λ e. applied (event_in (with_extents done.done.l done.done.s e)) old.numbers) done.by.commit.event_is))
+    (sym (done.done.applied_is ∙ ap (λ e. applied (event_in (with_extents done.done.l done.done.s e)) old.numbers)
+    (event_alone (asked_of k.set wish done.by.parents) done.by.commit.held done.brought.list done.brought.segment done.brought.event done.by.commit.event_is none)))
     (more_known old.numbers name k _ (length k.set.versions + 1) _ _ _ _ _ _ done.done.l _)

@@ -224,13 +224,13 @@ unread_damage held name parent count vid old new off looked unread = by off unre
     by why.NoNumbers u = tt
     by (why.FormatOne row) u = tt
 
-pub commit_damage : {A : Type 0} (r : Result A StoreErr) (held : Held) (name : List ℕ) (parent count vid : ℕ) (wish : Wish) (k l : Kept) (mid new : State) → wish.vids ≡ parent ∷ []
+pub commit_damage : {A : Type 0} (r : Result A StoreErr) (held : Held) (name : List ℕ) (parent count vid : ℕ) (wish : Wish) (k l : Kept) (mid new : State) → wish.vids ≡ parent ∷ [] → wish.added ≡ []
     → IfErr r (IsUncommitted held name wish mid new) → IfErr r (λ off. Stays off k l mid new) → IfErr r (IsDamageOf (HasDamage held name parent count vid new))
-commit_damage (Ok x) held name parent count vid wish k l mid new vids why_ stays = tt
-commit_damage (Err off) held name parent count vid wish k l mid new vids why_ stays = by off why_ stays
+commit_damage (Ok x) held name parent count vid wish k l mid new vids none why_ stays = tt
+commit_damage (Err off) held name parent count vid wish k l mid new vids none why_ stays = by off why_ stays
   where
     by : (e : StoreErr) → IsUncommitted held name wish mid new e → Stays e k l mid new → IsDamageOf (HasDamage held name parent count vid new) e
-    by (why.Damaged area at) u s = (u.0, record { before = mid; looked = s.1; damaged = inr (inr (wish, vids, u.2)) })
+    by (why.Damaged area at) u s = (u.0, record { before = mid; looked = s.1; damaged = inr (inr (wish, vids, none, u.2)) })
     by why.Host u s = tt
     by why.Memory u s = tt
     by (why.Full pages) u s = tt

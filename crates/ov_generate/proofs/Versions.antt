@@ -46,31 +46,31 @@ pub child_is : (g : Grown) (count vid rows state : ℕ) (parent : List Row) → 
     → child_of rows vid state parent ≡ rows_next count g
 child_is g count vid rows state parent r long s p = λ i. child_of (r i) (sym long i) (s i) (p i)
 
-pub known_ok : (r : Result Committed StoreErr) (name : List ℕ) (old new : Held) (k : IsKnown old.numbers name) (wish : Wish) (t : State) → IfOk r (IsCommitted k.set wish t old new)
+pub known_ok : (r : Result Committed StoreErr) (name : List ℕ) (old new : Held) (k : IsKnown old.numbers name) (wish : Wish) (t : State) → wish.added ≡ [] → IfOk r (IsCommitted k.set wish t old new)
     → IfOk r (λ made. IsKnown new.numbers name)
-known_ok (Ok made) name old new k wish t done = known_more name old new k wish t made done
-known_ok (Err off) name old new k wish t done = tt
+known_ok (Ok made) name old new k wish t none done = known_more name old new k wish t made none done
+known_ok (Err off) name old new k wish t none done = tt
 
 pub rows_ok : (r : Result Committed StoreErr) (s : Set) (wish : Wish) (t : State) (old new : Held) → IfOk r (IsCommitted s wish t old new) → length wish.rows ≤ 1000000
     → IfOk r (λ made. made.rows ≤ 1000000)
 rows_ok (Ok made) s wish t old new done few = omega (arith, done.rows_is, few)
 rows_ok (Err off) s wish t old new done few = tt
 
-module _ (w : World) (name : List ℕ) (number count : ℕ) (g : Grown) (h : HasGrown w name number count g) (wish : Wish) (vids_are : wish.vids ≡ (parent_next g).is ∷ []) (message_is : wish.message ≡ codes "gen")
+module _ (w : World) (name : List ℕ) (number count : ℕ) (g : Grown) (h : HasGrown w name number count g) (wish : Wish) (vids_are : wish.vids ≡ (parent_next g).is ∷ []) (message_is : wish.message ≡ codes "gen") (none_added : wish.added ≡ [])
     (rows_are : wish.rows ≡ (rows_next count g).is) (versions : length g.done + 1 ≤ 65535) (most : count + (length g.done + 1) ≤ 1000000)
     (before after : Held) (old mid new : State) (at : IsAtWorld w before old) (looked : Looked old mid) (stops : Only mid.tape new.tape (IsEither w (committed name wish w) (printed_of mid)))
     (drawn : ℕ) (drawn_is : drawn ≡ (grown_more count g).state) where
   pub version_made : (r : Result Committed StoreErr) (s : Set) (t : State) → OnOk r (IsAtNext (committed name wish w) after mid new)
       → MatchResult r (λ made. version_refusal w h.set wish ≡ None) (IsRefusedAs name (version_refusal w h.set wish))
       → ((entry : Entry) (past : List Made) → IsWithin entry past before
-      → MatchResult r (λ made. IsWithin entry (and_made past (commit_move h.set wish.vids wish.message wish.rows) w) after) (IsLack entry past (commit_move h.set wish.vids wish.message wish.rows) w))
+      → MatchResult r (λ made. IsWithin entry (and_made past (commit_move h.set wish.vids wish.message wish.added wish.rows) w) after) (IsLack entry past (commit_move h.set wish.vids wish.message wish.added wish.rows) w))
       → IfOk r (IsCommitted s wish t before after)
       → MatchResult r (λ made. IsMoved (move_next number count g) w before after old new × (drawn ≡ (grown_more count g).state) × (made.rows ≡ length (rows_next count g).is))
       (IsUnmoved (move_next number count g) w before old new)
   version_made (Ok made) s t moves refused room done = (
-    is_moved w name number count g h wish vids_are message_is rows_are versions most before old mid new at looked after stops moves room,
+    is_moved w name number count g h wish vids_are message_is none_added rows_are versions most before old mid new at looked after stops moves room,
     drawn_is,
     done.rows_is ∙ ap (λ (l : List Row). length l) rows_are,
   )
   version_made (Err off) s t moves refused room done =
-      un_moved w name number count g h wish vids_are message_is rows_are versions most before old mid new at looked off stops refused room
+      un_moved w name number count g h wish vids_are message_is none_added rows_are versions most before old mid new at looked off stops refused room

@@ -76,7 +76,7 @@ pub record HasDamage (held : Held) (name : List ℕ) (parent count vid : ℕ) (s
   pub looked : Looked before s
   pub damaged : IsDamagedIn (set_in held.numbers name) (parent ∷ []) before page
       ⊎ (IsNotGrownIn (set_in held.numbers name) parent count vid before page
-      ⊎ ((wish : Wish) × (wish.vids ≡ parent ∷ []) × IfSet (λ set. IsDamagedAt set wish before page) (set_in held.numbers name)))
+      ⊎ ((wish : Wish) × (wish.vids ≡ parent ∷ []) × (wish.added ≡ []) × IfSet (λ set. IsDamagedAt set wish before page) (set_in held.numbers name)))
 
 -- of one of so many versions
 pub record HasDamagedVersion (held : Held) (name : List ℕ) (count versions : ℕ) (s : State) (page : ℕ) : Type 0 where

@@ -32,6 +32,7 @@ pub record IsVersionMade (name : List ℕ) (count vid parent : ℕ) (before now 
   pub named : set_in before.numbers name ≡ Some set
   pub wish : Wish
   pub vids_are : wish.vids ≡ parent ∷ []
+  pub none_added : wish.added ≡ []
   pub grown : IsGrown count (vid + 1) wish.rows
   pub read : State
   pub made : Committed

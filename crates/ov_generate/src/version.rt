@@ -68,5 +68,5 @@ pub(crate) fn add_version<H: Host>(
     let rows = parent_rows(alloc, store, host, cvd, parent, count, vid)?;
     let rows = child_table(alloc, source, vid, rows)?;
     let vids = [u64::from(parent)];
-    store.commit(host, cvd, &vids, rows, message)
+    store.commit(host, cvd, &vids, &[], rows, message)
 }

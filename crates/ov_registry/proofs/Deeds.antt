@@ -176,7 +176,7 @@ vid_passes count some =
 module _ (w : World) (name : List ℕ) (rows : List Row) (d : Dataset) (is : set_named w name ≡ Some d) (some : 1 ≤ length d.cvd.versions)
     (once : repeated_key d.cvd.schema [] 1 rows ≡ None) (ordered : length rows ≤ 1000000 → in_key_order d.cvd.schema rows ≡ rows) where
   abbrev pub plain : Wish
-  plain = record { vids = last_alone d; message = codes "stage"; rows = rows }
+  plain = record { vids = last_alone d; message = codes "stage"; added = []; rows = rows }
 
   abbrev many : Option Refusal
   many = if_so (nat_lt 1000000 (length rows)) no.TooManyRows
@@ -210,7 +210,7 @@ module _ (w : World) (name : List ℕ) (rows : List Row) (d : Dataset) (is : set
       not_many (length rows)
       (none_first many (option_or nulls (own rows)) (none_second (full name) _ (sym (ap (change_refusal w name rows) is) ∙ e)))
 
-  pub move_is : version_refusal w d plain ≡ None → commit_move d (last_alone d) (codes "stage") rows ≡ Commit d.cvd.number (last_alone d) (codes "stage") [] rows
+  pub move_is : version_refusal w d plain ≡ None → commit_move d (last_alone d) (codes "stage") [] rows ≡ Commit d.cvd.number (last_alone d) (codes "stage") [] rows
   move_is none = ap (λ (l : List Row). Commit d.cvd.number (last_alone d) (codes "stage") [] l) (ordered (few_rows (sym version_is ∙ none)))
 
   module _ (s t : Session) (schema : Shape) (reply : Reply) where
@@ -220,7 +220,7 @@ module _ (w : World) (name : List ℕ) (rows : List Row) (d : Dataset) (is : set
     pub version_refused : (refusal : Refusal) → version_refusal w d plain ≡ Some refusal → deed_is ≡ refuses s refusal
     version_refused refusal off = ap (λ o. unless s o (does t (change_of name schema rows (set_named w name)) reply)) (sym version_is ∙ off)
 
-    pub version_done : version_refusal w d plain ≡ None → deed_is ≡ does t (commit_move d (last_alone d) (codes "stage") rows) reply
+    pub version_done : version_refusal w d plain ≡ None → deed_is ≡ does t (commit_move d (last_alone d) (codes "stage") [] rows) reply
     version_done none =
         ap (λ o. unless s o (does t (change_of name schema rows (set_named w name)) reply)) (sym version_is ∙ none)
         ∙ ap (λ o. does t (change_of name schema rows o) reply) is
@@ -228,10 +228,10 @@ module _ (w : World) (name : List ℕ) (rows : List Row) (d : Dataset) (is : set
 
     module _ (x : Wish) (same : x ≡ plain) (before after : Kept) (old new : State) (at : IsAtWorld w before.held old) where
       abbrev m : Move
-      m = commit_move d (last_alone d) (codes "stage") rows
+      m = commit_move d (last_alone d) (codes "stage") [] rows
 
       world_is : committed name x w ≡ moved m w
-      world_is = ap (λ o. with_commit o x w) is ∙ ap (λ (y : Wish). moved (commit_move d y.vids y.message y.rows) w) same
+      world_is = ap (λ o. with_commit o x w) is ∙ ap (λ (y : Wish). moved (commit_move d y.vids y.message y.added y.rows) w) same
 
       off_is : version_refusal w d x ≡ version_refusal w d plain
       off_is = ap (λ (y : Wish). version_refusal w d y) same
@@ -240,22 +240,22 @@ module _ (w : World) (name : List ℕ) (rows : List Row) (d : Dataset) (is : set
       stops_is stops = subst (λ (v : World). Only old.tape new.tape (IsEither w v (printed_of old))) world_is stops
 
       pub version_made : version_refusal w d x ≡ None → Only old.tape new.tape (IsEither w (committed name x w) (printed_of old)) → IsAtNext (committed name x w) after.held old new
-          → ((entry : Entry) (past : List Made) → IsWithin entry past before.held → IsWithin entry (and_made past (commit_move d x.vids x.message x.rows) w) after.held)
+          → ((entry : Entry) (past : List Made) → IsWithin entry past before.held → IsWithin entry (and_made past (commit_move d x.vids x.message x.added x.rows) w) after.held)
           → Does deed_is s t w reply before.held after.held old new
       version_made none stops next within =
           done_by w s t deed_is m reply name (version_refusal w d plain) version_refused version_done before after old new at (sym off_is ∙ none) (stops_is stops)
           (subst (λ (v : World). IsAtNext v after.held old new) world_is next)
-          (λ entry past in_. subst (λ (y : Wish). IsWithin entry (and_made past (commit_move d y.vids y.message y.rows) w) after.held) same (within entry past in_))
+          (λ entry past in_. subst (λ (y : Wish). IsWithin entry (and_made past (commit_move d y.vids y.message y.added y.rows) w) after.held) same (within entry past in_))
 
       pub version_ends : (e : StoreErr) → IsRefusedAs name (version_refusal w d x) e
-          → ((entry : Entry) (past : List Made) → IsWithin entry past before.held → IsLack entry past (commit_move d x.vids x.message x.rows) w e)
+          → ((entry : Entry) (past : List Made) → IsWithin entry past before.held → IsLack entry past (commit_move d x.vids x.message x.added x.rows) w e)
           → Stays e before after old new → Only old.tape new.tape (IsEither w (committed name x w) (printed_of old))
           → ((refusal : Refusal) → version_refusal w d x ≡ Some refusal → Only old.tape new.tape (IsWorld w (printed_of old)))
           → Ends name deed_is s w before.held after.held old new e
       version_ends e refused lack stays stops still =
           ends_by w s t deed_is m reply name (version_refusal w d plain) version_refused version_done before after old new at e
           (subst (λ o. IsRefusedAs name o e) off_is refused)
-          (λ entry past in_. subst (λ (y : Wish). IsLack entry past (commit_move d y.vids y.message y.rows) w e) same (lack entry past in_))
+          (λ entry past in_. subst (λ (y : Wish). IsLack entry past (commit_move d y.vids y.message y.added y.rows) w e) same (lack entry past in_))
           stays (stops_is stops) (λ refusal off. still refusal (off_is ∙ off))
 
 -- ---- rows in their order

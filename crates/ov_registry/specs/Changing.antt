@@ -38,13 +38,13 @@ pub record IsOrdered (schema : Shape) (rows made : List Row) : Type 0 where
 
 -- a version of these rows, whose one parent is the last one
 abbrev pub wish_of : Set → List Row → Wish
-wish_of set rows = record { vids = length set.versions ∷ []; message = codes "stage"; rows = rows }
+wish_of set rows = record { vids = length set.versions ∷ []; message = codes "stage"; added = []; rows = rows }
 
 -- nothing refused it
 abbrev pub IsMade : Option Set → List ℕ → Shape → List Row → State → Held → Held → Type 0
 IsMade None name schema rows old before now = (init_off before name schema rows ≡ None) × IsDone (first_of name schema rows) before now
 IsMade (Some set) name schema rows old before now =
-    (commit_off before name (length set.versions ∷ []) rows ≡ None) × ((made : Committed) × IsCommitted set (wish_of set rows) old before now made)
+    (commit_off before name (length set.versions ∷ []) [] rows ≡ None) × ((made : Committed) × IsCommitted set (wish_of set rows) old before now made)
 
 abbrev pub IsUnmade : Option Set → List ℕ → Shape → List Row → State → State → Held → StoreErr → Type 0
 IsUnmade None name schema rows old new held off = IsWhy (init_off held name schema rows) (first_of name schema rows) held old new off

@@ -147,7 +147,7 @@ fn add_version<H: Host>(
         (Ends name.now (changes_to w s t name.now schema rows reply (set_named w name.now)) s w store.old.held store.new.held (H.state host.old) (H.state host.new)) }
 {
     let vids = [last];
-    match store.commit(host, name.as_str(), &vids, rows, message) {
+    match store.commit(host, name.as_str(), &vids, &[], rows, message) {
         Ok(_made) => Ok(()),
         Err(off) => Err(off),
     }

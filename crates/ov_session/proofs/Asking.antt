@@ -1,5 +1,5 @@
 -- A command before its rows are stored: from the catalog and its file.
-use Rattle.std.proofs.Common.{◌≡◌, ◌∙◌, ◌==◌, ℕ, Bool, true, false, List, [], length, Some, None, refl, sym, ap, subst}
+use Rattle.std.proofs.Common.{◌≡◌, ◌∙◌, ◌==◌, ℕ, Bool, true, false, List, [], ◌∷◌, length, Some, None, refl, sym, ap, subst}
 use Rattle.std.specs.Prelude.{IfOk, Option, Ok, Err, Result, nat_le}
 use Rattle.std.specs.Option.{option_or}
 use Rattle.std.specs.FinMap.{get}
@@ -11,7 +11,9 @@ use Rattle.ov_core.specs.Held.{Held}
 use Rattle.law_runs.proofs.Doing.{breaks_looked, does_told}
 use Rattle.law_runs.specs.Serving.{Does, files_of}
 use Rattle.ov_files.specs.Files.{file_rows}
-use Rattle.ov_model.specs.Act.{Deed, Session, commit_deed, commit_refusal, commit_rows, from_file, init_deed, init_refusal, refuses, unless, with_file, with_rows}
+use Rattle.ov_model.specs.Act.{Deed, Session, commit_deed, commit_refusal, commit_rows, commit_under, from_file, init_deed, init_refusal, refuses, schema_with, unless, with_file, with_rows}
+use Rattle.ov_model.specs.Forms.{schema_refusal}
+use Rattle.ov_model.specs.Moves.{accepted_or, wide}
 use Rattle.ov_model.specs.Book.{Row}
 use Rattle.ov_model.specs.World.{Dataset, World, set_named}
 use Rattle.ov_model.specs.declared.refusal.Refusal.{Refusal}
@@ -19,7 +21,12 @@ use Rattle.ov_model.specs.declared.refusal.Refusal.TheVariants as no
 use Rattle.ov_model.specs.declared.reply.Reply.{Reply}
 use Rattle.ov_model.specs.declared.reply.Reply.TheVariants as says
 use Rattle.ov_session.proofs.Calls.{acts_by}
-use Rattle.ov_session.specs.Commands.{Acts, begun}
+use Rattle.ov_session.specs.Commands.{Acts, IsAskedOf, IsFoundBy, begun}
+use Rattle.ov_session.specs.declared.changing.Asked.{Asked}
+use Rattle.ov_session.specs.declared.changing.Asked.TheVariants as asked
+use Rattle.ov_store.specs.Committing.{adds}
+use Rattle.ov_value.specs.declared.column.Column.{Column}
+use Rattle.ov_value.specs.declared.schema_err.SchemaErr.{SchemaErr}
 use Rattle.ov_session.specs.Errors.{reply_of}
 use Rattle.ov_session.specs.declared.errors.EndErr.{EndErr}
 use Rattle.std.specs.List.{list_any}
@@ -91,46 +98,67 @@ module _ (w : World) (s : Session) (cvd : List ℕ) (schema : Shape) (file : Lis
 
 -- ---- a version
 
-module _ (w : World) (s : Session) (name cvd vids message file : List ℕ) (same : name ≡ cvd) where
-  deed_of : Option Dataset → Deed
-  deed_of o = commit_deed w s cvd vids message [] file o
+ok_is : (a b : Shape) → (let one : Result Shape SchemaErr = Ok a in one) ≡ Ok b → a ≡ b
+ok_is a b e = cc
 
-  commit_by : (d : Dataset) (schema : Shape) (files : Map) (found : Result (List Row) Refusal) → s.files ≡ files_of files → schema ≡ d.cvd.schema
-      → commit_refusal d vids ≡ None → found ≡ file_rows schema file (get files file)
-      → commit_deed w s cvd vids message [] file (Some d) ≡ with_rows w s d.cvd.schema false (commit_rows s d vids message []) found
-  commit_by d schema files found are has none is =
-      ap (λ o. unless s o (from_file w s d.cvd.schema false file (commit_rows s d vids message []))) none
-      ∙ from_file_is w s d.cvd.schema false file (commit_rows s d vids message []) files found are (is ∙ ap (λ x. file_rows x file (get files file)) has)
+-- the dataset's schema with the columns is the one that they are accepted by
+wide_is : (added : List Column) (d : Dataset) (schema : Shape) → schema_with d.cvd.schema added ≡ Ok schema → (wide added d).cvd.schema ≡ schema
+wide_is [] d schema is = ok_is d.cvd.schema schema is
+wide_is (column ∷ added) d schema is = ap (accepted_or d.cvd.schema) is
 
-  pub asked_rows : (schema : Shape) (files : Map) (rows : List Row) → s.files ≡ files_of files → parents_refusal w name vids ≡ None → HasSchema schema (set_named w name)
-      → Ok rows ≡ file_rows schema file (get files file)
-      → IfThere (λ d. (commit_refusal d vids ≡ None) × (commit_deed w s cvd vids message [] file (Some d) ≡ with_rows w s d.cvd.schema false (commit_rows s d vids message []) (Ok rows)))
-      (set_named w cvd)
-  asked_rows schema files rows are none has is =
-      subst (λ (n : List ℕ). IfThere (λ d. (commit_refusal d vids ≡ None) × (commit_deed w s cvd vids message [] file (Some d) ≡ with_rows w s d.cvd.schema false (commit_rows s d vids message []) (Ok rows))) (set_named w n))
-      same (by (set_named w name) none has)
-    where
-      by : (o : Option Dataset) → parents_of_set name vids o ≡ None → HasSchema schema o
-          → IfThere (λ d. (commit_refusal d vids ≡ None) × (commit_deed w s cvd vids message [] file (Some d) ≡ with_rows w s d.cvd.schema false (commit_rows s d vids message []) (Ok rows))) o
-      by None none has = absurd has
-      by (Some d) none has = (none, commit_by d schema files (Ok rows) are has none is)
+module _ (w : World) (s : Session) (name cvd vids message : List ℕ) (added : List Column) (file : List ℕ) (same : name ≡ cvd) where
+  abbrev deed_under : Dataset → Result Shape SchemaErr → Deed
+  deed_under d schema = commit_under w s d vids message added file schema
 
-  pub asked_refused : (schema : Shape) (files : Map) (refusal : Refusal) → s.files ≡ files_of files → parents_refusal w name vids ≡ None → HasSchema schema (set_named w name)
-      → Err refusal ≡ file_rows schema file (get files file) → commit_deed w s cvd vids message [] file (set_named w cvd) ≡ refuses s refusal
-  asked_refused schema files refusal are none has is =
-      subst (λ (n : List ℕ). commit_deed w s cvd vids message [] file (set_named w n) ≡ refuses s refusal) same (by (set_named w name) none has)
-    where
-      by : (o : Option Dataset) → parents_of_set name vids o ≡ None → HasSchema schema o → commit_deed w s cvd vids message [] file o ≡ refuses s refusal
-      by None none has = absurd has
-      by (Some d) none has = commit_by d schema files (Err refusal) are has none is
+  abbrev deed_by : Dataset → Result (List Row) Refusal → Deed
+  deed_by d found = with_rows w s (wide added d).cvd.schema (adds added) (commit_rows s d vids message added) found
 
-  pub asked_off : (refusal : Refusal) → parents_refusal w name vids ≡ Some refusal → commit_deed w s cvd vids message [] file (set_named w cvd) ≡ refuses s refusal
+  commit_is : (d : Dataset) (schema : Result Shape SchemaErr) → schema_with d.cvd.schema added ≡ schema → commit_refusal d vids ≡ None
+      → commit_deed w s cvd vids message added file (Some d) ≡ deed_under d schema
+  commit_is d schema is none = ap (λ (o : Option Refusal). unless s o (deed_under d (schema_with d.cvd.schema added))) none ∙ ap (deed_under d) is
+
+  commit_by : (d : Dataset) (schema : Shape) (files : Map) (found : Result (List Row) Refusal) → s.files ≡ files_of files → schema_with d.cvd.schema added ≡ Ok schema
+      → commit_refusal d vids ≡ None → found ≡ file_rows schema file (get files file) → commit_deed w s cvd vids message added file (Some d) ≡ deed_by d found
+  commit_by d schema files found are with none is =
+      commit_is d (Ok schema) with none
+      ∙ from_file_is w s schema (adds added) file (commit_rows s d vids message added) files found are is
+      ∙ ap (λ (x : Shape). with_rows w s x (adds added) (commit_rows s d vids message added) found) (sym (wide_is added d schema with))
+
+  -- what was asked, of a dataset that is there or isn't
+  abbrev AskedIn : Option Dataset → Asked → Type 0
+  AskedIn o (asked.Rows rows) = IfThere (λ d. (commit_refusal d vids ≡ None) × (commit_deed w s cvd vids message added file (Some d) ≡ deed_by d (Ok rows))) o
+  AskedIn o (asked.Said reply) = (refusal : Refusal) × (reply ≡ says.Refused refusal) × (commit_deed w s cvd vids message added file o ≡ refuses s refusal)
+
+  asked_of : (o : Option Dataset) (found : Asked) → set_named w cvd ≡ o → AskedIn o found → IsAskedOf w s cvd vids message added file found
+  asked_of o (asked.Rows rows) is so =
+      subst (λ (x : Option Dataset). IfThere (λ d. (commit_refusal d vids ≡ None) × (commit_deed w s cvd vids message added file (Some d) ≡ deed_by d (Ok rows))) x) (sym is) so
+  asked_of o (asked.Said reply) is so = (so.0, so.1, ap (commit_deed w s cvd vids message added file) is ∙ so.2)
+
+  module _ (files : Map) (are : s.files ≡ files_of files) where
+    found_by : (d : Dataset) (schema : Result Shape SchemaErr) (found : Asked) → schema_with d.cvd.schema added ≡ schema → commit_refusal d vids ≡ None
+        → IsFoundBy schema file files found → AskedIn (Some d) found
+    found_by d (Ok schema) (asked.Rows rows) is none so = (none, commit_by d schema files (Ok rows) are is none (sym so))
+    found_by d (Ok schema) (asked.Said reply) is none so = (so.0, so.1, commit_by d schema files (Err so.0) are is none (sym so.2))
+    found_by d (Err why) (asked.Rows rows) is none so = absurd so
+    found_by d (Err why) (asked.Said reply) is none so = (schema_refusal why, so, commit_is d (Err why) is none)
+
+    pub asked_found : (schema : Shape) (found : Asked) → parents_refusal w name vids ≡ None → HasSchema schema (set_named w name)
+        → IsFoundBy (schema_with schema added) file files found → IsAskedOf w s cvd vids message added file found
+    asked_found schema found none has so = by (set_named w name) (sym (ap (set_named w) same)) none has
+      where
+        by : (o : Option Dataset) → set_named w cvd ≡ o → parents_of_set name vids o ≡ None → HasSchema schema o → IsAskedOf w s cvd vids message added file found
+        by None is none has = absurd has
+        by (Some d) is none has =
+            asked_of (Some d) found is
+            (found_by d (schema_with d.cvd.schema added) found refl none (subst (λ (x : Shape). IsFoundBy (schema_with x added) file files found) has so))
+
+  pub asked_off : (refusal : Refusal) → parents_refusal w name vids ≡ Some refusal → commit_deed w s cvd vids message added file (set_named w cvd) ≡ refuses s refusal
   asked_off refusal is =
-      subst (λ (n : List ℕ). commit_deed w s cvd vids message [] file (set_named w n) ≡ refuses s refusal) same (by (set_named w name) (subst (λ (n : List ℕ). parents_of_set n vids (set_named w name) ≡ Some refusal) same is))
+      subst (λ (n : List ℕ). commit_deed w s cvd vids message added file (set_named w n) ≡ refuses s refusal) same (by (set_named w name) (subst (λ (n : List ℕ). parents_of_set n vids (set_named w name) ≡ Some refusal) same is))
     where
-      by : (o : Option Dataset) → parents_of_set cvd vids o ≡ Some refusal → commit_deed w s cvd vids message [] file o ≡ refuses s refusal
+      by : (o : Option Dataset) → parents_of_set cvd vids o ≡ Some refusal → commit_deed w s cvd vids message added file o ≡ refuses s refusal
       by None is = ap (refuses s) (cc)
-      by (Some d) is = ap (λ o. unless s o (from_file w s d.cvd.schema false file (commit_rows s d vids message []))) is
+      by (Some d) is = ap (λ (o : Option Refusal). unless s o (deed_under d (schema_with d.cvd.schema added))) is
 
 -- ---- the host wasn't called
 
@@ -141,21 +169,21 @@ told_still d s t w refusal held st is same at =
 
 -- ---- a commit, from what came before its rows were stored
 
-module _ (w : World) (s t : Session) (cvd vids message file : List ℕ) (before now : Held) (old new : State) (same : s ≡ t) where
+module _ (w : World) (s t : Session) (cvd vids message : List ℕ) (added : List Column) (file : List ℕ) (before now : Held) (old new : State) (same : s ≡ t) where
   pub commit_acts : (rows : List Row) (result : Result Reply EndErr)
-      → IfThere (λ d. (commit_refusal d vids ≡ None) × (commit_deed w s cvd vids message [] file (Some d) ≡ with_rows w s d.cvd.schema false (commit_rows s d vids message []) (Ok rows))) (set_named w cvd)
+      → IfThere (λ d. (commit_refusal d vids ≡ None) × (commit_deed w s cvd vids message added file (Some d) ≡ with_rows w s (wide added d).cvd.schema (adds added) (commit_rows s d vids message added) (Ok rows))) (set_named w cvd)
       → ((d : Dataset) → set_named w cvd ≡ Some d → commit_refusal d vids ≡ None
-      → Acts (with_rows w s d.cvd.schema false (commit_rows s d vids message []) (Ok rows)) s s w result before now old new)
-      → Acts (commit_deed w s cvd vids message [] file (set_named w cvd)) s t w result before now old new
+      → Acts (with_rows w s (wide added d).cvd.schema (adds added) (commit_rows s d vids message added) (Ok rows)) s s w result before now old new)
+      → Acts (commit_deed w s cvd vids message added file (set_named w cvd)) s t w result before now old new
   commit_acts rows result there acts =
-      subst (λ (u : Session). Acts (commit_deed w s cvd vids message [] file (set_named w cvd)) s u w result before now old new) same (by (set_named w cvd) refl there)
+      subst (λ (u : Session). Acts (commit_deed w s cvd vids message added file (set_named w cvd)) s u w result before now old new) same (by (set_named w cvd) refl there)
     where
       by : (o : Option Dataset) → set_named w cvd ≡ o
-          → IfThere (λ d. (commit_refusal d vids ≡ None) × (commit_deed w s cvd vids message [] file (Some d) ≡ with_rows w s d.cvd.schema false (commit_rows s d vids message []) (Ok rows))) o
-          → Acts (commit_deed w s cvd vids message [] file (set_named w cvd)) s s w result before now old new
+          → IfThere (λ d. (commit_refusal d vids ≡ None) × (commit_deed w s cvd vids message added file (Some d) ≡ with_rows w s (wide added d).cvd.schema (adds added) (commit_rows s d vids message added) (Ok rows))) o
+          → Acts (commit_deed w s cvd vids message added file (set_named w cvd)) s s w result before now old new
       by None is there = absurd there
       by (Some d) is there =
-          subst (λ (e : Deed). Acts e s s w result before now old new) (sym (ap (commit_deed w s cvd vids message [] file) is ∙ there.1)) (acts d is there.0)
+          subst (λ (e : Deed). Acts e s s w result before now old new) (sym (ap (commit_deed w s cvd vids message added file) is ∙ there.1)) (acts d is there.0)
 
 pub said_still : (d : Deed) (s t : Session) (w : World) (reply : Reply) (held : Held) (st : State) → s ≡ t → IsAtWorld w held st
     → (refusal : Refusal) × (reply ≡ says.Refused refusal) × (d ≡ refuses s refusal) → Does d s t w reply held held st st

@@ -14,7 +14,7 @@ use Rattle.law_runs.specs.Serving.{Does}
 use Rattle.law_runs.specs.Stops.{printed_of}
 use Rattle.ov_model.specs.Act.{Deed, Session, commit_refusal, commit_rows, does, drop_deed, init_refusal, refuses, rows_refusal, with_rows}
 use Rattle.ov_model.specs.Book.{Row}
-use Rattle.ov_model.specs.Moves.{Drop, Move, moved}
+use Rattle.ov_model.specs.Moves.{Drop, Move, moved, wide}
 use Rattle.ov_model.specs.World.{Dataset, World, first_set, named, set_named}
 use Rattle.ov_model.specs.declared.refusal.Refusal.{Refusal}
 use Rattle.ov_model.specs.declared.refusal.Refusal.TheVariants as no
@@ -30,7 +30,7 @@ use Rattle.ov_session.specs.declared.errors.EndErr.{EndErr}
 use Rattle.law_reads.specs.Sights.{HasNumbers}
 use Rattle.ov_store.proofs.Deciding.{counts, set_found}
 use Rattle.ov_store.specs.Beginning.{first_move}
-use Rattle.ov_store.specs.Committing.{IsCommitted, Set, Wish, commit_move, committed, fresh_in_world, with_commit}
+use Rattle.ov_store.specs.Committing.{IsCommitted, Set, Wish, adds, commit_move, committed, fresh_in_world, with_commit}
 use Rattle.ov_store.specs.Dropping.{dropped, without}
 use Rattle.ov_store.specs.Scanning.{set_in}
 use Rattle.ov_store.specs.Kept.{Kept, Stays}
@@ -125,10 +125,10 @@ module _ (w : World) (s : Session) (cvd : List ℕ) (schema : Shape) (rows : Lis
 module _ (w : World) (s : Session) (name : List ℕ) (d : Dataset) (wish : Wish) (before after : Kept) (old new : State)
     (at : IsAtWorld w before.held old) (named : set_named w name ≡ Some d) (none : commit_refusal d wish.vids ≡ None) where
   abbrev commit_is : Deed
-  commit_is = with_rows w s d.cvd.schema false (commit_rows s d wish.vids wish.message []) (Ok wish.rows)
+  commit_is = with_rows w s (wide wish.added d).cvd.schema (adds wish.added) (commit_rows s d wish.vids wish.message wish.added) (Ok wish.rows)
 
   abbrev move_is : Move
-  move_is = commit_move d wish.vids wish.message wish.rows
+  move_is = commit_move d wish.vids wish.message wish.added wish.rows
 
   abbrev reply_is : Reply
   reply_is = says.Commit d.cvd.name (length d.cvd.versions + 1) (length wish.rows) (fresh_in_world d wish)
@@ -192,21 +192,21 @@ module _ (w : World) (s : Session) (name cvd : List ℕ) (same : name ≡ cvd) (
       → ((e : Dataset) → set_named w name ≡ Some e → version_refusal w e wish ≡ None) → Only old.tape new.tape (IsEither w (committed name wish w) (printed_of old))
       → IsAtNext (committed name wish w) after.held old new
       → ((e : Dataset) (entry : Entry) (past : List Made) → set_named w name ≡ Some e → IsWithin entry past before.held
-      → IsWithin entry (and_made past (commit_move e wish.vids wish.message wish.rows) w) after.held)
-      → Does (with_rows w s d.cvd.schema false (commit_rows s d wish.vids wish.message []) (Ok wish.rows)) s s w (says.Commit cvd made.vid made.rows made.fresh)
+      → IsWithin entry (and_made past (commit_move e wish.vids wish.message wish.added wish.rows) w) after.held)
+      → Does (with_rows w s (wide wish.added d).cvd.schema (adds wish.added) (commit_rows s d wish.vids wish.message wish.added) (Ok wish.rows)) s s w (says.Commit cvd made.vid made.rows made.fresh)
       before.held after.held old new
   version_done made is fresh allowed stops next within =
-      subst (λ (r : Reply). Does (with_rows w s d.cvd.schema false (commit_rows s d wish.vids wish.message []) (Ok wish.rows)) s s w r before.held after.held old new)
+      subst (λ (r : Reply). Does (with_rows w s (wide wish.added d).cvd.schema (adds wish.added) (commit_rows s d wish.vids wish.message wish.added) (Ok wish.rows)) s s w r before.held after.held old new)
       (told_as made is (fresh d named_so))
       (commit_done_by w s name d wish before after old new at named_so none (allowed d named_so) stops next (λ entry past in_. within d entry past named_so in_))
 
   pub version_off : (result : Result Reply EndErr) (e : StoreErr) → IfOk result (λ r. reply_of cvd e ≡ Some r)
       → ((x : Dataset) → set_named w name ≡ Some x → IsRefusedAs name (version_refusal w x wish) e)
       → ((x : Dataset) (entry : Entry) (past : List Made) → set_named w name ≡ Some x → IsWithin entry past before.held
-      → IsLack entry past (commit_move x wish.vids wish.message wish.rows) w e) → Stays e before after old new
+      → IsLack entry past (commit_move x wish.vids wish.message wish.added wish.rows) w e) → Stays e before after old new
       → Only old.tape new.tape (IsEither w (committed name wish w) (printed_of old))
       → ((x : Dataset) (refusal : Refusal) → set_named w name ≡ Some x → version_refusal w x wish ≡ Some refusal → Only old.tape new.tape (IsWorld w (printed_of old)))
-      → Acts (with_rows w s d.cvd.schema false (commit_rows s d wish.vids wish.message []) (Ok wish.rows)) s s w result before.held after.held old new
+      → Acts (with_rows w s (wide wish.added d).cvd.schema (adds wish.added) (commit_rows s d wish.vids wish.message wish.added) (Ok wish.rows)) s s w result before.held after.held old new
   version_off result e said is lack stays stops still =
       commit_off_by w s name d wish before after old new at named_so none result e
       (subst (λ (n : List ℕ). IfOk result (λ r. reply_of n e ≡ Some r)) (sym same) said) (is d named_so) (λ entry past in_. lack d entry past named_so in_) stays stops

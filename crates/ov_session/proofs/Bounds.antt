@@ -9,6 +9,7 @@ use Rattle.ov_model.specs.Line.{Line, Comment, Asks, Refused}
 use Rattle.ov_model.specs.declared.command.Command.{Command}
 use Rattle.ov_model.specs.declared.command.Command.TheVariants as asks
 use Rattle.ov_read.specs.Sizes.{bytes_for}
+use Rattle.ov_value.specs.declared.column.Column.{Column}
 use Rattle.ov_session.specs.Bounds.{FetchedBy, FetchedLater, IsFetched, IsFetchedBy, IsReading, IsReadingCommand, bytes_in, command_fetch, if_allowed, may_fetch}
 use Rattle.ov_session.specs.Reads.{Own, Nought, Versions, Steps, Later, Reads, fetch, reads_of}
 use Rattle.ov_session.specs.declared.errors.EndErr.{EndErr}
@@ -127,14 +128,14 @@ fetched_allowed (Some e) n a b within none = at_most (none e refl)
 -- ---- a commit that the numbers refuse for its parents
 
 -- that comes first
-pub parents_first : (held : Held) (name vids : List ℕ) (rows : List Row) (off : StoreErr) → parents_off_in (set_in held.numbers name) vids ≡ Some off
-    → commit_off held name vids rows ≡ Some off
-parents_first held name vids rows off is = by (set_in held.numbers name) is
+pub parents_first : (held : Held) (name vids : List ℕ) (added : List Column) (rows : List Row) (off : StoreErr) → parents_off_in (set_in held.numbers name) vids ≡ Some off
+    → commit_off held name vids added rows ≡ Some off
+parents_first held name vids added rows off is = by (set_in held.numbers name) is
   where
     first_off : (o more : Option StoreErr) → o ≡ Some off → option_or o more ≡ Some off
     first_off None more first = absurd cc
     first_off (Some e) more first = first
 
-    by : (o : Option Set) → parents_off_in o vids ≡ Some off → to_off held.journal.format o vids rows ≡ Some off
+    by : (o : Option Set) → parents_off_in o vids ≡ Some off → to_off held.journal.format o vids added rows ≡ Some off
     by None is = is
     by (Some set) is = first_off _ _ is

@@ -22,11 +22,12 @@ use Rattle.ov_model.specs.declared.command.Command.TheVariants as asks
 use Rattle.ov_model.specs.declared.reply.Reply.{Reply}
 use Rattle.ov_session.specs.Commands.{Acts, AreRowsOf, IsCommitDamaged, IsDamageOf, IsNoDamage, IsNoHost, IsScanDamaged}
 use Rattle.ov_session.specs.Errors.{end_of}
+use Rattle.ov_session.specs.Reads.{commit_row_off}
 use Rattle.ov_session.specs.declared.errors.EndErr.{EndErr}
 use Rattle.ov_session.specs.declared.errors.EndErr.TheVariants as ending
 use Rattle.ov_store.proofs.Deciding.{world_named}
 use Rattle.ov_store.proofs.Finishing.{set_there}
-use Rattle.ov_store.specs.Committing.{IfSet, IsDamagedAt, IsUncommitted, Set, Wish, asked_of, commit_off}
+use Rattle.ov_store.specs.Committing.{IfSet, IsDamagedAt, IsUncommitted, Set, Wish, asked_of, commit_off, schema_for}
 use Rattle.ov_store.specs.Kept.{Kept, Stays}
 use Rattle.ov_store.specs.Scanning.{IsDamagedIn, IsUndamaged, IsUnscanned, scan_off, set_in, versions_off}
 use Rattle.ov_store.specs.Worlds.{IsRefusedAs, version_refusal}
@@ -86,7 +87,7 @@ the_end a b is = ap (λ o. elim o as (λ _. EndErr) [ None ↦ a | Some x ↦ x 
 
 module _ (held : Held) (name cvd : List ℕ) (wish : Wish) (before now : Kept) (old new : State) (same : name ≡ cvd) where
   abbrev IsDamageAt : ℕ → Type 0
-  IsDamageAt page = (commit_off held cvd wish.vids wish.rows ≡ None) × IfSet (λ s. IsDamagedAt s wish new page) (set_in held.numbers cvd)
+  IsDamageAt page = (commit_off held cvd wish.vids wish.added wish.rows ≡ None) × IfSet (λ s. IsDamagedAt s wish new page) (set_in held.numbers cvd)
 
   abbrev IsDamage : EndErr → Type 0
   IsDamage e = IsDamageOf IsDamageAt e
@@ -95,7 +96,7 @@ module _ (held : Held) (name cvd : List ℕ) (wish : Wish) (before now : Kept) (
   end_damaged why.Host e is off stays = subst IsDamage (the_end ending.Host e is) tt
   end_damaged why.Memory e is off stays = subst IsDamage (the_end ending.Memory e is) tt
   end_damaged (why.Damaged area at) e is off stays =
-      let none : commit_off held cvd wish.vids wish.rows ≡ None = subst (λ (n : List ℕ). commit_off held n wish.vids wish.rows ≡ None) same off.1
+      let none : commit_off held cvd wish.vids wish.added wish.rows ≡ None = subst (λ (n : List ℕ). commit_off held n wish.vids wish.added wish.rows ≡ None) same off.1
       in let damaged = damaged_in (set_in held.numbers cvd) wish at old new stays.1
       (subst (λ (n : List ℕ). IfSet (λ s. IsDamagedAt s wish old at) (set_in held.numbers n)) same off.2)
       in subst IsDamage (the_end (ending.Damaged area at) e is) (off.0, (none, damaged))
@@ -119,29 +120,32 @@ module _ (held : Held) (name cvd : List ℕ) (wish : Wish) (before now : Kept) (
   result_damaged off (Err e) ends is stays = end_damaged off e ends is stays
 
 -- the rows that are asked for are those of the file
-pub and_rows : (held : Held) (cvd vids message file : List ℕ) (stage : Staged) (rows : List Row) (s : State) (page : ℕ)
-    → ((set : Set) → set_in held.numbers cvd ≡ Some set → AreRowsOf set.schema file stage rows)
-    → (commit_off held cvd vids rows ≡ None) × IfSet (λ set. IsDamagedAt set (record { vids = vids; message = message; rows = rows }) s page) (set_in held.numbers cvd)
-    → IsCommitDamaged cvd vids file message stage held s page
-and_rows held cvd vids message file stage rows s page are is = (rows, is.0, by (set_in held.numbers cvd) are is.1)
-  where
-    by : (o : Option Set) → ((set : Set) → o ≡ Some set → AreRowsOf set.schema file stage rows)
-        → IfSet (λ set. IsDamagedAt set (record { vids = vids; message = message; rows = rows }) s page) o
-        → IfSet (λ set. AreRowsOf set.schema file stage rows × IsDamagedAt set (record { vids = vids; message = message; rows = rows }) s page) o
-    by None are is = absurd is
-    by (Some set) are is = (are set refl, is)
+module _ (held : Held) (cvd vids : List ℕ) (added : List Column) (message file : List ℕ) (stage : Staged) (rows : List Row) (s : State)
+    (are : (set : Set) → set_in held.numbers cvd ≡ Some set → AreRowsOf (schema_for set.schema added) file stage rows)
+    (none : commit_off held cvd vids added rows ≡ None → commit_row_off held.numbers cvd vids added ≡ None) where
+  abbrev its_wish : Wish
+  its_wish = record { vids = vids; message = message; added = added; rows = rows }
 
-pub result_and_rows : (held : Held) (cvd vids message file : List ℕ) (stage : Staged) (rows : List Row) (s : State) (result : Result Reply EndErr)
-    → ((set : Set) → set_in held.numbers cvd ≡ Some set → AreRowsOf set.schema file stage rows)
-    → IfErr result (IsDamageOf (λ page. (commit_off held cvd vids rows ≡ None)
-    × IfSet (λ set. IsDamagedAt set (record { vids = vids; message = message; rows = rows }) s page) (set_in held.numbers cvd)))
-    → IfErr result (IsDamageOf (IsCommitDamaged cvd vids file message stage held s))
-result_and_rows held cvd vids message file stage rows s (Ok reply) are is = tt
-result_and_rows held cvd vids message file stage rows s (Err ending.Host) are is = tt
-result_and_rows held cvd vids message file stage rows s (Err ending.Memory) are is = tt
-result_and_rows held cvd vids message file stage rows s (Err ending.Stage) are is = tt
-result_and_rows held cvd vids message file stage rows s (Err (ending.Damaged area at)) are is =
-    (is.0, and_rows held cvd vids message file stage rows s at are is.1)
+  abbrev IsDamagedYet : ℕ → Type 0
+  IsDamagedYet page = (commit_off held cvd vids added rows ≡ None) × IfSet (λ set. IsDamagedAt set its_wish s page) (set_in held.numbers cvd)
+
+  abbrev IsDamagedSo : ℕ → Type 0
+  IsDamagedSo page = (commit_row_off held.numbers cvd vids added ≡ None) × IsCommitDamaged cvd vids added file message stage held s page
+
+  and_rows : (page : ℕ) → IsDamagedYet page → IsDamagedSo page
+  and_rows page is = (none is.0, (rows, is.0, by (set_in held.numbers cvd) are is.1))
+    where
+      by : (o : Option Set) → ((set : Set) → o ≡ Some set → AreRowsOf (schema_for set.schema added) file stage rows) → IfSet (λ set. IsDamagedAt set its_wish s page) o
+          → IfSet (λ set. AreRowsOf (schema_for set.schema added) file stage rows × IsDamagedAt set its_wish s page) o
+      by None are is = absurd is
+      by (Some set) are is = (are set refl, is)
+
+  pub result_and_rows : (result : Result Reply EndErr) → IfErr result (IsDamageOf IsDamagedYet) → IfErr result (IsDamageOf IsDamagedSo)
+  result_and_rows (Ok reply) is = tt
+  result_and_rows (Err ending.Host) is = tt
+  result_and_rows (Err ending.Memory) is = tt
+  result_and_rows (Err ending.Stage) is = tt
+  result_and_rows (Err (ending.Damaged area at)) is = (is.0, and_rows at is.1)
 
 -- ---- damage that a checkout meets
 
@@ -213,7 +217,7 @@ module _ (w : World) (held : Held) (s : State) (at : IsAtWorld w held s) (name :
   pub commit_spared : (wish : Wish) (t : State) (e : StoreErr) → IsUncommitted held name wish s t e
       → ((d : Dataset) → set_named w name ≡ Some d → IsRefusedAs name (version_refusal w d wish) e) → IsUndamaged e
   commit_spared wish t (why.Damaged area place) is refused =
-      let there = set_there held name wish.vids wish.rows is.1
+      let there = set_there held name wish.vids wish.added wish.rows is.1
       in let d = world_named w held s at name there.0 there.1
       in refused d.0 d.1
   commit_spared wish t why.Host is refused = tt
@@ -258,20 +262,3 @@ module _ (w : World) (held : Held) (s : State) (at : IsAtWorld w held s) (name :
       by None none why.TooManyCvds is spared = tt
       by None none why.NoNumbers is spared = tt
       by None none (why.FormatOne row) is spared = tt
-
--- ---- commands with their values
-
-module _ (w : World) (s t : Session) (cvd : List ℕ) (result : Result Reply EndErr) (before now : Held) (old new : State) where
-  pub commit_asked : (vids given file message : List ℕ) (added : Option (List Column)) → given ≡ vids → added ≡ None
-      → Acts (commit_deed w s cvd given message [] file (set_named w cvd)) s t w result before now old new
-      → Acts (permitted w s (asks.Commit cvd vids file message added)) s t w result before now old new
-  commit_asked vids given file message added same none acts =
-      subst (λ (a : Option (List Column)). Acts (permitted w s (asks.Commit cvd vids file message a)) s t w result before now old new) (sym none)
-      (subst (λ (v : List ℕ). Acts (commit_deed w s cvd v message [] file (set_named w cvd)) s t w result before now old new) same acts)
-
-  pub checkout_asked : (vids given : List ℕ) (file table : Option (List ℕ)) → given ≡ vids → table ≡ None
-      → Acts (checkout_deed s given file cvd (set_named w cvd)) s t w result before now old new
-      → Acts (permitted w s (asks.Checkout cvd vids file table)) s t w result before now old new
-  checkout_asked vids given file table same none acts =
-      subst (λ (x : Option (List ℕ)). Acts (permitted w s (asks.Checkout cvd vids file x)) s t w result before now old new) (sym none)
-      (subst (λ (v : List ℕ). Acts (checkout_deed s v file cvd (set_named w cvd)) s t w result before now old new) same acts)

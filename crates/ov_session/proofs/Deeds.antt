@@ -5,12 +5,13 @@ use Rattle.std.specs.Option.{option_or}
 use Rattle.ov_model.specs.Act.{Session, commit_rows, does, records_refusal, refuses, rows_refusal, unless, with_rows}
 use Rattle.ov_model.specs.Book.{Row}
 use Rattle.ov_model.specs.Merge.{in_key_order, placed}
+use Rattle.ov_model.specs.Moves.{wide}
 use Rattle.ov_model.specs.World.{Dataset, World}
 use Rattle.ov_model.specs.declared.refusal.Refusal.{Refusal}
 use Rattle.ov_model.specs.declared.reply.Reply.TheVariants as says
 use Rattle.ov_session.specs.Commands.{begun}
 use Rattle.ov_store.specs.Beginning.{first_move}
-use Rattle.ov_store.specs.Committing.{Wish, commit_move, fresh_in_world}
+use Rattle.ov_store.specs.Committing.{Wish, adds, commit_move, fresh_in_world}
 use Rattle.ov_store.specs.Worlds.{content_refusal}
 use Rattle.ov_value.specs.Shapes.{Shape}
 use Rattle.ov_value.specs.Rows.{key_cmp}
@@ -46,27 +47,27 @@ module _ (w : World) (s : Session) (cvd : List ℕ) (schema : Shape) (rows : Lis
 
 module _ (w : World) (s : Session) (d : Dataset) (wish : Wish) where
   pub commit_refused : (refusal : Refusal) → content_refusal w d wish ≡ Some refusal
-      → with_rows w s d.cvd.schema false (commit_rows s d wish.vids wish.message []) (Ok wish.rows) ≡ refuses s refusal
-  commit_refused = by (rows_refusal w d.cvd.schema false wish.rows)
+      → with_rows w s (wide wish.added d).cvd.schema (adds wish.added) (commit_rows s d wish.vids wish.message wish.added) (Ok wish.rows) ≡ refuses s refusal
+  commit_refused = by (rows_refusal w (wide wish.added d).cvd.schema (adds wish.added) wish.rows)
     where
-      by : (o : Option Refusal) (refusal : Refusal) → option_or o (records_refusal d (fresh_in_world d wish)) ≡ Some refusal
-          → unless s o (commit_rows s d wish.vids wish.message [] (in_key_order d.cvd.schema wish.rows)) ≡ refuses s refusal
+      by : (o : Option Refusal) (refusal : Refusal) → option_or o (records_refusal (wide wish.added d) (fresh_in_world d wish)) ≡ Some refusal
+          → unless s o (commit_rows s d wish.vids wish.message wish.added (in_key_order (wide wish.added d).cvd.schema wish.rows)) ≡ refuses s refusal
       by None refusal e =
-          ap (λ o. unless s o (does s (commit_move d wish.vids wish.message wish.rows)
-          (says.Commit d.cvd.name (length d.cvd.versions + 1) (length (in_key_order d.cvd.schema wish.rows)) (fresh_in_world d wish)))) e
-      by (Some other) refusal e = ap (λ o. unless s o (commit_rows s d wish.vids wish.message [] (in_key_order d.cvd.schema wish.rows))) e
+          ap (λ o. unless s o (does s (commit_move d wish.vids wish.message wish.added wish.rows)
+          (says.Commit d.cvd.name (length d.cvd.versions + 1) (length (in_key_order (wide wish.added d).cvd.schema wish.rows)) (fresh_in_world d wish)))) e
+      by (Some other) refusal e = ap (λ o. unless s o (commit_rows s d wish.vids wish.message wish.added (in_key_order (wide wish.added d).cvd.schema wish.rows))) e
 
   pub commit_done : content_refusal w d wish ≡ None
-      → with_rows w s d.cvd.schema false (commit_rows s d wish.vids wish.message []) (Ok wish.rows)
-      ≡ does s (commit_move d wish.vids wish.message wish.rows) (says.Commit d.cvd.name (length d.cvd.versions + 1) (length wish.rows) (fresh_in_world d wish))
-  commit_done = by (rows_refusal w d.cvd.schema false wish.rows)
+      → with_rows w s (wide wish.added d).cvd.schema (adds wish.added) (commit_rows s d wish.vids wish.message wish.added) (Ok wish.rows)
+      ≡ does s (commit_move d wish.vids wish.message wish.added wish.rows) (says.Commit d.cvd.name (length d.cvd.versions + 1) (length wish.rows) (fresh_in_world d wish))
+  commit_done = by (rows_refusal w (wide wish.added d).cvd.schema (adds wish.added) wish.rows)
     where
-      by : (o : Option Refusal) → option_or o (records_refusal d (fresh_in_world d wish)) ≡ None
-          → unless s o (commit_rows s d wish.vids wish.message [] (in_key_order d.cvd.schema wish.rows))
-          ≡ does s (commit_move d wish.vids wish.message wish.rows) (says.Commit d.cvd.name (length d.cvd.versions + 1) (length wish.rows) (fresh_in_world d wish))
+      by : (o : Option Refusal) → option_or o (records_refusal (wide wish.added d) (fresh_in_world d wish)) ≡ None
+          → unless s o (commit_rows s d wish.vids wish.message wish.added (in_key_order (wide wish.added d).cvd.schema wish.rows))
+          ≡ does s (commit_move d wish.vids wish.message wish.added wish.rows) (says.Commit d.cvd.name (length d.cvd.versions + 1) (length wish.rows) (fresh_in_world d wish))
       by None e =
-          ap (λ o. unless s o (does s (commit_move d wish.vids wish.message wish.rows)
-          (says.Commit d.cvd.name (length d.cvd.versions + 1) (length (in_key_order d.cvd.schema wish.rows)) (fresh_in_world d wish)))) e
-          ∙ ap (λ n. does s (commit_move d wish.vids wish.message wish.rows) (says.Commit d.cvd.name (length d.cvd.versions + 1) n (fresh_in_world d wish)))
-          (length_in_order d.cvd.schema wish.rows)
+          ap (λ o. unless s o (does s (commit_move d wish.vids wish.message wish.added wish.rows)
+          (says.Commit d.cvd.name (length d.cvd.versions + 1) (length (in_key_order (wide wish.added d).cvd.schema wish.rows)) (fresh_in_world d wish)))) e
+          ∙ ap (λ n. does s (commit_move d wish.vids wish.message wish.added wish.rows) (says.Commit d.cvd.name (length d.cvd.versions + 1) n (fresh_in_world d wish)))
+          (length_in_order (wide wish.added d).cvd.schema wish.rows)
       by (Some other) e = absurd cc

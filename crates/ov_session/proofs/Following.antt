@@ -12,7 +12,7 @@ use Rattle.law_runs.specs.Serving.{Serves}
 use Rattle.law_runs.specs.Stepping.{IsStepped}
 use Rattle.law_steps.specs.Turns.{running}
 use Rattle.ov_model.specs.Act.{Session}
-use Rattle.law_forms.specs.BuiltShapes.{served_forms}
+use Rattle.ov_model.specs.Forms.{all_forms}
 use Rattle.ov_model.specs.Course.{line_served}
 use Rattle.ov_model.specs.Line.{Asks, Comment, Line, Refused, line_of}
 use Rattle.ov_model.specs.Users.{line_by}
@@ -105,7 +105,7 @@ false_true : false ≡ true → ⊥
 false_true e = cc
 
 -- a line that isn't a comment for a user is none
-pub some_line : (user line : List ℕ) → is_comment_in (line_asked user line) ≡ false → line_of served_forms line ≢ Comment
+pub some_line : (user line : List ℕ) → is_comment_in (line_asked user line) ≡ false → line_of all_forms line ≢ Comment
 some_line user line some is = false_true (sym some ∙ ap (λ (l : Line). is_comment_in (line_by user l)) is)
 
 in_comment : (l : Line) → is_comment_in l ≡ true → l ≡ Comment
@@ -113,12 +113,12 @@ in_comment Comment is = refl
 in_comment (Asks command) is = cc
 in_comment (Refused refusal) is = cc
 
-pub no_line : (user line : List ℕ) → is_comment_in (line_asked user line) ≡ true → line_of served_forms line ≡ Comment
-no_line user line is = comment_by user (line_of served_forms line) (in_comment (line_asked user line) is)
+pub no_line : (user line : List ℕ) → is_comment_in (line_asked user line) ≡ true → line_of all_forms line ≡ Comment
+no_line user line is = comment_by user (line_of all_forms line) (in_comment (line_asked user line) is)
 
 -- behind a comment no step comes, however many are asked for
-pub serves_none : (n : ℕ) (w : World) (s t : Session) (line : List ℕ) (ok refused : Bool) (before now : Held) (old new : State) → line_of served_forms line ≡ Comment
-    → Serves served_forms 0 w s t line ok refused before now old new → Serves served_forms n w s t line ok refused before now old new
+pub serves_none : (n : ℕ) (w : World) (s t : Session) (line : List ℕ) (ok refused : Bool) (before now : Held) (old new : State) → line_of all_forms line ≡ Comment
+    → Serves all_forms 0 w s t line ok refused before now old new → Serves all_forms n w s t line ok refused before now old new
 serves_none n w s t line ok refused before now old new is a = record {
   used = a.used;
   did = a.did;
@@ -134,29 +134,29 @@ serves_none n w s t line ok refused before now old new is a = record {
 }
 
 -- the run ended in the line
-pub serves_off : (n : ℕ) (w : World) (s t : Session) (line : List ℕ) (before now : Held) (old new : State) → Serves served_forms 0 w s t line false false before now old new
-    → Serves served_forms n w s t line false false before now old new
-serves_off n w s t line before now old new a = by (line_of served_forms line) refl
+pub serves_off : (n : ℕ) (w : World) (s t : Session) (line : List ℕ) (before now : Held) (old new : State) → Serves all_forms 0 w s t line false false before now old new
+    → Serves all_forms n w s t line false false before now old new
+serves_off n w s t line before now old new a = by (line_of all_forms line) refl
   where
-    by : (l : Line) → line_of served_forms line ≡ l → Serves served_forms n w s t line false false before now old new
+    by : (l : Line) → line_of all_forms line ≡ l → Serves all_forms n w s t line false false before now old new
     by Comment is = serves_none n w s t line false false before now old new is a
-    by (Asks command) is = serves_unstepped served_forms n w s t line (λ e. no_asks (sym is ∙ e)) false before now old new a
+    by (Asks command) is = serves_unstepped all_forms n w s t line (λ e. no_asks (sym is ∙ e)) false before now old new a
       where
         no_asks : Asks command ≡ Comment → ⊥
         no_asks e = cc
-    by (Refused refusal) is = serves_unstepped served_forms n w s t line (λ e. no_refusal (sym is ∙ e)) false before now old new a
+    by (Refused refusal) is = serves_unstepped all_forms n w s t line (λ e. no_refusal (sym is ∙ e)) false before now old new a
       where
         no_refusal : Refused refusal ≡ Comment → ⊥
         no_refusal e = cc
 
 -- its steps were taken, or the run ended in them
-module _ (n : ℕ) (w : World) (s t : Session) (line : List ℕ) (some : line_of served_forms line ≢ Comment) (refused : Bool) (before mid now : Held) (old said new : State)
-    (a : Serves served_forms 0 w s t line true refused before mid old said) where
-  pub serves_steps : (ok : Bool) → ((v : World) → IsAtWorld v mid said → IsStepped n v ok mid now said new) → Serves served_forms n w s t line ok refused before now old new
-  serves_steps ok steps = serves_stepped served_forms n w s t line some ok refused before mid now old said new a (steps a.did.world (a.at refl))
+module _ (n : ℕ) (w : World) (s t : Session) (line : List ℕ) (some : line_of all_forms line ≢ Comment) (refused : Bool) (before mid now : Held) (old said new : State)
+    (a : Serves all_forms 0 w s t line true refused before mid old said) where
+  pub serves_steps : (ok : Bool) → ((v : World) → IsAtWorld v mid said → IsStepped n v ok mid now said new) → Serves all_forms n w s t line ok refused before now old new
+  serves_steps ok steps = serves_stepped all_forms n w s t line some ok refused before mid now old said new a (steps a.did.world (a.at refl))
 
-  pub serves_halted : ((v : World) → IsAtWorld v mid said → IsStepped n v false mid now said new) → Serves served_forms n w s t line false false before now old new
-  serves_halted steps = serves_ended served_forms n w s t t line refused false before now now old new (serves_steps false steps)
+  pub serves_halted : ((v : World) → IsAtWorld v mid said → IsStepped n v false mid now said new) → Serves all_forms n w s t line false false before now old new
+  serves_halted steps = serves_ended all_forms n w s t t line refused false before now now old new (serves_steps false steps)
 
 -- ---- ends
 

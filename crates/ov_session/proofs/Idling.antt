@@ -7,7 +7,7 @@ use Rattle.ov_event.specs.declared.event.Event as raw
 use Rattle.ov_event.specs.declared.event.Event.TheVariants as says
 use Rattle.ov_catalog.specs.Events.{applied, change, numbered}
 use Rattle.ov_catalog.specs.Numbers.{Numbers, PlanNumbers, SetNumbers, each_plan, each_set}
-use Rattle.ov_catalog.specs.Raw.{event_in}
+use Rattle.ov_catalog.specs.Raw.{adding, event_in}
 use Rattle.ov_catalog.specs.Shown.{Records, Rids, shown_plan, shown_set}
 use Rattle.ov_catalog.specs.Stands.{Readings}
 use Rattle.ov_core.specs.AtWorld.{IsAtWorld}
@@ -17,6 +17,7 @@ use Rattle.law_image.specs.Pages.{readings_of}
 use Rattle.ov_fetch.specs.Extents.{page_bytes}
 use Rattle.ov_generate.specs.Reads.{AreBegun, Begun, HasFetched, IsAfter, IsFound}
 use Rattle.law_steps.specs.Turns.{running}
+use Rattle.ov_value.specs.declared.column.Column.{Column}
 use Rattle.ov_model.specs.Moves.{Move}
 use Rattle.ov_model.specs.Steps.{first_step, next_step, step_or}
 use Rattle.ov_model.specs.World.{Dataset, Plan, World}
@@ -76,11 +77,12 @@ idle_change number f keeps (s ∷ sets) idle = by (numbered number s) (idle_chan
     by true rest = (keeps s ∙ idle.0, idle.1)
     by false rest = (idle.0, rest)
 
--- of an Init, a Commit and a Drop
+-- of an Init, a Commit, one with added columns, and a Drop
 abbrev IsQuiet : raw.Event → Type 0
 IsQuiet (says.Init name schema rows list segment) = Unit {0}
 IsQuiet (says.Commit cvd vid message parents rows fresh place added list segment) = Unit {0}
 IsQuiet (says.Drop cvd) = Unit {0}
+IsQuiet (says.Wide cvd vid message columns parents rows fresh place added list segment) = Unit {0}
 IsQuiet e = ⊥
 
 quiet_idle : (e : raw.Event) (n : Numbers Extent Extent) → IsQuiet e → AreIdle n.sets → AreIdle (applied (event_in e) n).sets
@@ -92,7 +94,20 @@ quiet_idle (says.Flip cvd) n quiet idle = absurd quiet
 quiet_idle (says.Drop cvd) n quiet idle = idle_filter (λ s. not (numbered cvd s)) n.sets idle
 quiet_idle (says.Base next) n quiet idle = absurd quiet
 quiet_idle (says.Whole said) n quiet idle = absurd quiet
-quiet_idle (says.Wide cvd vid message columns parents rows fresh place added list segment) n quiet idle = absurd quiet
+quiet_idle (says.Wide cvd vid message columns parents rows fresh place added list segment) n quiet idle = idle_change cvd _ (λ s. refl) n.sets idle
+
+-- with or without added columns
+adding_quiet : (added : List Column) (e : raw.Event) → IsQuiet e → IsQuiet (adding added e)
+adding_quiet [] e quiet = quiet
+adding_quiet (column ∷ added) (says.Init name schema rows list segment) quiet = tt
+adding_quiet (column ∷ added) (says.Commit cvd vid message parents rows fresh place more list segment) quiet = tt
+adding_quiet (column ∷ added) (says.Plan cvd p q targets) quiet = quiet
+adding_quiet (column ∷ added) (says.Copy cvd count segment) quiet = quiet
+adding_quiet (column ∷ added) (says.Flip cvd) quiet = quiet
+adding_quiet (column ∷ added) (says.Drop cvd) quiet = tt
+adding_quiet (column ∷ added) (says.Base next) quiet = quiet
+adding_quiet (column ∷ added) (says.Whole said) quiet = quiet
+adding_quiet (column ∷ added) (says.Wide cvd vid message columns parents rows fresh place more list segment) quiet = tt
 
 placed_quiet : (l s : Extent) (e : raw.Event) → IsQuiet e → IsQuiet (with_extents l s e)
 placed_quiet l s (says.Init name schema rows list segment) quiet = tt
@@ -103,7 +118,7 @@ placed_quiet l s (says.Flip cvd) quiet = quiet
 placed_quiet l s (says.Drop cvd) quiet = tt
 placed_quiet l s (says.Base next) quiet = quiet
 placed_quiet l s (says.Whole said) quiet = quiet
-placed_quiet l s (says.Wide cvd vid message columns parents rows fresh place added list segment) quiet = quiet
+placed_quiet l s (says.Wide cvd vid message columns parents rows fresh place added list segment) quiet = tt
 
 applied_none : (e : raw.Event) (old new : Held) → IsQuiet e → new.numbers ≡ applied (event_in e) old.numbers → running old.numbers ≡ None → running new.numbers ≡ None
 applied_none e old new quiet is none =
@@ -114,7 +129,7 @@ done_none b old new quiet done none = applied_none (with_extents done.l done.s b
 
 pub committed_none : (s : Set) (wish : Wish) (t : State) (old new : Held) (made : Committed) → IsCommitted s wish t old new made → running old.numbers ≡ None
     → running new.numbers ≡ None
-committed_none s wish t old new made is none = done_none is.brought old new (subst IsQuiet (sym is.by.commit.event_is) tt) is.done none
+committed_none s wish t old new made is none = done_none is.brought old new (subst IsQuiet (sym is.by.commit.event_is) (adding_quiet wish.added _ tt)) is.done none
 
 pub dropped_none : (name : List ℕ) (old new : Held) → IsDropped name old new → running old.numbers ≡ None → running new.numbers ≡ None
 dropped_none name old new is none = applied_none (says.Drop is.cvd) old new tt is.gone none

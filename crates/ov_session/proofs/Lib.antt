@@ -12,7 +12,8 @@ pub mod Registered
 pub mod Replying
 pub mod Numbering
 pub mod Meeting
-pub mod Shaping
+pub mod Answered
+pub mod Widening
 pub mod Querying
 pub mod Making
 pub mod Idling
@@ -23,3 +24,5 @@ pub mod Choices
 pub mod Migrating
 pub mod Checkpointing
 pub mod Acting
+pub mod Keeping
+pub mod Putting

@@ -16,15 +16,16 @@ use Rattle.ov_query.specs.Queries.{AreDamaged, IsQueryDamaged, Reading, bytes_re
 use Rattle.ov_query.specs.Queries as queries
 use Rattle.ov_session.proofs.Bounds.{fetched_allowed}
 use Rattle.ov_session.specs.Bounds.{bytes_in, bytes_of_all, command_fetch, if_allowed, is_command_off}
-use Rattle.ov_session.specs.Commands.{AreBad, IsCommitDamaged, IsDamaged, IsPlanDamaged, IsScanDamaged, MeetsDamage}
+use Rattle.ov_session.specs.Commands.{AreBad, IsDamaged, IsPlanDamaged, IsScanDamaged, MeetsDamage}
 use Rattle.ov_model.specs.declared.reply.Reply.{Reply}
 use Rattle.ov_session.specs.Commands.{IsDamageOf}
 use Rattle.ov_session.specs.Standing.{IsIdle, IsIdleBy}
 use Rattle.ov_session.specs.declared.errors.EndErr.{EndErr}
 use Rattle.ov_session.specs.declared.errors.EndErr.TheVariants as ending
 use Rattle.ov_store.specs.Kept.{Kept}
-use Rattle.ov_session.specs.Reads.{columns_off, commit_row_off, plan_refused, rows_read}
-use Rattle.ov_store.specs.Committing.{Set, parents_off, parents_off_in, to_off}
+use Rattle.ov_session.specs.Reads.{columns_off, commit_row_off, plan_refused, rows_read, schema_off}
+use Rattle.ov_store.specs.Committing.{Set, TakesRows, parents_off, parents_off_in, to_off}
+use Rattle.ov_value.specs.declared.column.Column.{Column}
 use Rattle.ov_store.specs.Planning.{optimize_off, plan_off}
 use Rattle.ov_store.specs.Planning as planning
 use Rattle.ov_store.specs.Refusals.{refusal_of, refused, vids_off}
@@ -106,45 +107,39 @@ pub fetched_refused : (name : List ℕ) (o : Option StoreErr) (n a b : ℕ) → 
 fetched_refused name o n a b within none =
     fetched_allowed (refused name o) n a b within (λ r is. let there = refused_some name o r is in none there.0 there.1)
 
--- ---- a commit without added columns
-
-no_columns : (set : Option Set) → columns_off [] set ≡ None
-no_columns None = refl
-no_columns (Some set) = refl
-
-or_none : (o : Option Refusal) → option_or o None ≡ o
-or_none None = refl
-or_none (Some r) = refl
-
-pub commit_row_is : (n : Numbers Extent Extent) (cvd vids : List ℕ) → commit_row_off n cvd vids [] ≡ refused cvd (parents_off_in (set_in n cvd) vids)
-commit_row_is n cvd vids =
-    ap (option_or (refused cvd (parents_off_in (set_in n cvd) vids))) (no_columns (set_in n cvd)) ∙ or_none (refused cvd (parents_off_in (set_in n cvd) vids))
+-- ---- a commit
 
 first_none : (a b : Option StoreErr) → option_or a b ≡ None → a ≡ None
 first_none None b e = refl
 first_none (Some off) b e = absurd cc
 
-parents_none : (format : ℕ) (set : Option Set) (vids : List ℕ) (rows : List Row) → to_off format set vids rows ≡ None → parents_off_in set vids ≡ None
-parents_none format None vids rows e = absurd cc
-parents_none format (Some set) vids rows e = first_none (parents_off set vids) _ e
+parents_none : (format : ℕ) (set : Option Set) (vids : List ℕ) (added : List Column) (rows : List Row) → to_off format set vids added rows ≡ None
+    → parents_off_in set vids ≡ None
+parents_none format None vids added rows e = absurd cc
+parents_none format (Some set) vids added rows e = first_none (parents_off set vids) _ e
 
-module _ (user cvd vids file message : List ℕ) (stage : Staged) (held now : Held) (s : State) (page : ℕ) where
-  pub commit_damaged : IsCommitDamaged cvd vids file message stage held s page → IsDamaged user (asks.Commit cvd vids file message None) stage held now s page
-  commit_damaged is = (
-    commit_row_is held.numbers cvd vids ∙ ap (refused cvd) (parents_none held.journal.format (set_in held.numbers cvd) vids is.0 is.1),
-    is,
-  )
+-- the schema takes the columns
+columns_none : (o : Option Set) (added : List Column) (rows : List Row) → ((set : Set) → o ≡ Some set → TakesRows set.schema added rows) → columns_off added o ≡ None
+columns_none None added rows takes = refl
+columns_none (Some set) added rows takes = ap schema_off (takes set refl).with
 
-pub commit_fetched : (n : Numbers Extent Extent) (user cvd vids file message : List ℕ) (a b : ℕ) → b ≤ a + bytes_in (set_in n cvd) vids
-    → ((off : StoreErr) → parents_off_in (set_in n cvd) vids ≡ Some off → b ≡ a) → b ≤ a + command_fetch n user (asks.Commit cvd vids file message None)
-commit_fetched n user cvd vids file message a b within none =
-    subst (λ (o : Option Refusal). b ≤ a + if_allowed o (bytes_in (set_in n cvd) vids)) (sym (commit_row_is n cvd vids))
-    (fetched_refused cvd (parents_off_in (set_in n cvd) vids) (bytes_in (set_in n cvd) vids) a b within none)
+module _ (n : Numbers Extent Extent) (cvd vids : List ℕ) (added : List Column) (rows : List Row)
+    (takes : (set : Set) → set_in n cvd ≡ Some set → TakesRows set.schema added rows) where
+  -- so what is refused by numbers is so for its parents
+  commit_row_is : commit_row_off n cvd vids added ≡ refused cvd (parents_off_in (set_in n cvd) vids)
+  commit_row_is =
+      ap (option_or (refused cvd (parents_off_in (set_in n cvd) vids))) (columns_none (set_in n cvd) added rows takes)
+      ∙ or_none (refused cvd (parents_off_in (set_in n cvd) vids))
+    where
+      or_none : (o : Option Refusal) → option_or o None ≡ o
+      or_none None = refl
+      or_none (Some r) = refl
 
-pub commit_refused : (n : Numbers Extent Extent) (user cvd vids file message : List ℕ) → is_command_off n user (asks.Commit cvd vids file message None) ≡ true
-    → (off : StoreErr) × (parents_off_in (set_in n cvd) vids ≡ Some off)
-commit_refused n user cvd vids file message is =
-    refused_there cvd (parents_off_in (set_in n cvd) vids) (subst (λ (o : Option Refusal). is_some o ≡ true) (commit_row_is n cvd vids) is)
+  pub row_refused : (off : Refusal) → commit_row_off n cvd vids added ≡ Some off → (e : StoreErr) × (parents_off_in (set_in n cvd) vids ≡ Some e)
+  row_refused off is = refused_some cvd (parents_off_in (set_in n cvd) vids) off (sym commit_row_is ∙ is)
+
+  pub row_none : (format : ℕ) → to_off format (set_in n cvd) vids added rows ≡ None → commit_row_off n cvd vids added ≡ None
+  row_none format none = commit_row_is ∙ ap (refused cvd) (parents_none format (set_in n cvd) vids added rows none)
 
 -- ---- a plan
 

@@ -1,10 +1,10 @@
 -- What a user's line asks.
---     line_asked user text      a comment, a command that no rule denies, or a refusal, which a query of a shape that isn't built is
+--     line_asked user text      a comment, a command that no rule denies, or a refusal
 --     refusal_to off      why it asks for nothing
 use Rattle.std.specs.Prelude.{◌≡◌, ◌≢◌, ℕ, List}
 use Rattle.ov_cmd.specs.Errors.{refusal_of}
 use Rattle.ov_cmd.specs.declared.line_err.LineErr.TheVariants as why
-use Rattle.law_forms.specs.BuiltShapes.{served_forms}
+use Rattle.ov_model.specs.Forms.{all_forms}
 use Rattle.ov_model.specs.Line.{Line, Refused, line_of}
 use Rattle.ov_model.specs.Users.{line_by}
 use Rattle.ov_model.specs.declared.refusal.Refusal.{Refusal}
@@ -13,7 +13,7 @@ use Rattle.ov_session.specs.declared.lines.Unasked.{Unasked}
 use Rattle.ov_session.specs.declared.lines.Unasked.TheVariants as unasked
 
 abbrev pub line_asked : List ℕ → List ℕ → Line
-line_asked user text = line_by user (line_of served_forms text)
+line_asked user text = line_by user (line_of all_forms text)
 
 abbrev pub refusal_to : Unasked → Refusal
 refusal_to (unasked.Line off) = refusal_of off

@@ -6,23 +6,23 @@
 --                                                         refuse it; a `generate` by what the store keeps now, after the versions that it
 --                                                         made, and a `migrate` so after its steps
 --     MeetsDamage user command stage held s page      damage that it meets before it is answered
---     IsOther refusal result ..      a query of a shape that isn't built was refused, and nothing else was done
 --     IfNoFile P reply      this holds where the reply is that there is no such file
 --     Acts d s t w result ..      where the store is at a World, a command does what it means, or is stopped in it
-use Rattle.std.specs.Prelude.{◌≡◌, ◌≤◌, ◌-◌, ◌^◌, ◌⊎◌, min, ℕ, Bool, true, false, List, [], ◌∷◌, ◌++◌, length, Option, Some, None, Result, Ok, Err, MatchResult}
+use Rattle.std.specs.Prelude.{◌≡◌, ◌≤◌, ◌-◌, ◌^◌, ◌⊎◌, min, ℕ, Bool, true, false, List, [], ◌∷◌, ◌++◌, length, Option, Some, None, Result, Ok, Err}
 use Rattle.std.specs.List.{All}
 use Rattle.ov_host.specs.declared.area.Area.TheVariants.{Pages}
 use Rattle.ov_host.specs.Host.{Rose, State}
-use Rattle.ov_host.specs.Stage.{Staged}
+use Rattle.ov_host.specs.Stage.{Files, Staged}
 use Rattle.ov_core.specs.Held.{Held}
 use Rattle.law_runs.specs.Serving.{Breaks, Does}
 use Rattle.ov_catalog.specs.Reached.{IfThere}
 use Rattle.ov_checkout.specs.declared.text.Checkout.{Checkout}
 use Rattle.ov_fetch.specs.Extents.{page_bytes}
-use Rattle.ov_model.specs.Act.{Deed, Session, commit_deed, commit_refusal, commit_rows, does, format_one, merge_of, refuses, repeated_key, schema_with, with_rows}
+use Rattle.ov_model.specs.Act.{Deed, Session, commit_deed, commit_refusal, commit_rows, does, merge_of, refuses, with_rows}
 use Rattle.ov_model.specs.Csv.{text_of}
 use Rattle.ov_model.specs.Line.{Comment, Line}
-use Rattle.ov_model.specs.Moves.{Init}
+use Rattle.ov_model.specs.Forms.{schema_refusal}
+use Rattle.ov_model.specs.Moves.{Init, wide}
 use Rattle.ov_model.specs.Book.{Row}
 use Rattle.ov_model.specs.declared.command.Command.{Command}
 use Rattle.ov_model.specs.World.{Dataset, World, set_named}
@@ -47,8 +47,7 @@ use Rattle.ov_session.specs.declared.serving.Served.TheVariants as served
 use Rattle.ov_model.specs.declared.reply.Reply.{Reply}
 use Rattle.ov_session.specs.declared.errors.EndErr.{EndErr}
 use Rattle.ov_session.specs.declared.errors.EndErr.TheVariants as ending
-use Rattle.ov_store.specs.Committing.{IfSet, IsDamagedAt, Set, commit_off}
-use Rattle.ov_store.specs.Kept.{Kept}
+use Rattle.ov_store.specs.Committing.{IfSet, IsDamagedAt, Set, TakesRows, adds, commit_off, schema_for}
 use Rattle.ov_store.specs.Planning.{IsDamagedFor, optimize_off}
 use Rattle.ov_store.specs.Scanning.{IsDamagedIn, scan_off, set_in, vids_in}
 use Rattle.ov_generate.specs.Making.{HasDamagedVersion}
@@ -75,11 +74,13 @@ AreRowsOf schema file stage rows = stage.tells ≡ true → file_rows schema fil
 abbrev pub IsScanDamaged : List ℕ → List ℕ → Held → State → ℕ → Type 0
 IsScanDamaged cvd vids held s page = (scan_off held.numbers cvd vids ≡ None) × IsDamagedIn (set_in held.numbers cvd) vids s page
 
--- these versions as the parents of a file's rows
-abbrev pub IsCommitDamaged : List ℕ → List ℕ → List ℕ → List ℕ → Staged → Held → State → ℕ → Type 0
-IsCommitDamaged cvd vids file message stage held s page =
-    (rows : List Row) × (commit_off held cvd vids rows ≡ None)
-    × IfSet (λ set. AreRowsOf set.schema file stage rows × IsDamagedAt set (record { vids = vids; message = message; rows = rows }) s page)
+-- these versions as the parents of a file's rows, which are rows of the schema with the added columns; the parents are tested by the
+-- schema before it grows
+abbrev pub IsCommitDamaged : List ℕ → List ℕ → List Column → List ℕ → List ℕ → Staged → Held → State → ℕ → Type 0
+IsCommitDamaged cvd vids added file message stage held s page =
+    (rows : List Row) × (commit_off held cvd vids added rows ≡ None)
+    × IfSet (λ set. AreRowsOf (schema_for set.schema added) file stage rows
+    × IsDamagedAt set (record { vids = vids; message = message; added = added; rows = rows }) s page)
     (set_in held.numbers cvd)
 
 -- a list or a segment of the dataset, where nothing refuses the plan
@@ -88,21 +89,8 @@ IsPlanDamaged cvd p q held s page = (optimize_off held.numbers cvd p q ≡ None)
 
 -- ---- by its row
 
--- of a file with the columns that are added: rows that the numbers don't refuse; the parents are tested by the schema before it grows
-abbrev pub AreTaken : Held → Shape → List Row → Type 0
-AreTaken held schema rows = (length rows ≤ 1000000) × (repeated_key schema [] 1 rows ≡ None) × (format_one held.journal.format true rows ≡ None)
-
-abbrev pub IsWideDamagedIn : Result Shape SchemaErr → Set → Wanted → List Row → Staged → Held → State → ℕ → Type 0
-IsWideDamagedIn (Err why) set wanted rows stage held s page = ⊥
-IsWideDamagedIn (Ok schema) set wanted rows stage held s page =
-    AreTaken held schema rows × AreRowsOf schema wanted.file stage rows
-    × IsDamagedAt set (record { vids = wanted.vids; message = wanted.message; rows = rows }) s page
-
-abbrev pub IsParentsDamaged : Wanted → List Column → Staged → Held → State → ℕ → Type 0
-IsParentsDamaged wanted [] stage held s page = IsCommitDamaged wanted.cvd wanted.vids wanted.file wanted.message stage held s page
-IsParentsDamaged wanted (column ∷ added) stage held s page =
-    (rows : List Row)
-    × IfSet (λ set. IsWideDamagedIn (schema_with set.schema (column ∷ added)) set wanted rows stage held s page) (set_in held.numbers wanted.cvd)
+abbrev pub IsParentsDamaged : Wanted → Staged → Held → State → ℕ → Type 0
+IsParentsDamaged wanted stage held s page = IsCommitDamaged wanted.cvd wanted.vids wanted.added wanted.file wanted.message stage held s page
 
 abbrev pub IsListsDamaged : Set → State → ℕ → Type 0
 IsListsDamaged set s page = s.tells ≡ true → HasBadList (page_bytes s) set (vids_in set) page ⊎ HasHighRid (page_bytes s) set page
@@ -130,7 +118,7 @@ IsAdviceDamaged cvd a b held s page =
 -- what is read of these versions is damaged
 abbrev pub IsBad : Source → Staged → Held → State → ℕ → Type 0
 IsBad (RowsOf set vids) stage held s page = IsDamagedIn set vids s page
-IsBad (ParentsOf set wanted) stage held s page = IsParentsDamaged wanted wanted.added stage held s page
+IsBad (ParentsOf set wanted) stage held s page = IsParentsDamaged wanted stage held s page
 IsBad (PlanOf set) stage held s page = IfSet (λ d. IsDamagedFor d s page) set
 IsBad (ListsOf set) stage held s page = IfSet (λ d. IsListsDamaged d s page) set
 IsBad (SegmentsOf set) stage held s page = IfSet (λ d. IsSegmentsDamaged d s page) set
@@ -180,13 +168,6 @@ abbrev pub Acts : Deed → Session → Session → World → Result Reply EndErr
 Acts d s t w (Ok reply) before now old new = Does d s t w reply before now old new
 Acts d s t w (Err why) before now old new = Breaks d s w old new
 
--- the store, the host and the stage are as they were, and there is this refusal, or no memory for it
-pub record IsOther (refusal : Refusal) (result : Result Reply EndErr) (before now : Kept) (stage staged : Staged) (old new : State) : Type 0 where
-  pub store : now ≡ before
-  pub stage_same : staged ≡ stage
-  pub host : new ≡ old
-  pub reply : MatchResult result (λ r. r ≡ says.Refused refusal) (λ why. why ≡ ending.Memory)
-
 -- damage of the pages, at a page of which this holds; other ends aren't of the pages
 abbrev pub IsDamageOf : (ℕ → Type 0) → EndErr → Type 0
 IsDamageOf P (ending.Damaged area at) = (area ≡ Pages) × P at
@@ -212,6 +193,11 @@ abbrev pub HasRowsOf : Shape → Asked → Type 0
 HasRowsOf schema (asked.Rows rows) = All (IsRow schema) rows
 HasRowsOf schema (asked.Said reply) = Unit {0}
 
+-- the schema takes the columns, and these are rows of the wider one
+abbrev pub HasWideRows : Shape → List Column → Asked → Type 0
+HasWideRows schema added (asked.Rows rows) = TakesRows schema added rows
+HasWideRows schema added (asked.Said reply) = Unit {0}
+
 abbrev pub HasShortRows : Asked → Type 0
 HasShortRows (asked.Rows rows) = All IsShort rows
 HasShortRows (asked.Said reply) = Unit {0}
@@ -231,12 +217,24 @@ abbrev pub HasMissed : Staged → Staged → Asked → Type 0
 HasMissed old new (asked.Rows rows) = Unit {0}
 HasMissed old new (asked.Said reply) = IfNoFile (Rose old.misses new.misses) reply
 
+-- it is what was found by a schema: its rows, or its refusal
+abbrev pub IsFoundAs : Result (List Row) Refusal → Asked → Type 0
+IsFoundAs found (asked.Rows rows) = found ≡ Ok rows
+IsFoundAs found (asked.Said reply) = (refusal : Refusal) × (reply ≡ says.Refused refusal) × (found ≡ Err refusal)
+
+-- by the schema with the added columns, where they are accepted; else their refusal
+abbrev pub IsFoundBy : Result Shape SchemaErr → List ℕ → Files → Asked → Type 0
+IsFoundBy (Ok schema) file files found = IsFoundAs (file_rows schema file (get files file)) found
+IsFoundBy (Err why) file files (asked.Rows rows) = ⊥
+IsFoundBy (Err why) file files (asked.Said reply) = reply ≡ says.Refused (schema_refusal why)
+
 -- the rows are those of the file, for a version that may be; or the command is refused so
-abbrev pub IsAskedOf : World → Session → List ℕ → List ℕ → List ℕ → List ℕ → Asked → Type 0
-IsAskedOf w s cvd vids message file (asked.Rows rows) = IfThere (λ d. (commit_refusal d vids ≡ None)
-    × (commit_deed w s cvd vids message [] file (Some d) ≡ with_rows w s d.cvd.schema false (commit_rows s d vids message []) (Ok rows))) (set_named w cvd)
-IsAskedOf w s cvd vids message file (asked.Said reply) =
-    (refusal : Refusal) × (reply ≡ says.Refused refusal) × (commit_deed w s cvd vids message [] file (set_named w cvd) ≡ refuses s refusal)
+abbrev pub IsAskedOf : World → Session → List ℕ → List ℕ → List ℕ → List Column → List ℕ → Asked → Type 0
+IsAskedOf w s cvd vids message added file (asked.Rows rows) = IfThere (λ d. (commit_refusal d vids ≡ None)
+    × (commit_deed w s cvd vids message added file (Some d)
+    ≡ with_rows w s (wide added d).cvd.schema (adds added) (commit_rows s d vids message added) (Ok rows))) (set_named w cvd)
+IsAskedOf w s cvd vids message added file (asked.Said reply) =
+    (refusal : Refusal) × (reply ≡ says.Refused refusal) × (commit_deed w s cvd vids message added file (set_named w cvd) ≡ refuses s refusal)
 
 -- ---- a checkout
 

@@ -2,9 +2,11 @@ pub mod Errors
 pub mod Asking
 pub mod Commands
 pub mod Bounds
+pub mod Staging
 pub mod Standing
 pub mod Reads
 pub mod Registering
+pub mod Serving
 pub mod Replying
 pub mod Stepping
 pub mod Damages

@@ -1,25 +1,21 @@
--- What a command reads, as one row for each that there is, whether it is built or not: by the numbers of the store and the user alone.
+-- What a command reads, as one row for each that there is: by the numbers of the store and the user alone.
 --     Source      versions of a dataset and what is read of them
 --     Reads      a row: what the numbers refuse, what is read, what is changed, what is done with the stage's files, and who the
 --                user is then
 --     reads_of n user command      the row of a command; who may ask it is decided before, but for a `run`
 --     fetch row      how many bytes of pages it may fetch; nothing where the numbers refuse it
-use Rattle.std.specs.Prelude.{ℕ, ◌+◌, Bool, false, not, nat_lt, if◌then◌else◌, List, [], ◌∷◌, ◌++◌, length, map, Option, Some, None, Result, Ok, Err, is_some}
+use Rattle.std.specs.Prelude.{ℕ, ◌+◌, Bool, false, not, nat_lt, List, [], ◌∷◌, ◌++◌, length, map, Option, Some, None, Result, Ok, Err, is_some}
 use Rattle.std.specs.Option.{option_or, option_and_then}
 use Rattle.ov_host.specs.declared.area.Extent.{Extent}
 use Rattle.ov_value.specs.declared.column.Column.{Column}
 use Rattle.ov_value.specs.declared.schema_err.SchemaErr.{SchemaErr}
-use Rattle.ov_value.specs.declared.value.Value.{Value}
-use Rattle.ov_value.specs.Naming.{is_name}
-use Rattle.ov_value.specs.Rows.{value_at}
 use Rattle.ov_value.specs.Shapes.{Shape}
 use Rattle.ov_catalog.specs.Numbers.{Numbers, nothing_yet}
 use Rattle.ov_model.specs.Act.{columns_of, if_so, is_threshold, schema_with}
 use Rattle.ov_model.specs.Book.{Row}
 use Rattle.ov_model.specs.Deed.{file_of_table}
 use Rattle.ov_model.specs.Forms.{schema_refusal}
-use Rattle.ov_model.specs.Registry.{as_text, both, is_number, stage_name, stage_schema, table_in, table_row, users_name, vids_staged, with_row}
-use Rattle.ov_model.specs.Users.{is_reserved}
+use Rattle.ov_model.specs.Registry.{stage_name, stage_schema, table_in, users_name, with_row}
 use Rattle.ov_model.specs.declared.command.Command.{Command}
 use Rattle.ov_model.specs.declared.command.Command.TheVariants as asks
 use Rattle.ov_model.specs.declared.refusal.Refusal.{Refusal}
@@ -29,8 +25,10 @@ pub use Rattle.ov_query.specs.Queries.{bytes_in}
 use Rattle.ov_read.specs.Sizes.{list_bytes_for, segment_bytes_for}
 use Rattle.ov_registry.specs.declared.registry.Registry.{Registry}
 use Rattle.ov_registry.specs.declared.registry.Registry.TheVariants as registry
+use Rattle.ov_staging.specs.Origins.{staged_in}
 use Rattle.ov_staging.specs.Reading.{foreign_off}
 use Rattle.ov_staging.specs.Tables.{table_rows}
+use Rattle.ov_staging.specs.Taking.{stage_off, staged_row}
 use Rattle.ov_staging.specs.Users.{config_off, create_off, user_rows}
 use Rattle.ov_session.specs.Errors.{plan_refusal}
 use Rattle.ov_store.specs.Committing.{Set, parents_off_in}
@@ -181,13 +179,6 @@ columns_off added (Some set) = schema_off (schema_with set.schema added)
 abbrev pub commit_row_off : Numbers Extent Extent → List ℕ → List ℕ → List Column → Option Refusal
 commit_row_off n cvd vids added = option_or (refused cvd (parents_off_in (set_in n cvd) vids)) (columns_off added (set_in n cvd))
 
--- 63 of a table's name, 76, 77; 10; per version 12 and 13
-abbrev pub stage_off : Numbers Extent Extent → List ℕ → List ℕ → List ℕ → Option Refusal
-stage_off n cvd vids table =
-    option_or (if_so (not (is_name table)) (no.BadName table))
-    (option_or (foreign_off stage_schema (set_in n stage_name))
-    (option_or (if_so (nat_lt 1000 (length vids)) no.TooManyListed) (refused cvd (scan_off n cvd vids))))
-
 -- ---- rows
 
 -- nothing is read, and nothing is changed
@@ -202,13 +193,9 @@ abbrev pub given_in : Option (List ℕ) → File
 given_in None = Unused
 given_in (Some file) = Given
 
--- the row of a table that is staged
-abbrev pub number_in : Option Set → ℕ
-number_in None = 0
-number_in (Some set) = set.number
-
+-- with the row of a table that is staged
 abbrev pub staged_rows : Numbers Extent Extent → List ℕ → List ℕ → List ℕ → List ℕ → List Row → List Row
-staged_rows n user cvd vids table rows = with_row rows (table_row user table cvd (number_in (set_in n cvd)) vids)
+staged_rows n user cvd vids table rows = with_row rows (staged_row n user cvd vids table)
 
 abbrev pub checkout_reads : Numbers Extent Extent → List ℕ → List ℕ → List ℕ → Option (List ℕ) → Option (List ℕ) → Reads
 checkout_reads n user cvd vids file None =
@@ -224,16 +211,6 @@ checkout_reads n user cvd vids file (Some table) =
 -- the parents of a commit are read once its file was
 abbrev pub parents_read : Numbers Extent Extent → Wanted → List Source
 parents_read n wanted = ParentsOf (set_in n wanted.cvd) wanted ∷ []
-
--- what a staged table's row names: a live dataset that is none of the store's own, under its name and number, and versions of it
-abbrev pub made_in : Value → Set → Option Set
-made_in made set = if is_number made set.number then Some set else None
-
-abbrev pub unreserved_in : Numbers Extent Extent → List ℕ → Option Set
-unreserved_in n name = if is_reserved name then None else set_in n name
-
-abbrev pub staged_in : Numbers Extent Extent → Row → Option (Set × List ℕ)
-staged_in n row = both (option_and_then (made_in (value_at row 3)) (option_and_then (unreserved_in n) (as_text (value_at row 2)))) (vids_staged row)
 
 abbrev pub staged_parents : Numbers Extent Extent → List ℕ → List ℕ → Option (Set × List ℕ) → List Source
 staged_parents n file message None = []

@@ -1,5 +1,7 @@
 // Why a line ends the run, and what an error of the store comes to.
 ghost use Rattle.std.specs.Prelude.{◌≡◌, true, [], Some, IfOk, IfErr, is_some};
+ghost use Rattle.ov_model.specs.Forms.{schema_refusal};
+ghost use Rattle.ov_value.specs.declared.schema_err.SchemaErr.TheVariants as schema;
 ghost use Rattle.ov_session.specs.declared.errors.EndErr.TheVariants as ending;
 ghost use Rattle.ov_session.specs.Errors.{by_file, by_staging, choose_end, choose_reply, end_of, is_nameless, plan_end, plan_reply, reply_of};
 
@@ -9,7 +11,7 @@ use ov_host::Area;
 use ov_model::{Refusal, Reply};
 use ov_staging::StagingErr;
 use ov_store::{PlanErr, StoreErr};
-use ov_value::Txt;
+use ov_value::{SchemaErr, Txt};
 use std::alloc::AllocError;
 
 /// Why a line ends the run.
@@ -101,6 +103,24 @@ pub fn refused(off: StoreErr, name: Txt) -> Result<Reply, EndErr>
         },
     };
     Ok(Reply::Refused(refusal))
+}
+
+/// The refusal of columns that are added; want of memory is none.
+pub fn schema_refused(off: SchemaErr) -> Result<Refusal, EndErr>
+    ensures refusal { IfOk result (λ refusal. refusal ≡ schema_refusal off) }
+    ensures some { IfOk result (λ refusal. off ≡ schema.Memory → ⊥) }
+    ensures memory { IfErr result (λ why. why ≡ EndErr.Memory) }
+{
+    Ok(match off {
+        SchemaErr::NoColumns => Refusal::NoColumns,
+        SchemaErr::TooManyColumns => Refusal::TooManyColumns,
+        SchemaErr::BadName { name } => Refusal::BadName { name },
+        SchemaErr::RepeatedName { name } => Refusal::RepeatedName { name },
+        SchemaErr::NoKey => Refusal::NoKey,
+        SchemaErr::UnknownKey { name } => Refusal::UnknownKey { name },
+        SchemaErr::RepeatedKey { name } => Refusal::RepeatedKey { name },
+        SchemaErr::Memory => return Err(EndErr::Memory),
+    })
 }
 
 /// The reply to a checkpoint that wasn't taken, or why the run ends there. No dataset is named by it.

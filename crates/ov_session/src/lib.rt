@@ -14,6 +14,7 @@ mod planning;
 mod reading;
 mod registering;
 mod serving;
+mod staging;
 mod stepping;
 
 pub use errors::EndErr;

@@ -1,16 +1,15 @@
 // What a user's line asks.
 ghost use Rattle.std.specs.Prelude.{◌≡◌, IfOk, IfErr};
-ghost use Rattle.ov_cmd.specs.Asked.{AsksBuilt};
+ghost use Rattle.ov_cmd.specs.Asked.{AsksAny};
 ghost use Rattle.ov_cmd.specs.Errors.{refusal_of};
 ghost use Rattle.ov_cmd.specs.Said.{said};
 ghost use Rattle.ov_cmd.specs.declared.line_err.LineErr.TheVariants as why;
-ghost use Rattle.law_forms.specs.BuiltShapes.{served_line};
 ghost use Rattle.ov_session.specs.Asking.{IsUnasked, line_asked, refusal_to};
 ghost use Rattle.ov_session.specs.declared.errors.EndErr.TheVariants as ending;
 ghost use Rattle.ov_session.specs.declared.lines.Unasked.TheVariants as unasked;
 
 use crate::errors::EndErr;
-use ov_cmd::{LineErr, read_built_line};
+use ov_cmd::{LineErr, read_line};
 use ov_model::{Command, Refusal};
 use ov_users::{Denied, permit};
 use ov_value::Txt;
@@ -25,14 +24,13 @@ pub enum Unasked {
     Denied(Denied),
 }
 
-/// What a user's line asks: nothing where it is a comment, or a command of those that the program has, which no rule denies.
-/// Among them is any `run`: one of a shape that isn't built is refused where it is answered.
+/// What a user's line asks: nothing where it is a comment, or a command that no rule denies.
 pub fn asked(alloc: Global, line: &[u8], user: &Txt) -> Result<Option<Command>, Unasked>
-    ensures ok { IfOk result (λ c. line_asked user.now line.now ≡ served_line (said c)) }
-    ensures asked { IfOk result AsksBuilt }
+    ensures ok { IfOk result (λ c. line_asked user.now line.now ≡ said c) }
+    ensures asked { IfOk result AsksAny }
     ensures err { IfErr result (IsUnasked (line_asked user.now line.now)) }
 {
-    match read_built_line(alloc, line) {
+    match read_line(alloc, line) {
         Ok(None) => Ok(None),
         Ok(Some(command)) => match permit(user.as_str(), &command) {
             Ok(()) => Ok(Some(command)),

@@ -27,10 +27,10 @@ use ov_model::{Refusal, Reply, Seq};
 use ov_query::answer_to;
 use ov_store::{Store, StoreErr};
 use ov_value::Txt;
-use std::alloc::{AllocError, Global};
+use std::alloc::Global;
 
-// The merge of these versions of a dataset, as a file's text.
-fn merged<H: Host>(
+/// The merge of these versions of a dataset, as a file's text.
+pub(crate) fn merged<H: Host>(
     alloc: Global,
     store: &Store,
     host: &mut H,
@@ -55,8 +55,8 @@ fn merged<H: Host>(
     Ok(checkout_of(alloc, &d.schema, &scan)?)
 }
 
-// Prints a checkout, or puts it into a file.
-fn give<T: Stage>(
+/// Prints a checkout, or puts it into a file.
+pub(crate) fn give<T: Stage>(
     stage: &mut T,
     cvd: Txt,
     made: Checkout,
@@ -155,22 +155,24 @@ pub fn run_query<H: Host>(
 }
 
 /// The partitions of a dataset, and the plan that runs.
-pub fn layout(alloc: Global, store: &Store, cvd: Txt) -> Result<Reply, AllocError>
+pub fn layout(alloc: Global, store: &Store, cvd: Txt) -> Result<Reply, EndErr>
     ensures told { (w : World) (s : Session) (t : State) → IsAtWorld w store.now.held t
         → IfOk result (λ reply. layout_deed s cvd (set_named w cvd) ≡ tells s reply) }
     ensures seen { IfOk result (IfNoFile ⊥) }
+    ensures memory { IfErr result (λ why. why ≡ EndErr.Memory) }
 {
     match store.catalog().cvd(cvd.as_str()) {
-        Some(d) => layout_of(alloc, d),
+        Some(d) => Ok(layout_of(alloc, d)?),
         None => Ok(Reply::Refused(Refusal::NoCvd { cvd })),
     }
 }
 
 /// The versions of a dataset.
-pub fn log(alloc: Global, store: &Store, cvd: Txt) -> Result<Reply, AllocError>
+pub fn log(alloc: Global, store: &Store, cvd: Txt) -> Result<Reply, EndErr>
     ensures told { (w : World) (s : Session) (t : State) → IsAtWorld w store.now.held t
         → IfOk result (λ reply. log_deed s cvd (set_named w cvd) ≡ tells s reply) }
     ensures seen { IfOk result (IfNoFile ⊥) }
+    ensures memory { IfErr result (λ why. why ≡ EndErr.Memory) }
 {
     match store.catalog().cvd(cvd.as_str()) {
         Some(d) => Ok(Reply::Log {
@@ -181,10 +183,11 @@ pub fn log(alloc: Global, store: &Store, cvd: Txt) -> Result<Reply, AllocError>
 }
 
 /// The datasets.
-pub fn ls(alloc: Global, store: &Store) -> Result<Reply, AllocError>
+pub fn ls(alloc: Global, store: &Store) -> Result<Reply, EndErr>
     ensures told { (w : World) (s : Session) (t : State) → IsAtWorld w store.now.held t
         → IfOk result (λ reply. reply ≡ says.Ls (map ls_line w.sets)) }
     ensures seen { IfOk result (IfNoFile ⊥) }
+    ensures memory { IfErr result (λ why. why ≡ EndErr.Memory) }
 {
     Ok(Reply::Ls {
         cvds: cvd_lines(alloc, store.catalog())?,

@@ -2,13 +2,10 @@
 ghost use Rattle.std.specs.Prelude.{◌≡◌, ◌≢◌, ◌≤◌, ◌+◌, ℕ, true, false, None, Ok, Err, IsErrOf, IsTrue, IfOk, IfErr, MatchResult, OnOk, is_ok};
 ghost use Rattle.ov_host.specs.Host.{Calls, Rose, State};
 ghost use Rattle.ov_host.specs.Tape.{Prints};
-ghost use Rattle.law_forms.specs.Built.{IsBuilt};
 ghost use Rattle.ov_model.specs.Formed.{IsAsked};
-ghost use Rattle.law_forms.specs.BuiltShapes.{if_built, served_forms};
-ghost use Rattle.ov_model.specs.Deed.{permitted};
+ghost use Rattle.ov_model.specs.Forms.{all_forms};
 ghost use Rattle.ov_model.specs.Line.{Asks};
 ghost use Rattle.ov_model.specs.declared.command.Command.{Command as CommandValue};
-ghost use Rattle.ov_model.specs.declared.refusal.Refusal.{Refusal};
 ghost use Rattle.ov_model.specs.Replies.{reply_text};
 ghost use Rattle.ov_model.specs.World.{World};
 ghost use Rattle.ov_value.specs.Naming.{is_name};
@@ -18,24 +15,26 @@ ghost use Rattle.law_runs.specs.Serving.{Serves, is_error as is_error_of, sessio
 ghost use Rattle.ov_store.specs.Kept.{Kept, MayCall};
 ghost use Rattle.ov_session.specs.Acting.{IsNextUser, kind_of, user_by};
 ghost use Rattle.ov_session.specs.Asking.{line_asked};
-ghost use Rattle.ov_session.specs.Bounds.{IsFetched, IsFetchedBy, IsReading, IsReadingCommand, is_command_off, is_off};
+ghost use Rattle.ov_session.specs.Bounds.{IsFetchedBy, IsReading, IsReadingCommand, is_off};
 ghost use Rattle.law_steps.specs.Turns.{running};
 ghost use Rattle.ov_session.specs.Replying.{IsReplied, IsSaidBy};
 ghost use Rattle.ov_session.specs.Reads.{becomes_of};
 ghost use Rattle.ov_session.specs.Damages.{IsLineDamaged, IsMetBy};
-ghost use Rattle.ov_session.specs.Standing.{IsAtSilently, IsAtSome, IsIdleBy, IsIdleOn};
-ghost use Rattle.ov_session.specs.Stepping.{NoneBehind, begins_plan, line_begins};
-ghost use Rattle.ov_session.specs.Commands.{Acts, Attended, Goes, IfNoFile, IsDamageOf, IsDamaged, IsNoDamage, IsOther, IsSaid, IsUnsaid, MeetsDamage, is_comment_in, is_comment_of, is_refused};
+ghost use Rattle.ov_session.specs.Serving.{IsOfFile, IsServed, IsServedAlone};
+ghost use Rattle.ov_session.specs.Standing.{IsAtSome, IsIdleOn};
+ghost use Rattle.ov_session.specs.Stepping.{NoneBehind, line_begins};
+ghost use Rattle.ov_session.specs.Commands.{Attended, Goes, IsDamageOf, IsNoDamage, IsSaid, IsUnsaid, MeetsDamage, is_comment_in, is_comment_of, is_refused};
 
 use crate::budgets::{advise, optimize_within};
-use crate::changing::{commit, drop_cvd, init};
+use crate::changing::{columns_of, commit, drop_cvd, init};
 use crate::checkpoints::checkpoint;
 use crate::errors::EndErr;
 use crate::generating::make_versions;
 use crate::lines::{asked, refusal};
 use crate::planning::{migrate, optimize};
-use crate::reading::{checkout, layout, log, ls, run_query};
+use crate::reading::{layout, log, ls, run_query};
 use crate::registering::{become_user, create_user, tables, unstage, whoami};
+use crate::staging::{check_out, commit_staged};
 use crate::stepping::take_steps;
 use ov_generate::Wanted;
 use ov_host::{Host, Stage};
@@ -56,74 +55,52 @@ pub enum Served {
     Refused,
 }
 
-// Does what a command asks that no rule denies, and that makes nobody the user. Its reply isn't printed yet.
-fn answer<H: Host, T: Stage>(
+// Does what a command asks that no rule denies, that changes nothing and has to do with no file, and that makes nobody the user. Its
+// reply isn't printed yet.
+fn answer_by_reading<H: Host>(
+    alloc: Global,
+    store: &Store,
+    host: &mut H,
+    user: &Txt,
+    command: Command,
+) -> Result<Reply, EndErr>
+    requires call { MayCall store.now (H.state host.old) }
+    requires asked { IsAsked command }
+    requires no_file { IsOfFile command → ⊥ }
+    requires stays { becomes_of command ≡ None }
+    requires reads { IsReadingCommand command }
+    ensures { IsServedAlone user.now user.now command result store.now store.now (H.state host.old) (H.state host.new) }
+{
+    match command {
+        Command::Run { text } => run_query(alloc, store, host, user, &text),
+        Command::Advise { cvd, budget, a, b } => advise(alloc, store, host, cvd, budget, a, b),
+        Command::Layout { cvd } => layout(alloc, store, cvd),
+        Command::Log { cvd } => log(alloc, store, cvd),
+        Command::Ls => ls(alloc, store),
+        Command::Whoami => whoami(alloc, user),
+        Command::Tables => tables(alloc, store, host, user),
+        _ => unreachable!(),
+    }
+}
+
+// The same, of a command that may change the store.
+fn answer_by_store<H: Host>(
     alloc: Global,
     store: &mut Store,
     host: &mut H,
-    stage: &mut T,
     user: &Txt,
     command: Command,
 ) -> Result<Reply, EndErr>
     requires call { MayCall store.old (H.state host.old) }
     requires asked { IsAsked command }
-    requires built { IsBuilt command }
+    requires no_file { IsOfFile command → ⊥ }
     requires stays { becomes_of command ≡ None }
-    ensures goes { Goes (H.state host.old) (H.state host.new) }
-    ensures attended { Attended (T.staged stage.old) (T.staged stage.new) }
-    ensures still { IsReadingCommand command → store.new.held ≡ store.old.held }
-    ensures fetched { IsFetched user.now command store.old.held store.new.held (IsErrOf result EndErr.Host) (H.state host.old) (H.state host.new) }
-    ensures unread { is_command_off store.old.held.numbers user.now command ≡ true → (H.state host.new).fetched ≡ (H.state host.old).fetched }
-    ensures cause { IsErrOf result EndErr.Host → Rose (H.state host.old).faults (H.state host.new).faults }
-    ensures stage { IsErrOf result EndErr.Stage → Rose (T.staged stage.old).faults (T.staged stage.new).faults }
-    ensures damaged { IfErr result (IsDamageOf (IsDamaged user.now command (T.staged stage.old) store.old.held store.new.held (H.state host.new))) }
-    ensures begins_none { begins_plan store.old.held.numbers command ≡ false → running store.old.held.numbers ≡ None → OnOk result (running store.new.held.numbers ≡ None) }
-    ensures whole { (page : ℕ) → (H.state host.old).tells ≡ true
-        → OnOk result (if_built command ≡ Ok command → MeetsDamage user.now command (T.staged stage.old) store.old.held (H.state host.old) page → ⊥) }
-    ensures usable { OnOk result (MayCall store.new (H.state host.new)) }
-    ensures by_journal { IsByJournal store.old.held (H.state host.old) → (IsErrOf result EndErr.Host → ⊥) → IsByJournal store.new.held (H.state host.new) }
-    ensures at { (w : World) → IsAtWorld w store.old.held (H.state host.old) → OnOk result (IsAtSilently store.new.held (H.state host.old) (H.state host.new)) }
-    ensures missed { IfOk result (IfNoFile (Rose (T.staged stage.old).misses (T.staged stage.new).misses)) }
-    ensures idle { IfErr result (λ why. IsIdleBy command why store.old store.new (T.staged stage.old) (T.staged stage.new) (H.state host.old) (H.state host.new)) }
-    ensures undamaged { (w : World) → IsAtWorld w store.old.held (H.state host.old) → IfErr result IsNoDamage }
-    ensures other { (refusal : Refusal) → if_built command ≡ Err refusal → IsOther refusal result store.old store.new
-        (T.staged stage.old) (T.staged stage.new) (H.state host.old) (H.state host.new) }
-    ensures acts { (w : World) → if_built command ≡ Ok command → (T.staged stage.old).tells ≡ true → IsAtWorld w store.old.held (H.state host.old)
-        → Acts (permitted w (session_of (T.staged stage.old).files user.now) command) (session_of (T.staged stage.old).files user.now)
-        (session_of (T.staged stage.new).files user.now) w result store.old.held store.new.held (H.state host.old) (H.state host.new) }
+    ensures { IsServedAlone user.now user.now command result store.old store.new (H.state host.old) (H.state host.new) }
 {
     match command {
-        Command::Init { cvd, schema, file } => init(alloc, store, host, stage, cvd, schema, file),
-        Command::Commit {
-            cvd,
-            vids,
-            file,
-            message,
-            added: _,
-        } => commit(
-            alloc,
-            store,
-            host,
-            stage,
-            cvd,
-            vids.as_slice(),
-            &file,
-            &message,
-        ),
-        Command::Checkout {
-            cvd,
-            vids,
-            file,
-            table: _,
-        } => checkout(alloc, store, host, stage, cvd, vids.as_slice(), file),
-        Command::Run { text } => run_query(alloc, store, host, user, &text),
         Command::Optimize { cvd, p, q } => optimize(store, host, cvd, p, q),
         Command::OptimizeWithin { cvd, budget } => optimize_within(alloc, store, host, cvd, budget),
-        Command::Advise { cvd, budget, a, b } => advise(alloc, store, host, cvd, budget, a, b),
         Command::Migrate { count } => migrate(store, host, count),
-        Command::Layout { cvd } => Ok(layout(alloc, store, cvd)?),
-        Command::Log { cvd } => Ok(log(alloc, store, cvd)?),
-        Command::Ls => Ok(ls(alloc, store)?),
         Command::DropCvd { cvd } => drop_cvd(store, host, cvd),
         Command::Checkpoint => checkpoint(store, host),
         Command::Generate {
@@ -141,10 +118,67 @@ fn answer<H: Host, T: Stage>(
             make_versions(alloc, store, host, wanted)
         }
         Command::CreateUser { name } => create_user(alloc, store, host, name),
-        Command::Whoami => whoami(alloc, user),
         Command::Unstage { user: owner, table } => unstage(alloc, store, host, owner, table),
-        Command::Tables => tables(alloc, store, host, user),
-        _ => unreachable!(),
+        _ => answer_by_reading(alloc, store, host, user, command),
+    }
+}
+
+// The same, of any command that makes nobody the user.
+fn answer<H: Host, T: Stage>(
+    alloc: Global,
+    store: &mut Store,
+    host: &mut H,
+    stage: &mut T,
+    user: &Txt,
+    command: Command,
+) -> Result<Reply, EndErr>
+    requires call { MayCall store.old (H.state host.old) }
+    requires asked { IsAsked command }
+    requires stays { becomes_of command ≡ None }
+    ensures { IsServed user.now user.now command result store.old store.new (T.staged stage.old) (T.staged stage.new)
+        (H.state host.old) (H.state host.new) }
+{
+    match command {
+        Command::Init { cvd, schema, file } => init(alloc, store, host, stage, cvd, schema, file),
+        Command::Commit {
+            cvd,
+            vids,
+            file,
+            message,
+            added,
+        } => commit(
+            alloc,
+            store,
+            host,
+            stage,
+            cvd,
+            vids.as_slice(),
+            columns_of(&added),
+            &file,
+            &message,
+        ),
+        Command::Checkout {
+            cvd,
+            vids,
+            file,
+            table,
+        } => check_out(
+            alloc,
+            store,
+            host,
+            stage,
+            user,
+            cvd,
+            vids.as_slice(),
+            file,
+            table,
+        ),
+        Command::CommitStaged {
+            user: owner,
+            table,
+            message,
+        } => commit_staged(alloc, store, host, stage, &owner, &table, &message),
+        _ => answer_by_store(alloc, store, host, user, command),
     }
 }
 
@@ -160,32 +194,11 @@ fn act<H: Host, T: Stage>(
 ) -> Result<Reply, EndErr>
     requires call { MayCall store.old (H.state host.old) }
     requires asked { IsAsked command }
-    requires built { IsBuilt command }
     requires user { IsTrue (is_name user.old) }
-    ensures goes { Goes (H.state host.old) (H.state host.new) }
-    ensures attended { Attended (T.staged stage.old) (T.staged stage.new) }
-    ensures still { IsReadingCommand command → store.new.held ≡ store.old.held }
-    ensures fetched { IsFetched user.old command store.old.held store.new.held (IsErrOf result EndErr.Host) (H.state host.old) (H.state host.new) }
-    ensures unread { is_command_off store.old.held.numbers user.old command ≡ true → (H.state host.new).fetched ≡ (H.state host.old).fetched }
-    ensures cause { IsErrOf result EndErr.Host → Rose (H.state host.old).faults (H.state host.new).faults }
-    ensures stage { IsErrOf result EndErr.Stage → Rose (T.staged stage.old).faults (T.staged stage.new).faults }
-    ensures damaged { IfErr result (IsDamageOf (IsDamaged user.old command (T.staged stage.old) store.old.held store.new.held (H.state host.new))) }
-    ensures begins_none { begins_plan store.old.held.numbers command ≡ false → running store.old.held.numbers ≡ None → OnOk result (running store.new.held.numbers ≡ None) }
-    ensures whole { (page : ℕ) → (H.state host.old).tells ≡ true
-        → OnOk result (if_built command ≡ Ok command → MeetsDamage user.old command (T.staged stage.old) store.old.held (H.state host.old) page → ⊥) }
-    ensures usable { OnOk result (MayCall store.new (H.state host.new)) }
-    ensures by_journal { IsByJournal store.old.held (H.state host.old) → (IsErrOf result EndErr.Host → ⊥) → IsByJournal store.new.held (H.state host.new) }
-    ensures at { (w : World) → IsAtWorld w store.old.held (H.state host.old) → OnOk result (IsAtSilently store.new.held (H.state host.old) (H.state host.new)) }
-    ensures missed { IfOk result (IfNoFile (Rose (T.staged stage.old).misses (T.staged stage.new).misses)) }
-    ensures idle { IfErr result (λ why. IsIdleBy command why store.old store.new (T.staged stage.old) (T.staged stage.new) (H.state host.old) (H.state host.new)) }
-    ensures undamaged { (w : World) → IsAtWorld w store.old.held (H.state host.old) → IfErr result IsNoDamage }
-    ensures other { (refusal : Refusal) → if_built command ≡ Err refusal → IsOther refusal result store.old store.new
-        (T.staged stage.old) (T.staged stage.new) (H.state host.old) (H.state host.new) }
+    ensures serves { IsServed user.old user.new command result store.old store.new (T.staged stage.old) (T.staged stage.new)
+        (H.state host.old) (H.state host.new) }
     ensures user { MatchResult result (λ reply. user.new ≡ user_by (becomes_of command) (kind_of reply) user.old) (λ why. user.new ≡ user.old) }
     ensures named { IsTrue (is_name user.new) }
-    ensures acts { (w : World) → if_built command ≡ Ok command → (T.staged stage.old).tells ≡ true → IsAtWorld w store.old.held (H.state host.old)
-        → Acts (permitted w (session_of (T.staged stage.old).files user.old) command) (session_of (T.staged stage.old).files user.old)
-        (session_of (T.staged stage.new).files user.new) w result store.old.held store.new.held (H.state host.old) (H.state host.new) }
 {
     match command {
         Command::Config { name } => become_user(alloc, store, host, user, name),
@@ -265,7 +278,7 @@ fn serve_line<H: Host, T: Stage>(
     ensures replied { IfOk result (λ served. IsSaidBy (line_asked user.old line.now) served store.old.held
         (T.staged stage.old) (T.staged stage.new) (H.state host.old) (H.state host.new)) }
     ensures serves { (w : World) → (T.staged stage.old).tells ≡ true → IsAtWorld w store.old.held (H.state host.old)
-        → Serves served_forms 0 w (session_of (T.staged stage.old).files user.old) (session_of (T.staged stage.new).files user.new) line.now
+        → Serves all_forms 0 w (session_of (T.staged stage.old).files user.old) (session_of (T.staged stage.new).files user.new) line.now
         (is_ok result) (is_refused result) store.old.held store.new.held (H.state host.old) (H.state host.new) }
 {
     match asked(alloc, line, user) {
@@ -335,7 +348,7 @@ pub fn serve<H: Host, T: Stage>(
     ensures replied { IfOk result (λ served. IsReplied steps (line_asked user.old line.now) served store.old.held
         (T.staged stage.old) (T.staged stage.new) (H.state host.old) (H.state host.new)) }
     ensures serves { (w : World) → (T.staged stage.old).tells ≡ true → IsAtWorld w store.old.held (H.state host.old)
-        → Serves served_forms steps w (session_of (T.staged stage.old).files user.old) (session_of (T.staged stage.new).files user.new) line.now
+        → Serves all_forms steps w (session_of (T.staged stage.old).files user.old) (session_of (T.staged stage.new).files user.new) line.now
         (is_ok result) (is_refused result) store.old.held store.new.held (H.state host.old) (H.state host.new) }
 {
     let served = serve_line(alloc, store, host, stage, line, user)?;

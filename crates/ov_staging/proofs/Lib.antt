@@ -4,3 +4,5 @@ pub mod Acted
 pub mod Keys
 pub mod Behind
 pub mod Told
+pub mod Taken
+pub mod Sources

@@ -112,7 +112,7 @@ IsAnswered which set change said reply before now old new =
 -- the rows in the order of their keys, for which the numbers allow a version whose one parent is the last one
 abbrev pub AreRowsDamaged : Registry → Option Set → List Row → Held → State → ℕ → Type 0
 AreRowsDamaged which set rows held s page =
-    IfSet (λ d. (made : List Row) × IsOrdered (schema_of which) rows made × (commit_off held (name_of which) (length d.versions ∷ []) made ≡ None)
+    IfSet (λ d. (made : List Row) × IsOrdered (schema_of which) rows made × (commit_off held (name_of which) (length d.versions ∷ []) [] made ≡ None)
     × IsDamagedAt d (wish_of d made) s page) set
 
 -- `rows` of the last version's, as they are read

@@ -26,7 +26,7 @@ use std::alloc::{AllocError, Global};
 
 /// What a command makes of the last rows of its dataset.
 #[derive(Drop)]
-pub(crate) enum Next {
+pub enum Next {
     /// It is refused by them.
     Refused(Refusal),
     /// These come in their place.

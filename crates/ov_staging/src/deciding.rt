@@ -4,7 +4,6 @@ ghost use Rattle.std.specs.Prelude.{◌≡◌, ◌≤◌, ◌+◌, ◌∷◌, �
 ghost use Rattle.ov_core.specs.AtWorld.{IsAtWorld};
 ghost use Rattle.ov_fetch.specs.Extents.{Looked};
 ghost use Rattle.ov_model.specs.Act.{repeated_key};
-ghost use Rattle.ov_model.specs.Deed.{table_named as table_named_of};
 ghost use Rattle.ov_model.specs.Lists.{Rises};
 ghost use Rattle.ov_model.specs.Registry.{stage_schema, table_in, user_row as user_row_of, users_schema};
 ghost use Rattle.ov_model.specs.World.{World, set_named};
@@ -22,6 +21,7 @@ ghost use Rattle.ov_staging.specs.declared.changing.Next.TheVariants as comes;
 
 use crate::changing::Next;
 use crate::errors::StagingErr;
+use crate::names::table_named;
 use crate::reading::{Found, read};
 use ov_host::Host;
 use ov_model::{Refusal, Reply};
@@ -73,19 +73,8 @@ fn with_user(alloc: Global, rows: &[Row], name: &str) -> Result<Next, AllocError
     Ok(Next::Rows(with_row(alloc, rows, &row)?))
 }
 
-// A table with its user.
-fn table_named(alloc: Global, owner: &str, table: &str) -> Result<Txt, AllocError>
-    ensures { IfOk result (λ made. made ≡ table_named_of owner.now table.now) }
-{
-    let mut text = String::new(alloc);
-    text.push_str(owner)?;
-    text.push_str(".")?;
-    text.push_str(table)?;
-    Txt::from_string(text)
-}
-
-// Whether the table is there. No version has as many rows as can't be counted.
-fn has_table(rows: &[Row], owner: &str, table: &str) -> Result<bool, AllocError>
+/// Whether the table is there. No version has as many rows as can't be counted.
+pub(crate) fn has_table(rows: &[Row], owner: &str, table: &str) -> Result<bool, AllocError>
     ensures { IfOk result (λ there. there ≡ is_some (table_in rows.now owner.now table.now)) }
 {
     if rows.len() > u32::MAX as usize {

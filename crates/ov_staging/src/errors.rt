@@ -1,6 +1,7 @@
 //! Why a command ends without a reply, and what an answer of the store comes to.
 
 ghost use Rattle.std.specs.Prelude.{◌≡◌, true, Some, IfOk, IfErr, is_some};
+ghost use Rattle.ov_store.specs.Refusals.{refusal_of};
 ghost use Rattle.ov_staging.specs.Errors.{end_of, reply_of};
 ghost use Rattle.ov_staging.specs.declared.errors.StagingErr.TheVariants as ending;
 
@@ -43,35 +44,45 @@ pub(crate) fn end(off: StoreErr) -> StagingErr
     }
 }
 
+/// The refusal of the store, or why the command ends. The dataset is named by `name`.
+pub(crate) fn refusal_in(off: StoreErr, name: Txt) -> Result<Refusal, StagingErr>
+    ensures refusal { IfOk result (λ refusal. refusal_of name off ≡ Some refusal) }
+    ensures end { IfErr result (λ e. end_of off ≡ Some e) }
+{
+    match off {
+        StoreErr::Host => Err(StagingErr::Host),
+        StoreErr::Memory => Err(StagingErr::Memory),
+        StoreErr::Damaged { area, at } => Err(StagingErr::Damaged { area, at }),
+        StoreErr::Full { pages } => Ok(Refusal::NoRun {
+            pages: u64::from(pages),
+            steps: None,
+        }),
+        StoreErr::JournalFull => Ok(Refusal::JournalFull { steps: None }),
+        StoreErr::NoCvd => Ok(Refusal::NoCvd { cvd: name }),
+        StoreErr::CvdExists => Ok(Refusal::CvdExists { cvd: name }),
+        StoreErr::NoVersion { vid } => Ok(Refusal::NoVersion { vid }),
+        StoreErr::RepeatedVersion { vid } => Ok(Refusal::RepeatedVersion { vid }),
+        StoreErr::DuplicateKey { row } => Ok(Refusal::DuplicateKey {
+            row: u64::from(row),
+        }),
+        StoreErr::TooManyVersions => Ok(Refusal::TooManyVersions { cvd: name }),
+        StoreErr::TooManyRecords => Ok(Refusal::TooManyRecords { cvd: name }),
+        StoreErr::TooManyRows => Ok(Refusal::TooManyRows),
+        StoreErr::TooManyCvds => Ok(Refusal::TooManyCvds),
+        StoreErr::NoNumbers => Ok(Refusal::NoNumbers { cvd: name }),
+        StoreErr::FormatOne { row } => Ok(Refusal::FormatOne {
+            row: u64::from(row),
+        }),
+    }
+}
+
 /// The reply to a change that the store refused, or why the command ends. The dataset is named by `name`.
 pub(crate) fn refused(off: StoreErr, name: Txt) -> Result<Reply, StagingErr>
     ensures reply { IfOk result (λ reply. reply_of name off ≡ Some reply) }
     ensures end { IfErr result (λ e. end_of off ≡ Some e) }
 {
-    let refusal = match off {
-        StoreErr::Host => return Err(StagingErr::Host),
-        StoreErr::Memory => return Err(StagingErr::Memory),
-        StoreErr::Damaged { area, at } => return Err(StagingErr::Damaged { area, at }),
-        StoreErr::Full { pages } => Refusal::NoRun {
-            pages: u64::from(pages),
-            steps: None,
-        },
-        StoreErr::JournalFull => Refusal::JournalFull { steps: None },
-        StoreErr::NoCvd => Refusal::NoCvd { cvd: name },
-        StoreErr::CvdExists => Refusal::CvdExists { cvd: name },
-        StoreErr::NoVersion { vid } => Refusal::NoVersion { vid },
-        StoreErr::RepeatedVersion { vid } => Refusal::RepeatedVersion { vid },
-        StoreErr::DuplicateKey { row } => Refusal::DuplicateKey {
-            row: u64::from(row),
-        },
-        StoreErr::TooManyVersions => Refusal::TooManyVersions { cvd: name },
-        StoreErr::TooManyRecords => Refusal::TooManyRecords { cvd: name },
-        StoreErr::TooManyRows => Refusal::TooManyRows,
-        StoreErr::TooManyCvds => Refusal::TooManyCvds,
-        StoreErr::NoNumbers => Refusal::NoNumbers { cvd: name },
-        StoreErr::FormatOne { row } => Refusal::FormatOne {
-            row: u64::from(row),
-        },
-    };
-    Ok(Reply::Refused(refusal))
+    match refusal_in(off, name) {
+        Ok(refusal) => Ok(Reply::Refused(refusal)),
+        Err(why) => Err(why),
+    }
 }

@@ -8,10 +8,17 @@ mod answering;
 mod changing;
 mod deciding;
 mod errors;
+mod names;
+mod origins;
 mod reading;
 mod staged;
+mod taking;
 mod users;
 
+pub use changing::Next;
 pub use errors::StagingErr;
+pub use names::file_of_table;
+pub use origins::{Origin, origin_of};
 pub use staged::{tables, unstage};
+pub use taking::may_stage;
 pub use users::{config, create_user};

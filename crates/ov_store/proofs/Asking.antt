@@ -3,12 +3,13 @@ use Rattle.std.proofs.lemmas.Bool.{lt-leb}
 use Rattle.std.proofs.Common.{◌<◌, subst, ◌≡◌, ℕ, false, List, [], length, ap}
 use Rattle.std.specs.Prelude.{Option, Some, None}
 use Rattle.std.specs.Option.{option_map, option_or}
+use Rattle.ov_value.specs.declared.column.Column.{Column}
 use Rattle.ov_model.specs.Book.{Row}
 use Rattle.ov_core.specs.Held.{Held}
 use Rattle.ov_rows.specs.Refusing.{rows_off}
 use Rattle.ov_store.specs.declared.errors.StoreErr.{StoreErr}
 use Rattle.ov_store.specs.declared.errors.StoreErr.TheVariants as why
-use Rattle.ov_store.specs.Committing.{Set, commit_off, parents_off, parents_off_in, to_off}
+use Rattle.ov_store.specs.Committing.{Set, adds, commit_off, parents_off, parents_off_in, schema_for, to_off}
 use Rattle.ov_store.specs.Listing.{IsListed}
 use Rattle.ov_store.specs.Unready.{IsRefused}
 use Rattle.ov_store.specs.Worlds.{IsByNumbers}
@@ -17,9 +18,10 @@ use Rattle.ov_store.specs.Refusals.{off_if, vids_off}
 use Rattle.ov_store.specs.Scanning.{set_in}
 
 -- the parents are the first that are tried
-off_first : (format : ℕ) (o : Option Set) (vids : List ℕ) (rows : List Row) (x : StoreErr) → parents_off_in o vids ≡ Some x → to_off format o vids rows ≡ Some x
-off_first format None vids rows x refused = refused
-off_first format (Some s) vids rows x refused = ap (λ (o : Option StoreErr). option_or o (option_map of_rows (rows_off format s.schema false rows))) refused
+off_first : (format : ℕ) (o : Option Set) (vids : List ℕ) (added : List Column) (rows : List Row) (x : StoreErr) → parents_off_in o vids ≡ Some x → to_off format o vids added rows ≡ Some x
+off_first format None vids added rows x refused = refused
+off_first format (Some s) vids added rows x refused =
+    ap (λ (o : Option StoreErr). option_or o (option_map of_rows (rows_off format (schema_for s.schema added) (adds added) rows))) refused
 
 refused_on : (off later : Option StoreErr) (e : StoreErr) → ((x : StoreErr) → off ≡ Some x → later ≡ Some x) → IsRefused off e → IsRefused later e
 refused_on off later why.Host first is = absurd is
@@ -39,10 +41,10 @@ refused_on off later why.TooManyCvds first is = first why.TooManyCvds is
 refused_on off later why.NoNumbers first is = first why.NoNumbers is
 refused_on off later (why.FormatOne row) first is = first (why.FormatOne row) is
 
-pub parents_first : (held : Held) (name vids : List ℕ) (rows : List Row) (e : StoreErr) → IsRefused (parents_off_in (set_in held.numbers name) vids) e
-    → IsRefused (commit_off held name vids rows) e
-parents_first held name vids rows e is =
-    refused_on (parents_off_in (set_in held.numbers name) vids) (commit_off held name vids rows) e (off_first held.journal.format (set_in held.numbers name) vids rows) is
+pub parents_first : (held : Held) (name vids : List ℕ) (added : List Column) (rows : List Row) (e : StoreErr) → IsRefused (parents_off_in (set_in held.numbers name) vids) e
+    → IsRefused (commit_off held name vids added rows) e
+parents_first held name vids added rows e is =
+    refused_on (parents_off_in (set_in held.numbers name) vids) (commit_off held name vids added rows) e (off_first held.journal.format (set_in held.numbers name) vids added rows) is
 
 pub refused_by_numbers : (off : Option StoreErr) (e : StoreErr) → IsRefused off e → IsByNumbers e
 refused_by_numbers off why.Host is = absurd is

@@ -8,7 +8,9 @@ use Rattle.std.proofs.lemmas.Slice.Eq.{bytes_eq-Decides}
 use Rattle.ov_host.specs.Host.{State}
 use Rattle.ov_value.specs.Shapes.{Shape}
 use Rattle.ov_model.specs.Act.{commit_refusal, if_so, init_refusal, records_refusal, rows_refusal, vids_refusal}
+use Rattle.ov_value.specs.declared.column.Column.{Column}
 use Rattle.ov_model.specs.Book.{Row}
+use Rattle.ov_model.specs.Moves.{wide}
 use Rattle.ov_model.specs.Records.{order_of}
 use Rattle.ov_model.specs.World.{Dataset, World, first_set, named, set_named, is_one}
 use Rattle.ov_model.specs.declared.refusal.Refusal.{Refusal}
@@ -28,7 +30,7 @@ use Rattle.law_reads.proofs.Counted.{numbers}
 use Rattle.ov_store.specs.declared.errors.StoreErr.{StoreErr}
 use Rattle.ov_store.specs.declared.errors.StoreErr.TheVariants as why
 use Rattle.ov_store.specs.Beginning.{init_off}
-use Rattle.ov_store.specs.Committing.{Set, Wish, commit_move, commit_off, fresh_in_world, parents_off, parents_off_in, to_off}
+use Rattle.ov_store.specs.Committing.{Set, Wish, adds, commit_move, commit_off, fresh_in_world, parents_off, parents_off_in, schema_for, to_off}
 use Rattle.ov_store.specs.Errors.{of_rows}
 use Rattle.ov_store.specs.Refusals.{new_off, off_if, refusal_of, refused, vids_off}
 use Rattle.ov_store.specs.Scanning.{set_in}
@@ -38,6 +40,7 @@ use Rattle.ov_store.proofs.Dropping.{drop_gone, number_seen}
 use Rattle.ov_store.proofs.Fitting.{sees}
 use Rattle.ov_store.proofs.Refusing.{new_refused, refused_last, vids_refused}
 use Rattle.ov_store.proofs.Seeing.{found_set}
+use Rattle.ov_store.proofs.Widening.{wide_name, wide_schema_is}
 
 -- ---- one refusal before another
 
@@ -99,8 +102,8 @@ names_row name (Some (rows_err.DuplicateKey row)) never = names_some name (why.D
 names_row name (Some (rows_err.FormatOne row)) never = names_some name (why.FormatOne row) (no.FormatOne row) refl
 names_row name (Some rows_err.Memory) never = absurd (never refl)
 
-names_rows : (name : List ℕ) (format : ℕ) (schema : Shape) (rows : List Row) → NamesOne name (option_map of_rows (rows_off format schema false rows))
-names_rows name format schema rows = names_row name (rows_off format schema false rows) (never_memory format schema false rows)
+names_rows : (name : List ℕ) (format : ℕ) (schema : Shape) (more : Bool) (rows : List Row) → NamesOne name (option_map of_rows (rows_off format schema more rows))
+names_rows name format schema more rows = names_row name (rows_off format schema more rows) (never_memory format schema more rows)
 
 row_refused : (name : List ℕ) (o : Option RowsErr) → refused name (option_map of_rows o) ≡ option_and_then row_refusal o
 row_refused name None = refl
@@ -109,12 +112,12 @@ row_refused name (Some (rows_err.DuplicateKey row)) = refl
 row_refused name (Some (rows_err.FormatOne row)) = refl
 row_refused name (Some rows_err.Memory) = refl
 
-rows_refused : (name : List ℕ) (w : World) (format : ℕ) (schema : Shape) (rows : List Row) → w.format ≡ format
-    → refused name (option_map of_rows (rows_off format schema false rows)) ≡ rows_refusal w schema false rows
-rows_refused name w format schema rows same =
-    row_refused name (rows_off format schema false rows)
-    ∙ ap (λ f. option_and_then row_refusal (rows_off f schema false rows)) (sym same)
-    ∙ sym (refused_alike w schema false rows)
+rows_refused : (name : List ℕ) (w : World) (format : ℕ) (schema : Shape) (more : Bool) (rows : List Row) → w.format ≡ format
+    → refused name (option_map of_rows (rows_off format schema more rows)) ≡ rows_refusal w schema more rows
+rows_refused name w format schema more rows same =
+    row_refused name (rows_off format schema more rows)
+    ∙ ap (λ f. option_and_then row_refusal (rows_off f schema more rows)) (sym same)
+    ∙ sym (refused_alike w schema more rows)
 
 name_found : (name : List ℕ) (sets : List Dataset) (d : Dataset) → first_set (named name) sets ≡ Some d → d.cvd.name ≡ name
 name_found name [] d e = absurd cc
@@ -134,7 +137,7 @@ module _ (w : World) (held : Held) (s : State) (at : IsAtWorld w held s) (name :
   pub begin_refused : (schema : Shape) (rows : List Row) → refused name (init_off held name schema rows) ≡ begin_refusal w name schema rows
   begin_refused schema rows =
       refused_then name (new_off held.numbers name) (option_map of_rows (rows_off held.journal.format schema false rows)) (names_new name held.numbers)
-      ∙ (λ i. option_or (may_begin_refused i) (rows_refused name w held.journal.format schema rows at.stands.format i))
+      ∙ (λ i. option_or (may_begin_refused i) (rows_refused name w held.journal.format schema false rows at.stands.format i))
 
   -- ---- a dataset that isn't there
 
@@ -172,41 +175,43 @@ module _ (w : World) (held : Held) (s : State) (at : IsAtWorld w held s) (name :
           ∙ (λ i. option_or (vids_refused name (length set.versions) [] vids i) (refused_last name (many (length set.versions)) why.TooManyVersions (no.TooManyVersions name) refl i))
           ∙ (λ i. option_or (vids_refusal (counts.versions i) [] vids) (if_so (many (counts.versions i)) (no.TooManyVersions (sym (name_found name w.sets d is) i))))
 
-      numbers_refused : (vids : List ℕ) (rows : List Row)
-          → refused name (to_off held.journal.format (Some set) vids rows) ≡ option_or (commit_refusal d vids) (rows_refusal w d.cvd.schema false rows)
-      numbers_refused vids rows =
-          refused_then name (parents_off set vids) (option_map of_rows (rows_off held.journal.format set.schema false rows)) (names_parents name set vids)
-          ∙ (λ i. option_or (parents_refused vids i) (rows_refused name w held.journal.format set.schema rows at.stands.format i))
-          ∙ ap (λ schema. option_or (commit_refusal d vids) (rows_refusal w schema false rows)) counts.schema
+      numbers_refused : (vids : List ℕ) (added : List Column) (rows : List Row)
+          → refused name (to_off held.journal.format (Some set) vids added rows) ≡ option_or (commit_refusal d vids) (rows_refusal w (wide added d).cvd.schema (adds added) rows)
+      numbers_refused vids added rows =
+          refused_then name (parents_off set vids) (option_map of_rows (rows_off held.journal.format (schema_for set.schema added) (adds added) rows)) (names_parents name set vids)
+          ∙ (λ i. option_or (parents_refused vids i) (rows_refused name w held.journal.format (schema_for set.schema added) (adds added) rows at.stands.format i))
+          ∙ ap (λ schema. option_or (commit_refusal d vids) (rows_refusal w schema (adds added) rows))
+          (ap (λ schema. schema_for schema added) counts.schema ∙ sym (wide_schema_is added d))
 
     -- all but the number of records
     module _ (wish : Wish) where
       abbrev many : Option Refusal
-      many = records_refusal d (fresh_in_world d wish)
+      many = records_refusal (wide wish.added d) (fresh_in_world d wish)
 
-      version_is : version_refusal w d wish ≡ option_or (refused name (commit_off held name wish.vids wish.rows)) many
+      version_is : version_refusal w d wish ≡ option_or (refused name (commit_off held name wish.vids wish.added wish.rows)) many
       version_is =
           let there = set_found
-          in or_assoc (commit_refusal d wish.vids) (rows_refusal w d.cvd.schema false wish.rows) many
-          ∙ ap (λ o. option_or o many) (sym (ap (λ set. refused name (to_off held.journal.format set wish.vids wish.rows)) there.1 ∙ numbers_refused there.0 there.1 wish.vids wish.rows))
+          in or_assoc (commit_refusal d wish.vids) (rows_refusal w (wide wish.added d).cvd.schema (adds wish.added) wish.rows) many
+          ∙ ap (λ o. option_or o many)
+          (sym (ap (λ set. refused name (to_off held.journal.format set wish.vids wish.added wish.rows)) there.1 ∙ numbers_refused there.0 there.1 wish.vids wish.added wish.rows))
 
-      passed : commit_off held name wish.vids wish.rows ≡ None → version_refusal w d wish ≡ many
+      passed : commit_off held name wish.vids wish.added wish.rows ≡ None → version_refusal w d wish ≡ many
       passed none = version_is ∙ ap (λ o. option_or (refused name o) many) none
 
-      version_none : commit_off held name wish.vids wish.rows ≡ None → length (order_of d.cvd.versions) + fresh_in_world d wish ≤ 2 ^ 31 → version_refusal w d wish ≡ None
+      version_none : commit_off held name wish.vids wish.added wish.rows ≡ None → length (order_of (wide wish.added d).cvd.versions) + fresh_in_world d wish ≤ 2 ^ 31 → version_refusal w d wish ≡ None
       version_none none few =
-          passed none ∙ ap (λ b. if_so b (no.TooManyRecords d.cvd.name)) (le-ltb (2 ^ 31) (length (order_of d.cvd.versions) + fresh_in_world d wish) few)
+          passed none ∙ ap (λ b. if_so b (no.TooManyRecords (wide wish.added d).cvd.name)) (le-ltb (2 ^ 31) (length (order_of (wide wish.added d).cvd.versions) + fresh_in_world d wish) few)
 
-      pub version_fits : commit_off held name wish.vids wish.rows ≡ None → Fits (commit_move d wish.vids wish.message wish.rows) w → version_refusal w d wish ≡ None
+      pub version_fits : commit_off held name wish.vids wish.added wish.rows ≡ None → Fits (commit_move d wish.vids wish.message wish.added wish.rows) w → version_refusal w d wish ≡ None
       version_fits none fits = version_none none (fits_few w (page_bytes s) set_found.0 d (found_set w held s at name set_found.0 d set_found.1 is) wish fits)
 
-      pub version_many : commit_off held name wish.vids wish.rows ≡ None → 2 ^ 31 < length (order_of d.cvd.versions) + fresh_in_world d wish
+      pub version_many : commit_off held name wish.vids wish.added wish.rows ≡ None → 2 ^ 31 < length (order_of (wide wish.added d).cvd.versions) + fresh_in_world d wish
           → version_refusal w d wish ≡ Some (no.TooManyRecords name)
       version_many none high =
-          passed none ∙ ap (λ b. if_so b (no.TooManyRecords d.cvd.name)) (lt-ltb (2 ^ 31) (length (order_of d.cvd.versions) + fresh_in_world d wish) high)
-          ∙ ap (λ n. Some (no.TooManyRecords n)) (name_found name w.sets d is)
+          passed none ∙ ap (λ b. if_so b (no.TooManyRecords (wide wish.added d).cvd.name)) (lt-ltb (2 ^ 31) (length (order_of (wide wish.added d).cvd.versions) + fresh_in_world d wish) high)
+          ∙ ap (λ n. Some (no.TooManyRecords n)) (wide_name wish.added d ∙ name_found name w.sets d is)
 
-      pub version_off : (off : StoreErr) (r : Refusal) → commit_off held name wish.vids wish.rows ≡ Some off → refusal_of name off ≡ Some r → version_refusal w d wish ≡ refusal_of name off
+      pub version_off : (off : StoreErr) (r : Refusal) → commit_off held name wish.vids wish.added wish.rows ≡ Some off → refusal_of name off ≡ Some r → version_refusal w d wish ≡ refusal_of name off
       version_off off r same one = version_is ∙ ap (λ o. option_or (refused name o) many) same ∙ ap (λ o. option_or o many) one ∙ sym one
 
   -- ---- its parents alone

@@ -5,6 +5,7 @@ use Rattle.std.specs.Option.{option_map}
 use Rattle.ov_host.specs.Host.{State}
 use Rattle.ov_host.specs.Tape.{Tape}
 use Rattle.ov_host.specs.declared.area.Extent.{Extent}
+use Rattle.ov_value.specs.declared.column.Column.{Column}
 use Rattle.ov_model.specs.Book.{Row}
 use Rattle.ov_model.specs.Moves.{moved}
 use Rattle.ov_model.specs.World.{Dataset, World, set_named}
@@ -30,24 +31,25 @@ use Rattle.ov_store.proofs.Readying.{rose_later}
 
 -- ---- the dataset is there where nothing refuses
 
-there_in : (format : ℕ) (o : Option Set) (vids : List ℕ) (rows : List Row) → to_off format o vids rows ≡ None → (set : Set) × (o ≡ Some set)
-there_in format None vids rows e = absurd cc
-there_in format (Some set) vids rows e = (set, refl)
+there_in : (format : ℕ) (o : Option Set) (vids : List ℕ) (added : List Column) (rows : List Row) → to_off format o vids added rows ≡ None → (set : Set) × (o ≡ Some set)
+there_in format None vids added rows e = absurd cc
+there_in format (Some set) vids added rows e = (set, refl)
 
-pub set_there : (held : Held) (name vids : List ℕ) (rows : List Row) → commit_off held name vids rows ≡ None → (set : Set) × (set_in held.numbers name ≡ Some set)
-set_there held name vids rows off = there_in held.journal.format (set_in held.numbers name) vids rows off
+pub set_there : (held : Held) (name vids : List ℕ) (added : List Column) (rows : List Row) → commit_off held name vids added rows ≡ None
+    → (set : Set) × (set_in held.numbers name ≡ Some set)
+set_there held name vids added rows off = there_in held.journal.format (set_in held.numbers name) vids added rows off
 
-module _ (w : World) (held : Held) (s : State) (at : IsAtWorld w held s) (name : List ℕ) (wish : Wish) (off : commit_off held name wish.vids wish.rows ≡ None) where
+module _ (w : World) (held : Held) (s : State) (at : IsAtWorld w held s) (name : List ℕ) (wish : Wish) (off : commit_off held name wish.vids wish.added wish.rows ≡ None) where
   not_gone : set_named w name ≡ None → ⊥
   not_gone none =
-      let there = set_there held name wish.vids wish.rows off
+      let there = set_there held name wish.vids wish.added wish.rows off
       in let number : Some there.0.number ≡ None
       = sym (ap (option_map (λ (d : Set). d.number)) there.1)
       ∙ number_seen (readings_of s.tape.disk.pages.bytes) held.numbers w name (sees w held s at)
       ∙ ap (option_map (λ (d : Dataset). d.cvd.number)) none
       in cc
 
-  pub commits : (P : World → Type 0) → ((d : Dataset) → set_named w name ≡ Some d → P (moved (commit_move d wish.vids wish.message wish.rows) w)) → P (committed name wish w)
+  pub commits : (P : World → Type 0) → ((d : Dataset) → set_named w name ≡ Some d → P (moved (commit_move d wish.vids wish.message wish.added wish.rows) w)) → P (committed name wish w)
   commits P each = by (set_named w name) refl
     where
       by : (o : Option Dataset) → set_named w name ≡ o → P (with_commit o wish w)
@@ -66,11 +68,11 @@ few_pages held name wish s t (TooLong list_pages segment_pages) is = (is.2, is.3
 
 module _ (held : Held) (name : List ℕ) (wish : Wish) (s t : State) (e : StoreErr) where
   -- no run for one of both
-  no_room_for : (live : List Extent) (list segment : List ℕ) → IsNoRoom live list segment e → commit_off held name wish.vids wish.rows ≡ None
+  no_room_for : (live : List Extent) (list segment : List ℕ) → IsNoRoom live list segment e → commit_off held name wish.vids wish.added wish.rows ≡ None
       → ((pages : ℕ) → e ≡ why.Full pages → IfSet (λ x. FindsNoRun x wish s held pages) (set_in held.numbers name)) → IsUncommitted held name wish s t e
   no_room_for = by e
     where
-      by : (e : StoreErr) (live : List Extent) (list segment : List ℕ) → IsNoRoom live list segment e → commit_off held name wish.vids wish.rows ≡ None
+      by : (e : StoreErr) (live : List Extent) (list segment : List ℕ) → IsNoRoom live list segment e → commit_off held name wish.vids wish.added wish.rows ≡ None
           → ((pages : ℕ) → e ≡ why.Full pages → IfSet (λ x. FindsNoRun x wish s held pages) (set_in held.numbers name)) → IsUncommitted held name wish s t e
       by why.Memory live list segment is off full = tt
       by (why.Full pages) live list segment is off full = (off, full pages refl)
@@ -162,7 +164,7 @@ module _ (held : Held) (name : List ℕ) (wish : Wish) (s t : State) (e : StoreE
 -- ---- not stored
 
 pub unstored_uncommitted : (held : Held) (name : List ℕ) (set : Set) (wish : Wish) (s t u : State) (b : Bringing) (fresh : ℕ) (e : StoreErr) → set_in held.numbers name ≡ Some set
-    → commit_off held name wish.vids wish.rows ≡ None → IsCommitBy set wish s b fresh → s.faults ≤ t.faults → IsUnstored held b t u e → IsUncommitted held name wish s u e
+    → commit_off held name wish.vids wish.added wish.rows ≡ None → IsCommitBy set wish s b fresh → s.faults ≤ t.faults → IsUnstored held b t u e → IsUncommitted held name wish s u e
 unstored_uncommitted held name set wish s t u b fresh why.Host found off by kept is = rose_later s.faults t.faults u.faults kept is
 unstored_uncommitted held name set wish s t u b fresh why.Memory found off by kept is = tt
 unstored_uncommitted held name set wish s t u b fresh (why.Full pages) found off by kept is =

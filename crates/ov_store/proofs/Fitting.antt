@@ -100,19 +100,31 @@ last_none : (first rest : Option RowsErr) → option_or first rest ≡ None → 
 last_none None rest e = e
 last_none (Some off) rest e = absurd cc
 
-null_none : (row : Option ℕ) → null_off row false ≡ None → row ≡ None
-null_none None e = refl
-null_none (Some nth) e = absurd cc
+null_none : (row : Option ℕ) (adds : Bool) → null_off row adds ≡ None → row ≡ None
+null_none None adds e = refl
+null_none (Some nth) adds e = absurd cc
+
+add_none : (row : Option ℕ) (adds : Bool) → null_off row adds ≡ None → adds ≡ false
+add_none None true e = absurd cc
+add_none None false e = refl
+add_none (Some nth) adds e = absurd cc
 
 -- rows that are those of a version in a store of this format have no NULL where it is 1
-pub plain_rows : (w : World) (format : ℕ) (schema : Shape) (rows : List Row) → w.format ≡ format → rows_off format schema false rows ≡ None → ArePlain w (in_key_order schema rows)
-plain_rows w format schema rows same none one =
-    let old : (format == 1) ≡ true = eq-eqb format 1 (sym same ∙ one)
-    in let of_format : format_off format false rows ≡ None =
-    last_none (option_map DuplicateKey (first_repeat schema [] 1 rows)) (format_off format false rows)
-    (last_none (count_off (length rows)) (option_or (option_map DuplicateKey (first_repeat schema [] 1 rows)) (format_off format false rows)) none)
-    in let row : null_row 1 rows ≡ None =
-    null_none (null_row 1 rows) (ap (λ b. if b then null_off (null_row 1 rows) false else None) (sym old) ∙ of_format)
+of_format_one : (format : ℕ) (schema : Shape) (adds : Bool) (rows : List Row) → rows_off format schema adds rows ≡ None → format ≡ 1 → null_off (null_row 1 rows) adds ≡ None
+of_format_one format schema adds rows none one =
+    let old : (format == 1) ≡ true = eq-eqb format 1 one
+    in let of_format : format_off format adds rows ≡ None =
+    last_none (option_map DuplicateKey (first_repeat schema [] 1 rows)) (format_off format adds rows)
+    (last_none (count_off (length rows)) (option_or (option_map DuplicateKey (first_repeat schema [] 1 rows)) (format_off format adds rows)) none)
+    in ap (λ b. if b then null_off (null_row 1 rows) adds else None) (sym old) ∙ of_format
+
+-- a store of format 1 takes no columns
+pub adds_none : (format : ℕ) (schema : Shape) (adds : Bool) (rows : List Row) → rows_off format schema adds rows ≡ None → format ≡ 1 → adds ≡ false
+adds_none format schema adds rows none one = add_none (null_row 1 rows) adds (of_format_one format schema adds rows none one)
+
+pub plain_rows : (w : World) (format : ℕ) (schema : Shape) (adds : Bool) (rows : List Row) → w.format ≡ format → rows_off format schema adds rows ≡ None → ArePlain w (in_key_order schema rows)
+plain_rows w format schema adds rows same none one =
+    let row : null_row 1 rows ≡ None = null_none (null_row 1 rows) adds (of_format_one format schema adds rows none (sym same ∙ one))
     in to_none 1 (in_key_order schema rows) (order_none schema rows (from_none 1 rows row))
 
 -- rows in another order, which rises

@@ -227,7 +227,7 @@ module _ (entry : Entry) (past : List Made) (held : Held) (m : Move) (w : World)
   begin_lacks o b (TooLong list_pages segment_pages) e is long by_off by_long =
       no_room_lacks long.written e (by_long list_pages segment_pages long.written.list long.written.segment refl long.long)
 
-  pub version_lacks : (d : Dataset) (wish : Wish) (is : m ≡ commit_move d wish.vids wish.message wish.rows) (u : Unready) (e : StoreErr) → IsSparedBy w d wish u → ByOff e u → ByLong held e u → IsLack entry past m w e
+  pub version_lacks : (d : Dataset) (wish : Wish) (is : m ≡ commit_move d wish.vids wish.message wish.added wish.rows) (u : Unready) (e : StoreErr) → IsSparedBy w d wish u → ByOff e u → ByLong held e u → IsLack entry past m w e
   version_lacks d wish is (Off refusal) e spared by_off by_long = subst (IsLack entry past m w) (sym (by_off refusal refl)) (yet_lacks d wish refusal spared)
   version_lacks d wish is (TooLong list_pages segment_pages) e spared by_off by_long =
       let long : AsksTooMuch m w list_pages segment_pages = subst (λ x. AsksTooMuch x w list_pages segment_pages) (sym is) spared.1

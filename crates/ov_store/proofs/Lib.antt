@@ -24,3 +24,4 @@ pub mod Unhurt
 pub mod Migrating
 pub mod Taken
 pub mod Chosen
+mod Widening

@@ -9,14 +9,14 @@ use Rattle.std.specs.Option.{option_or}
 use Rattle.ov_value.specs.Shapes.{Shape}
 use Rattle.ov_model.specs.Act.{commit_refusal, init_refusal, records_refusal, rows_refusal}
 use Rattle.ov_model.specs.Book.{Row}
-use Rattle.ov_model.specs.Moves.{Move}
+use Rattle.ov_model.specs.Moves.{Move, wide}
 use Rattle.ov_model.specs.World.{Dataset, World, set_named}
 use Rattle.ov_model.specs.declared.refusal.Refusal.{Refusal}
 use Rattle.ov_model.specs.declared.refusal.Refusal.TheVariants as no
 use Rattle.law_room.specs.Room.{Entry, Made, LacksRun, LacksRecord}
 use Rattle.ov_store.specs.declared.errors.StoreErr.{StoreErr}
 use Rattle.ov_store.specs.declared.errors.StoreErr.TheVariants as why
-use Rattle.ov_store.specs.Committing.{Wish, fresh_in_world}
+use Rattle.ov_store.specs.Committing.{Wish, adds, fresh_in_world}
 use Rattle.ov_store.specs.Refusals.{refusal_of}
 
 abbrev pub begin_refusal : World → List ℕ → Shape → List Row → Option Refusal
@@ -24,7 +24,8 @@ begin_refusal w name schema rows = option_or (init_refusal w name) (rows_refusal
 
 -- of its rows, and then of its records
 abbrev pub content_refusal : World → Dataset → Wish → Option Refusal
-content_refusal w d wish = option_or (rows_refusal w d.cvd.schema false wish.rows) (records_refusal d (fresh_in_world d wish))
+content_refusal w d wish =
+    option_or (rows_refusal w (wide wish.added d).cvd.schema (adds wish.added) wish.rows) (records_refusal (wide wish.added d) (fresh_in_world d wish))
 
 abbrev pub version_refusal : World → Dataset → Wish → Option Refusal
 version_refusal w d wish = option_or (commit_refusal d wish.vids) (content_refusal w d wish)

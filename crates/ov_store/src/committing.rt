@@ -1,9 +1,9 @@
 // Commits.
 
-ghost use Rattle.std.specs.Prelude.{◌≡◌, ◌≢◌, ◌≤◌, ◌<◌, ◌+◌, ◌-◌, ◌^◌, min, ℕ, List, true, false, None, Some, [], IfOk, IfErr, OnOk, IsErrOf, MatchResult, length, map, option_map};
+ghost use Rattle.std.specs.Prelude.{◌≡◌, ◌≢◌, ◌≤◌, ◌<◌, ◌+◌, ◌-◌, ◌^◌, min, ℕ, List, true, false, None, Some, Ok, Err, [], IfOk, IfErr, OnOk, IsErrOf, MatchResult, length, map, option_map};
 ghost use Rattle.std.specs.List.{All};
 ghost use Rattle.ov_host.specs.Stops.{Only};
-ghost use Rattle.ov_value.specs.Spelling.{IsRow};
+ghost use Rattle.ov_model.specs.Act.{schema_with as schema_with_of};
 ghost use Rattle.ov_model.specs.Merge.{in_key_order};
 ghost use Rattle.ov_model.specs.Moves.{moved};
 ghost use Rattle.ov_model.specs.World.{Dataset, World, set_named};
@@ -19,7 +19,7 @@ ghost use Rattle.ov_parents.specs.Parents.{RefusesParents};
 ghost use Rattle.ov_read.specs.Sizes.{bytes_for};
 ghost use Rattle.ov_store.specs.Beginning.{IsShort};
 ghost use Rattle.ov_store.specs.Changes.{IsReady, bringing_of};
-ghost use Rattle.ov_store.specs.Committing.{Set, IsCommitBy, IsCommitted, IsSparedBy, IsSparedOff, IsUncommitted, IsUnready, commit_move, commit_off, committed, fresh_in_world, parents_off_in};
+ghost use Rattle.ov_store.specs.Committing.{Set, IsCommitBy, IsCommitted, IsSparedBy, IsSparedOff, IsUncommitted, IsUnready, TakesRows, commit_move, commit_off, committed, fresh_in_world, parents_off_in};
 ghost use Rattle.ov_store.specs.Kept.{MayCall, Stays};
 ghost use Rattle.ov_store.specs.Listing.{IsListed};
 ghost use Rattle.ov_store.specs.Scanning.{set_in};
@@ -43,10 +43,11 @@ use ov_catalog::Cvd;
 use ov_core::Brought;
 use ov_host::Host;
 use ov_new_version::{Commit, Wanted, commit_of};
-use ov_parents::parents_of;
+use ov_parents::{ParentsRead, parents_of, with_columns};
 use ov_rows::version_rows;
 use ov_segment::RowTable;
-use ov_value::Txt;
+use ov_value::{Column, Schema, SchemaErr, Txt};
+use std::alloc::Global;
 
 /// How many versions a dataset may have.
 const MOST_VERSIONS: usize = ov_model::MOST_VERSIONS as usize;
@@ -58,10 +59,12 @@ struct Parents<'a> {
     vids: Vec<u32>,
 }
 
-/// What a commit asks: a dataset, its versions that are the parents, and the rows in key order.
+/// What a commit asks: a dataset, its versions that are the parents, its schema with the added columns, and the rows in key
+/// order.
 struct Ask<'a> {
     d: &'a Cvd,
     vids: Vec<u32>,
+    schema: Schema,
     rows: RowTable,
 }
 
@@ -71,6 +74,18 @@ struct NextVersion {
     brought: Brought,
     vid: u32,
     fresh: u32,
+}
+
+/// The schema with these columns at the right; as it is where none are added. An error that isn't want of memory is why the schema
+/// doesn't take them.
+pub fn schema_with(alloc: Global, schema: &Schema, added: &[Column]) -> Result<Schema, SchemaErr>
+    ensures ok { IfOk result (λ made. schema_with_of schema.now added.now ≡ Ok made) }
+    ensures err { IfErr result (λ why. why ≢ SchemaErr.Memory → schema_with_of schema.now added.now ≡ Err why) }
+{
+    if added.is_empty() {
+        return Ok(schema.copy(alloc)?);
+    }
+    schema.widen(alloc, added)
 }
 
 impl Store {
@@ -106,25 +121,40 @@ impl Store {
     }
 
     // What a commit asks, where nothing of the catalog and its arguments refuses it.
-    fn ask(&self, name: &str, parents: &[u64], rows: RowTable) -> Result<Ask<'_>, StoreErr>
-        requires fit { (s : Set) → set_in self.now.held.numbers name.now ≡ Some s → All (IsRow s.schema) rows }
+    fn ask(
+        &self,
+        name: &str,
+        parents: &[u64],
+        added: &[Column],
+        rows: RowTable,
+    ) -> Result<Ask<'_>, StoreErr>
+        requires fit { (s : Set) → set_in self.now.held.numbers name.now ≡ Some s → TakesRows s.schema added.now rows }
         requires short { All IsShort rows }
         requires some { parents.now ≢ [] }
-        ensures allowed { OnOk result (commit_off self.now.held name.now parents.now rows ≡ None) }
+        ensures allowed { OnOk result (commit_off self.now.held name.now parents.now added.now rows ≡ None) }
         ensures found { IfOk result (λ ask. set_in self.now.held.numbers name.now ≡ Some (numbers_of ask.d.now)) }
         ensures sound { IfOk result (λ ask. IsSet ask.d.now) }
         ensures few { IfOk result (λ ask. length ask.d.now.versions.items < 65535) }
         ensures vids { IfOk result (λ ask. ask.vids.items ≡ parents.now) }
         ensures parents { IfOk result (λ ask. AreParents (length ask.d.now.versions.items) ask.vids.items) }
-        ensures rows { IfOk result (λ ask. ask.rows ≡ in_key_order ask.d.now.schema rows) }
-        ensures fit { IfOk result (λ ask. AreRows ask.d.now.schema ask.rows) }
+        ensures schema { IfOk result (λ ask. schema_with_of ask.d.now.schema added.now ≡ Ok ask.schema) }
+        ensures rows { IfOk result (λ ask. ask.rows ≡ in_key_order ask.schema rows) }
+        ensures fit { IfOk result (λ ask. AreRows ask.schema ask.rows) }
         ensures count { IfOk result (λ ask. length ask.rows ≡ length rows) }
-        ensures why { IfErr result (IsRefused (commit_off self.now.held name.now parents.now rows)) }
+        ensures why { IfErr result (IsRefused (commit_off self.now.held name.now parents.now added.now rows)) }
     {
         let Parents { d, vids } = self.parents_in(name, parents)?;
+        let Ok(schema) = schema_with(self.alloc, &d.schema, added) else {
+            return Err(StoreErr::Memory);
+        };
         let format = self.core.journal().format();
-        let rows = version_rows(self.alloc, &d.schema, format, false, rows)?;
-        Ok(Ask { d, vids, rows })
+        let rows = version_rows(self.alloc, &schema, format, !added.is_empty(), rows)?;
+        Ok(Ask {
+            d,
+            vids,
+            schema,
+            rows,
+        })
     }
 
     // A dataset's next version, ready to be stored.
@@ -133,44 +163,53 @@ impl Store {
         host: &mut H,
         name: &str,
         parents: &[u64],
+        added: &[Column],
         rows: RowTable,
         message: &Txt,
     ) -> Result<NextVersion, Unready>
-        requires fit { (s : Set) → set_in self.now.held.numbers name.now ≡ Some s → All (IsRow s.schema) rows }
+        requires fit { (s : Set) → set_in self.now.held.numbers name.now ≡ Some s → TakesRows s.schema added.now rows }
         requires short { All IsShort rows }
         requires some { parents.now ≢ [] }
         requires message { length message.now ≤ 1024 }
         ensures looked { Looked (H.state host.old) (H.state host.new) }
         ensures fetched { (s : Set) → set_in self.now.held.numbers name.now ≡ Some s
             → (H.state host.new).fetched ≤ (H.state host.old).fetched + bytes_for s parents.now }
-        ensures unread { (off : StoreErrValue) → commit_off self.now.held name.now parents.now rows ≡ Some off → H.state host.new ≡ H.state host.old }
+        ensures unread { (off : StoreErrValue) → commit_off self.now.held name.now parents.now added.now rows ≡ Some off → H.state host.new ≡ H.state host.old }
         ensures ready { IfOk result (λ next. IsReady next.brought self.now.held) }
-        ensures allowed { OnOk result (commit_off self.now.held name.now parents.now rows ≡ None) }
+        ensures allowed { OnOk result (commit_off self.now.held name.now parents.now added.now rows ≡ None) }
         ensures by { (s : Set) → set_in self.now.held.numbers name.now ≡ Some s → IfOk result (λ next. IsCommitBy s
-            (record { vids = parents.now; message = message.now; rows = rows }) (H.state host.old) (bringing_of next.brought) next.fresh) }
+            (record { vids = parents.now; message = message.now; added = added.now; rows = rows }) (H.state host.old) (bringing_of next.brought) next.fresh) }
         ensures vid { (s : Set) → set_in self.now.held.numbers name.now ≡ Some s → IfOk result (λ next. next.vid ≡ length s.versions + 1) }
         ensures count { OnOk result (length rows ≤ 1000000) }
-        ensures why { IfErr result (IsUnready self.now.held name.now (record { vids = parents.now; message = message.now; rows = rows })
+        ensures why { IfErr result (IsUnready self.now.held name.now (record { vids = parents.now; message = message.now; added = added.now; rows = rows })
             (H.state host.old) (H.state host.new)) }
         ensures brings { (w : World) (d : Dataset) → IsAtWorld w self.now.held (H.state host.old) → set_named w name.now ≡ Some d
-            → IfOk result (λ next. Brings (commit_move d parents.now message.now rows) w next.brought) }
+            → IfOk result (λ next. Brings (commit_move d parents.now message.now added.now rows) w next.brought) }
         ensures fresh { (w : World) (d : Dataset) → IsAtWorld w self.now.held (H.state host.old) → set_named w name.now ≡ Some d
-            → IfOk result (λ next. next.fresh ≡ fresh_in_world d (record { vids = parents.now; message = message.now; rows = rows })) }
+            → IfOk result (λ next. next.fresh ≡ fresh_in_world d (record { vids = parents.now; message = message.now; added = added.now; rows = rows })) }
         ensures spared { (w : World) (d : Dataset) → IsAtWorld w self.now.held (H.state host.old) → set_named w name.now ≡ Some d
-            → IfErr result (IsSparedBy w d (record { vids = parents.now; message = message.now; rows = rows })) }
+            → IfErr result (IsSparedBy w d (record { vids = parents.now; message = message.now; added = added.now; rows = rows })) }
     {
-        let Ask { d, vids, rows } = self.ask(name, parents, rows)?;
-        let _ = self.core.is_replayed();
+        let Ask {
+            d,
+            vids,
+            schema,
+            rows,
+        } = self.ask(name, parents, added, rows)?;
+        self.core.is_replayed();
+        self.core.journal().is_known();
         let _ = message.as_str();
-        let read = parents_of(self.alloc, host, d, &vids)?;
+        let _ = schema.columns();
+        let ParentsRead { records, held } = parents_of(self.alloc, host, d, &vids)?;
+        let wide = with_columns(self.alloc, records, added)?;
         let vid = d.versions.len() as u32 + 1;
         let wanted = Wanted {
             vids: &vids,
-            parents: &read.records,
-            held: &read.held,
+            parents: &wide,
+            held: &held,
             message,
-            added: &[],
-            schema: &d.schema,
+            added,
+            schema: &schema,
             rows,
         };
         let Commit { brought, fresh } = commit_of(self.alloc, d, wanted)?;
@@ -200,6 +239,9 @@ impl Store {
     /// Commits rows as a dataset's next version. Its parents are versions of the dataset, and the rows may come in any order.
     /// A row that some parent has takes that parent's record; the others get new records.
     ///
+    /// Where columns are added, the dataset has them from here on, at the right, and the rows are of the wider schema. In all rows
+    /// from before they are NULL: the parents are read by the schema as it was, and no stored record is written again.
+    ///
     /// Refusals in their order: `NoCvd`; for each parent as it is listed `NoVersion` and `RepeatedVersion`; `TooManyVersions`,
     /// `TooManyRows`, `DuplicateKey`, `FormatOne`; `Damaged` where a scan of the parents is damaged or two of them have other rows
     /// for a rid; `TooManyRecords`; `Damaged` where the partition that the version joins doesn't bear out its numbers; `Full`,
@@ -212,11 +254,12 @@ impl Store {
         host: &mut H,
         name: &str,
         parents: &[u64],
+        added: &[Column],
         rows: RowTable,
         message: &Txt,
     ) -> Result<Committed, StoreErr>
         requires call { MayCall self.old (H.state host.old) }
-        requires fit { (s : Set) → set_in self.old.held.numbers name.now ≡ Some s → All (IsRow s.schema) rows }
+        requires fit { (s : Set) → set_in self.old.held.numbers name.now ≡ Some s → TakesRows s.schema added.now rows }
         requires short { All IsShort rows }
         requires some { parents.now ≢ [] }
         requires message { length message.now ≤ 1024 }
@@ -226,11 +269,11 @@ impl Store {
         ensures fetched { (s : Set) → set_in self.old.held.numbers name.now ≡ Some s
             → (H.state host.new).fetched ≤ (H.state host.old).fetched + bytes_for s parents.now }
         ensures counted { min (H.state host.old).fetched (2 ^ 64 - 1) ≤ (H.state host.new).fetched }
-        ensures unread { (off : StoreErrValue) → commit_off self.old.held name.now parents.now rows ≡ Some off → H.state host.new ≡ H.state host.old }
+        ensures unread { (off : StoreErrValue) → commit_off self.old.held name.now parents.now added.now rows ≡ Some off → H.state host.new ≡ H.state host.old }
         ensures done { (s : Set) → set_in self.old.held.numbers name.now ≡ Some s → IfOk result (IsCommitted s
-            (record { vids = parents.now; message = message.now; rows = rows }) (H.state host.old) self.old.held self.new.held) }
-        ensures allowed { OnOk result (commit_off self.old.held name.now parents.now rows ≡ None) }
-        ensures why { IfErr result (IsUncommitted self.old.held name.now (record { vids = parents.now; message = message.now; rows = rows })
+            (record { vids = parents.now; message = message.now; added = added.now; rows = rows }) (H.state host.old) self.old.held self.new.held) }
+        ensures allowed { OnOk result (commit_off self.old.held name.now parents.now added.now rows ≡ None) }
+        ensures why { IfErr result (IsUncommitted self.old.held name.now (record { vids = parents.now; message = message.now; added = added.now; rows = rows })
             (H.state host.old) (H.state host.new)) }
         ensures undamaged { (s : Set) → (H.state host.old).tells ≡ true → set_in self.old.held.numbers name.now ≡ Some s
             → OnOk result ((page : ℕ) → RefusesParents (fetch.Damaged page) (page_bytes (H.state host.old)) s parents.now → ⊥) }
@@ -241,28 +284,28 @@ impl Store {
 
         // Where the store is at a World: a stop at any moment, what was made, how many records are new, and why not.
         ensures stops { (w : World) → IsAtWorld w self.old.held (H.state host.old) → Only (H.state host.old).tape (H.state host.new).tape
-            (IsEither w (committed name.now (record { vids = parents.now; message = message.now; rows = rows }) w) (H.state host.old).tape.disk.printed) }
+            (IsEither w (committed name.now (record { vids = parents.now; message = message.now; added = added.now; rows = rows }) w) (H.state host.old).tape.disk.printed) }
         ensures moves { (w : World) → IsAtWorld w self.old.held (H.state host.old) → OnOk result
-            (IsAtNext (committed name.now (record { vids = parents.now; message = message.now; rows = rows }) w) self.new.held (H.state host.old) (H.state host.new)) }
+            (IsAtNext (committed name.now (record { vids = parents.now; message = message.now; added = added.now; rows = rows }) w) self.new.held (H.state host.old) (H.state host.new)) }
         ensures fresh { (w : World) (d : Dataset) → IsAtWorld w self.old.held (H.state host.old) → set_named w name.now ≡ Some d
-            → IfOk result (λ made. made.fresh ≡ fresh_in_world d (record { vids = parents.now; message = message.now; rows = rows })) }
+            → IfOk result (λ made. made.fresh ≡ fresh_in_world d (record { vids = parents.now; message = message.now; added = added.now; rows = rows })) }
         ensures spared { (w : World) (d : Dataset) → IsAtWorld w self.old.held (H.state host.old) → set_named w name.now ≡ Some d
-            → IfErr result (IsSparedOff d (record { vids = parents.now; message = message.now; rows = rows })) }
+            → IfErr result (IsSparedOff d (record { vids = parents.now; message = message.now; added = added.now; rows = rows })) }
 
         // So a commit that the World refuses begins nothing, and is refused for that; and the room that is taken.
         ensures refused { (w : World) (d : Dataset) → IsAtWorld w self.old.held (H.state host.old) → set_named w name.now ≡ Some d → MatchResult result
-            (λ made. version_refusal w d (record { vids = parents.now; message = message.now; rows = rows }) ≡ None)
-            (IsRefusedAs name.now (version_refusal w d (record { vids = parents.now; message = message.now; rows = rows }))) }
+            (λ made. version_refusal w d (record { vids = parents.now; message = message.now; added = added.now; rows = rows }) ≡ None)
+            (IsRefusedAs name.now (version_refusal w d (record { vids = parents.now; message = message.now; added = added.now; rows = rows }))) }
         ensures still { (w : World) (d : Dataset) (refusal : Refusal) → IsAtWorld w self.old.held (H.state host.old) → set_named w name.now ≡ Some d
-            → version_refusal w d (record { vids = parents.now; message = message.now; rows = rows }) ≡ Some refusal
+            → version_refusal w d (record { vids = parents.now; message = message.now; added = added.now; rows = rows }) ≡ Some refusal
             → Only (H.state host.old).tape (H.state host.new).tape (IsWorld w (H.state host.old).tape.disk.printed) }
         ensures room { (w : World) (d : Dataset) (entry : Entry) (past : List Made) → IsAtWorld w self.old.held (H.state host.old)
             → set_named w name.now ≡ Some d → IsWithin entry past self.old.held
-            → MatchResult result (λ made. IsWithin entry (and_made past (commit_move d parents.now message.now rows) w) self.new.held)
-            (IsLack entry past (commit_move d parents.now message.now rows) w) }
+            → MatchResult result (λ made. IsWithin entry (and_made past (commit_move d parents.now message.now added.now rows) w) self.new.held)
+            (IsLack entry past (commit_move d parents.now message.now added.now rows) w) }
     {
         let count = rows.len();
-        let next = match self.next(host, name, parents, rows, message) {
+        let next = match self.next(host, name, parents, added, rows, message) {
             Ok(next) => next,
             Err(why) => return Err(self.uncommitted(why)),
         };

@@ -20,6 +20,7 @@ mod store;
 mod thresholds;
 mod unready;
 
+pub use committing::schema_with;
 pub use errors::StoreErr;
 pub use laws::{all_versions_are_there, refusals_are_the_worlds, what_a_commit_reads_is_whole};
 pub use ov_optimize::Report;

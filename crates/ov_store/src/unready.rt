@@ -2,6 +2,7 @@
 
 ghost use Rattle.std.specs.Prelude.{◌≡◌};
 ghost use Rattle.ov_store.specs.Errors.{of_commit, of_fetch, of_rows, unready_of};
+ghost use Rattle.ov_store.specs.declared.errors.StoreErr.TheVariants as why;
 ghost use Rattle.ov_store.specs.declared.unready.Unready.TheVariants as unready;
 
 use crate::errors::StoreErr;
@@ -10,6 +11,7 @@ use ov_host::Area;
 use ov_new_version::CommitErr;
 use ov_rows::RowsErr;
 use ov_version_bytes::WriteErr;
+use std::alloc::AllocError;
 
 /// Why a version has no event, list and segment.
 #[derive(Clone, Copy, PartialEq, Eq)]
@@ -25,6 +27,14 @@ impl From<StoreErr> for Unready {
 
     fn from(error: StoreErr) -> Unready {
         Unready::Off(error)
+    }
+}
+
+impl From<AllocError> for Unready {
+    ghost from_gives = { λ _ made. made ≡ unready.Off why.Memory };
+
+    fn from(_error: AllocError) -> Unready {
+        Unready::Off(StoreErr::Memory)
     }
 }
 

@@ -33,7 +33,7 @@ use Rattle.law_runs.specs.Stops.{IsDue, IsFound, printed_of}
 use Rattle.ov_model.specs.Act.{Session}
 use Rattle.ov_model.proofs.Replying.{says_some}
 use Rattle.ov_model.specs.Course.{Item, SaysSome, Space, line_served, play, served}
-use Rattle.law_forms.specs.BuiltShapes.{served_forms}
+use Rattle.ov_model.specs.Forms.{all_forms}
 use Rattle.ov_model.specs.Line.{Refused, line_of}
 use Rattle.ov_model.specs.Words.{lines_of}
 use Rattle.ov_model.specs.World.{World}
@@ -65,18 +65,18 @@ use Rattle.ov_host.specs.Source.{Script}
 
 -- ---- what is kept of a line says what it is
 
-pub long_line : (line : List ℕ) → 65536 < length line → line_of served_forms line ≡ Refused LongLine
+pub long_line : (line : List ℕ) → 65536 < length line → line_of all_forms line ≡ Refused LongLine
 long_line line long = cond-true (nat_lt 65536 (length line)) (Refused LongLine) _ (lt-ltb 65536 (length line) long)
 
-pub kept_line : (line : List ℕ) → line_of served_forms (take 65537 line) ≡ line_of served_forms line
+pub kept_line : (line : List ℕ) → line_of all_forms (take 65537 line) ≡ line_of all_forms line
 kept_line line =
     elim (cases_lt 65537 (length line)) [
       | inl long ↦ long_line (take 65537 line) (omega (arith, length-take 65537 line)) ∙ sym (long_line line (omega arith))
-      | inr short ↦ ap (line_of served_forms) (take_all 65537 line short)
+      | inr short ↦ ap (line_of all_forms) (take_all 65537 line short)
     ]
 
 pub serves_kept : (steps : ℕ) (w : World) (s t : Session) (line : List ℕ) (ok refused : Bool) (before now : Held) (old new : State)
-    → Serves served_forms steps w s t (take 65537 line) ok refused before now old new → Serves served_forms steps w s t line ok refused before now old new
+    → Serves all_forms steps w s t (take 65537 line) ok refused before now old new → Serves all_forms steps w s t line ok refused before now old new
 serves_kept steps w s t line ok refused before now old new x =
     record {
       used = x.used;
@@ -185,7 +185,7 @@ pub record Gone (steps : ℕ) (w : World) (s t : Session) (all left : List ℕ) 
   pub whole : lines_of all ≡ gone ++ lines_of left
   pub bytes : ended ≡ false → (front : List ℕ) × (all ≡ front ++ left) × ((text : List ℕ) → ended_lines (front ++ text) ≡ gone ++ ended_lines text)
   pub acts : ActsAfter gone s.user t.user
-  pub so : SoFar served_forms steps w s t gone failed before now old new
+  pub so : SoFar all_forms steps w s t gone failed before now old new
 
 pub gone_start : (steps : ℕ) (w : World) (s : Session) (all : List ℕ) (held : Held) (st : State) → IsAtWorld w held st → Gone steps w s s all all false false held held st st
 gone_start steps w s all held st at = record {
@@ -193,7 +193,7 @@ gone_start steps w s all held st at = record {
   whole = refl;
   bytes = λ open_. ([], refl, λ text. refl);
   acts = refl;
-  so = so_far_start served_forms steps w s held st at;
+  so = so_far_start all_forms steps w s held st at;
 }
 
 -- who acts behind a line more
@@ -224,28 +224,28 @@ bytes_more gone all before now line false ending stays bytes (plain, inl feed) o
 
 pub gone_more : (steps : ℕ) (w : World) (s t u : Session) (all left later line : List ℕ) (ended ending failed refused : Bool) (before now held : Held) (old mid new : State) (what : Served)
     → (so : Gone steps w s t all left ended failed before now old mid) → (ended ≡ true → ending ≡ true) → IsNext ending line left later
-    → u.user ≡ user_after (line_asked t.user line) what t.user → Serves served_forms steps so.so.world t u line true refused now held mid new → Gone steps w s u all later ending (failed || refused) before held old new
+    → u.user ≡ user_after (line_asked t.user line) what t.user → Serves all_forms steps so.so.world t u line true refused now held mid new → Gone steps w s u all later ending (failed || refused) before held old new
 gone_more steps w s t u all left later line ended ending failed refused before now held old mid new what so stays next acts serves = record {
   gone = so.gone ++ line ∷ [];
   whole = so.whole ∙ ap (λ (ls : List (List ℕ)). so.gone ++ ls) (next_lines ending line left later next) ∙ sym (append_assoc so.gone (line ∷ []) (lines_of later));
   bytes = λ open_. bytes_more so.gone all left later line ended ending stays so.bytes next open_;
   acts = acts_more so.gone line s.user t.user u.user what so.acts acts;
-  so = so_far_more served_forms steps w s t so.gone line failed before now old mid so.so u refused held new serves;
+  so = so_far_more all_forms steps w s t so.gone line failed before now old mid so.so u refused held new serves;
 }
 
 -- it ends in a line
 pub gone_ends : (steps : ℕ) (w : World) (s t u : Session) (all left later line : List ℕ) (ended ending failed refused : Bool) (before now held : Held) (old mid new : State)
     → (so : Gone steps w s t all left ended failed before now old mid) → IsNext ending line left later
-    → Serves served_forms steps so.so.world t u line false refused now held mid new → Runs served_forms steps w s (lines_of all) before old new
+    → Serves all_forms steps so.so.world t u line false refused now held mid new → Runs all_forms steps w s (lines_of all) before old new
 gone_ends steps w s t u all left later line ended ending failed refused before now held old mid new so next serves =
-    so_far_ends served_forms steps w s t so.gone line failed before now old mid so.so (lines_of all) (lines_of later)
+    so_far_ends all_forms steps w s t so.gone line failed before now old mid so.so (lines_of all) (lines_of later)
     (so.whole ∙ ap (λ (ls : List (List ℕ)). so.gone ++ ls) (next_lines ending line left later next)) u refused held new serves
 
 -- it ends at its last line
 pub gone_all : (steps : ℕ) (w : World) (s t : Session) (all left : List ℕ) (ended failed : Bool) (before now : Held) (old new : State)
-    → Gone steps w s t all left ended failed before now old new → lines_of left ≡ [] → course.Ends served_forms steps w s t (lines_of all) failed before now old new
+    → Gone steps w s t all left ended failed before now old new → lines_of left ≡ [] → course.Ends all_forms steps w s t (lines_of all) failed before now old new
 gone_all steps w s t all left ended failed before now old new so none =
-    so_far_all served_forms steps w s t (lines_of all) so.gone (lines_of left) failed before now old new so.whole none so.so
+    so_far_all all_forms steps w s t (lines_of all) so.gone (lines_of left) failed before now old new so.whole none so.so
 
 -- and someone acts who may behind all lines
 pub gone_acts : (steps : ℕ) (w : World) (s t : Session) (all left : List ℕ) (ended failed : Bool) (before now : Held) (old new : State)
@@ -258,26 +258,26 @@ gone_acts steps w s t all left ended failed before now old new so none =
 gone_halts : (steps : ℕ) (w : World) (s t : Session) (left : List ℕ) (ended failed : Bool) (before now : Held) (old new : State) (script later : Script)
     → Gone steps w s t script.left left ended failed before now old new → (ended ≡ false) × (part : List ℕ) × (left ≡ part ++ later.left) × (has_feed part ≡ false)
     → ActsAfter (ended_lines (taken_of script later)) s.user t.user
-    × Halts served_forms steps w s t (ended_lines (taken_of script later)) (lines_of script.left) failed before now old new
+    × Halts all_forms steps w s t (ended_lines (taken_of script later)) (lines_of script.left) failed before now old new
 gone_halts steps w s t left ended failed before now old new script later so read =
     let front = so.bytes read.0
     in let whole : script.left ≡ front.0 ++ (read.1 ++ later.left) = front.1 ∙ ap (λ (b : List ℕ). front.0 ++ b) read.2
     in let taken : so.gone ≡ ended_lines (taken_of script later) =
     sym (append-nil so.gone) ∙ ap (λ (ls : List (List ℕ)). so.gone ++ ls) (sym (no_ended read.1 read.3)) ∙ sym (front.2 read.1)
     ∙ ap ended_lines (sym (taken_is front.0 read.1 script later whole))
-    in subst (λ (ls : List (List ℕ)). ActsAfter ls s.user t.user × Halts served_forms steps w s t ls (lines_of script.left) failed before now old new) taken
-    (so.acts, so_far_halts served_forms steps w s t (lines_of script.left) so.gone (lines_of left) so.whole failed before now old new so.so)
+    in subst (λ (ls : List (List ℕ)). ActsAfter ls s.user t.user × Halts all_forms steps w s t ls (lines_of script.left) failed before now old new) taken
+    (so.acts, so_far_halts all_forms steps w s t (lines_of script.left) so.gone (lines_of left) so.whole failed before now old new so.so)
 
 gone_runs : (steps : ℕ) (w : World) (s t : Session) (all left : List ℕ) (ended failed : Bool) (before now : Held) (old new : State)
-    → Gone steps w s t all left ended failed before now old new → Runs served_forms steps w s (lines_of all) before old new
+    → Gone steps w s t all left ended failed before now old new → Runs all_forms steps w s (lines_of all) before old new
 gone_runs steps w s t all left ended failed before now old new so =
-    halts_run served_forms steps w s t so.gone (lines_of all) failed before now old new
-    (so_far_halts served_forms steps w s t (lines_of all) so.gone (lines_of left) so.whole failed before now old new so.so)
+    halts_run all_forms steps w s t so.gone (lines_of all) failed before now old new
+    (so_far_halts all_forms steps w s t (lines_of all) so.gone (lines_of left) so.whole failed before now old new so.so)
 
 -- ---- the lines of a run, at its ends
 
 -- it ends where it begins
-pub runs_start : (steps : ℕ) (w : World) (s : Session) (all : List ℕ) (held : Held) (st : State) → IsAtWorld w held st → Runs served_forms steps w s (lines_of all) held st st
+pub runs_start : (steps : ℕ) (w : World) (s : Session) (all : List ℕ) (held : Held) (st : State) → IsAtWorld w held st → Runs all_forms steps w s (lines_of all) held st st
 runs_start steps w s all held st at = gone_runs steps w s s all all false false held held st st (gone_start steps w s all held st at)
 
 -- it ends in reading the next line
@@ -295,7 +295,7 @@ ends_reading steps w s files user reading.TooLong reader left failed before now 
 
 -- it ends in serving a line
 pub ends_serving : (steps : ℕ) (w : World) (s : Session) (files : Map) (lines taken : List (List ℕ)) (still : Type 0) (e : EndErr) (before : Held) (old new : State) → IsNoDamage e
-    → (e ≡ ending.Stage → still → ⊥) → Runs served_forms steps w s lines before old new
+    → (e ≡ ending.Stage → still → ⊥) → Runs all_forms steps w s lines before old new
     → AllServed steps w s files lines taken still (Err (by_serving e)) before old new
 ends_serving steps w s files lines taken still ending.Host before old new fine rose runs = runs
 ends_serving steps w s files lines taken still ending.Stage before old new fine rose runs = (runs, λ same. absurd (rose refl same))
@@ -315,20 +315,20 @@ module _ (steps : ℕ) (w : World) (old mid new : Ends) (told : IsTold w old) (h
   items_of space = (course_of steps w old space).items
 
   some : (space : Space) → SaysSome (items_of space)
-  some space = says_some served_forms steps w (session_at old) (lines_of old.script.left) space (begun_where w (as_read old.host.tape.disk) told.stands)
+  some space = says_some all_forms steps w (session_at old) (lines_of old.script.left) space (begun_where w (as_read old.host.tape.disk) told.stands)
 
   stops_by : (space : Space) → Only mid.host.tape new.host.tape (IsFound w (printed_of mid.host) (items_of space))
       → (c : Image) → left_since new.host.tape (clock old.host.tape) c → IsDue w (printed_of old.host) (items_of space) c
   stops_by space running = stops_due w held old.host mid.host new.host at opened.settled.printed opening (items_of space) (some space) running
 
-  pub stops_of : Runs served_forms steps w (session_at old) (lines_of old.script.left) held mid.host new.host → Stops steps w old new
+  pub stops_of : Runs all_forms steps w (session_at old) (lines_of old.script.left) held mid.host new.host → Stops steps w old new
   stops_of runs = record {
     space = runs.space;
     licensed = λ entry is. runs.licensed entry (enters w old.host.tape.disk held mid.host opened at entry is);
     stops = stops_by runs.space runs.stops;
   }
 
-  pub played_of : (failed : Bool) (now : Held) (user : List ℕ) → ActsAfter (lines_of old.script.left) user_of_run user → course.Ends served_forms steps w (session_at old) (session_of new.stage.files user) (lines_of old.script.left) failed held now mid.host new.host
+  pub played_of : (failed : Bool) (now : Held) (user : List ℕ) → ActsAfter (lines_of old.script.left) user_of_run user → course.Ends all_forms steps w (session_at old) (session_of new.stage.files user) (lines_of old.script.left) failed held now mid.host new.host
       → Played steps w failed old new
   played_of failed now user acts ends = record {
     space = ends.space;
@@ -374,13 +374,13 @@ module _ (steps : ℕ) (w : World) (old mid new : Ends) (told : IsTold w old) (h
 
 -- ---- a store that wasn't opened
 
-licensed_none : (entry : Entry) (past : List Made) (n : ℕ) (w : World) (s : Session) (lines : List (List ℕ)) → Licensed entry past served_forms n w s lines []
+licensed_none : (entry : Entry) (past : List Made) (n : ℕ) (w : World) (s : Session) (lines : List (List ℕ)) → Licensed entry past all_forms n w s lines []
 licensed_none entry past n w s [] = tt
 licensed_none entry past n w s (line ∷ lines) = (
-  line_licensed n entry past w s (line_of served_forms line),
-  subst (λ (space : Space). Licensed entry (past ++ made_by w (served served_forms n w s line []).items) served_forms n
-      (served served_forms n w s line []).world (served served_forms n w s line []).session lines space) (sym (line_leaves n w s (line_of served_forms line)))
-      (licensed_none entry (past ++ made_by w (served served_forms n w s line []).items) n (served served_forms n w s line []).world (served served_forms n w s line []).session lines),
+  line_licensed n entry past w s (line_of all_forms line),
+  subst (λ (space : Space). Licensed entry (past ++ made_by w (served all_forms n w s line []).items) all_forms n
+      (served all_forms n w s line []).world (served all_forms n w s line []).session lines space) (sym (line_leaves n w s (line_of all_forms line)))
+      (licensed_none entry (past ++ made_by w (served all_forms n w s line []).items) n (served all_forms n w s line []).world (served all_forms n w s line []).session lines),
 )
 
 module _ (steps : ℕ) (w : World) (old new : Ends) (told : IsTold w old) (opening : Only old.host.tape new.host.tape (IsWorld w (printed_of old.host))) where
@@ -389,7 +389,7 @@ module _ (steps : ℕ) (w : World) (old new : Ends) (told : IsTold w old) (openi
     space = [];
     licensed = λ entry is. licensed_none entry [] steps w (session_at old) (lines_of old.script.left);
     stops = stops_unopened w old.host new.host (course_of steps w old []).items
-        (says_some served_forms steps w (session_at old) (lines_of old.script.left) [] (begun_where w (as_read old.host.tape.disk) told.stands)) opening;
+        (says_some all_forms steps w (session_at old) (lines_of old.script.left) [] (begun_where w (as_read old.host.tape.disk) told.stands)) opening;
   }
 
   plays_opening : (off : OpenErr) → IsOutside off → Plays (status_by_opening off) steps w old new
@@ -531,10 +531,10 @@ still_world w ends told =
 -- ---- a line, as it was kept
 
 pub serves_as : (steps : ℕ) (w : World) (s t : Session) (x kept line : List ℕ) (ok refused : Bool) (before now : Held) (old new : State) → x ≡ kept → kept ≡ take 65537 line
-    → Serves served_forms steps w s t x ok refused before now old new → Serves served_forms steps w s t line ok refused before now old new
+    → Serves all_forms steps w s t x ok refused before now old new → Serves all_forms steps w s t line ok refused before now old new
 serves_as steps w s t x kept line ok refused before now old new value keeps serves =
     serves_kept steps w s t line ok refused before now old new
-    (subst (λ (l : List ℕ). Serves served_forms steps w s t l ok refused before now old new) (value ∙ keeps) serves)
+    (subst (λ (l : List ℕ). Serves all_forms steps w s t l ok refused before now old new) (value ∙ keeps) serves)
 
 pub not_seen : (b : Bool) → b ≡ true → b ≡ false → ⊥
 not_seen true seen open_ = cc

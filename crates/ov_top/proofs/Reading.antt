@@ -12,13 +12,11 @@ use Rattle.ov_host.specs.Source.{Script}
 use Rattle.ov_host.specs.Stage.{Files as Map, Staged}
 use Rattle.ov_files.specs.Files.{file_rows}
 use Rattle.ov_value.specs.declared.column.Column.{Column}
-use Rattle.ov_value.specs.declared.schema_err.SchemaErr.{SchemaErr}
 use Rattle.ov_value.specs.Shapes.{Shape}
 use Rattle.ov_catalog.specs.Numbers.{Numbers}
 use Rattle.ov_core.specs.Held.{Held, IsByJournal}
-use Rattle.ov_model.specs.Act.{schema_with}
 use Rattle.ov_model.specs.Book.{Row}
-use Rattle.law_forms.specs.BuiltShapes.{served_forms}
+use Rattle.ov_model.specs.Forms.{all_forms}
 use Rattle.ov_model.specs.Line.{Line, Asks, Comment, Refused, line_of}
 use Rattle.ov_model.specs.Users.{line_by, permit, unless_denied}
 use Rattle.ov_model.specs.Words.{lines_of}
@@ -27,7 +25,7 @@ use Rattle.ov_model.specs.declared.command.Command.TheVariants as asks
 use Rattle.ov_model.specs.declared.refusal.Refusal.{Refusal}
 use Rattle.ov_model.specs.declared.refusal.Refusal.TheVariants.{LongLine}
 use Rattle.ov_model.specs.declared.reply.Reply.{Reply}
-use Rattle.ov_store.specs.Committing.{IfSet, Set}
+use Rattle.ov_store.specs.Committing.{IfSet, Set, schema_for}
 use Rattle.ov_store.specs.Kept.{Kept}
 use Rattle.ov_store.specs.Scanning.{set_in}
 use Rattle.ov_session.specs.Acting.{user_after}
@@ -35,7 +33,7 @@ use Rattle.ov_session.specs.Asking.{line_asked}
 use Rattle.ov_session.specs.Bounds.{IsFetchedBy, IsReading, IsReadingCommand, may_fetch}
 use Rattle.ov_session.proofs.Acting.{user_either}
 use Rattle.ov_session.proofs.Bounds.{reading_fetched}
-use Rattle.ov_session.specs.Commands.{AreAnyBad, AreBad, AreRowsOf, DamagedBy, IsBad, IsDamageOf, IsDamaged, IsNoDamage, IsParentsDamaged, IsWideDamagedIn, is_comment_in, is_comment_of}
+use Rattle.ov_session.specs.Commands.{AreAnyBad, AreBad, AreRowsOf, DamagedBy, IsBad, IsDamageOf, IsDamaged, IsNoDamage, IsParentsDamaged, is_comment_in, is_comment_of}
 use Rattle.ov_session.specs.Reads.{Own, Nought, Versions, Steps, File, Unused, Taken, Given, GivenBehind, Later, Reads, Source, RowsOf, ParentsOf, PlanOf, ListsOf, SegmentsOf, LastOf, ChangeOf, Wanted, file_of, reads_of}
 use Rattle.ov_session.specs.Damages.{IsCommandMet, IsMetBy, IsStepMet}
 use Rattle.ov_session.specs.Replying.{IsReplied, IsReplyTo}
@@ -55,8 +53,8 @@ use Rattle.ov_top.proofs.Lined.{acts_more, kept_line, long_line}
 
 -- ---- lines, as they were kept
 
-same_line : (x kept line : List ℕ) → x ≡ kept → kept ≡ take 65537 line → line_of served_forms x ≡ line_of served_forms line
-same_line x kept line value keeps = ap (line_of served_forms) (value ∙ keeps) ∙ kept_line line
+same_line : (x kept line : List ℕ) → x ≡ kept → kept ≡ take 65537 line → line_of all_forms x ≡ line_of all_forms line
+same_line x kept line value keeps = ap (line_of all_forms) (value ∙ keeps) ∙ kept_line line
 
 pub line_kept : (user x kept line : List ℕ) → x ≡ kept → kept ≡ take 65537 line → line_asked user x ≡ line_asked user line
 line_kept user x kept line value keeps = ap (line_by user) (same_line x kept line value keeps)
@@ -191,29 +189,17 @@ module _ (stage staged : Staged) (files : staged.files ≡ stage.files) (told : 
   rows_as : (schema : Shape) (file : List ℕ) (rows : List Row) → AreRowsOf schema file stage rows → AreRowsOf schema file staged rows
   rows_as schema file rows are = λ tells. subst (λ (m : Map). file_rows schema file (get m file) ≡ Ok rows) (sym files) (are (sym told ∙ tells))
 
-  set_as : (file : List ℕ) (rows : List Row) (P : Set → Type 0) (o : Option Set) → IfSet (λ set. AreRowsOf set.schema file stage rows × P set) o
-      → IfSet (λ set. AreRowsOf set.schema file staged rows × P set) o
-  set_as file rows P None is = absurd is
-  set_as file rows P (Some set) is = (rows_as set.schema file rows is.0, is.1)
+  set_as : (added : List Column) (file : List ℕ) (rows : List Row) (P : Set → Type 0) (o : Option Set) → IfSet (λ set. AreRowsOf (schema_for set.schema added) file stage rows × P set) o
+      → IfSet (λ set. AreRowsOf (schema_for set.schema added) file staged rows × P set) o
+  set_as added file rows P None is = absurd is
+  set_as added file rows P (Some set) is = (rows_as (schema_for set.schema added) file rows is.0, is.1)
 
-  wide_as : (schema : Result Shape SchemaErr) (set : Set) (wanted : Wanted) (rows : List Row) → IsWideDamagedIn schema set wanted rows stage held s page
-      → IsWideDamagedIn schema set wanted rows staged held s page
-  wide_as (Err why) set wanted rows is = absurd is
-  wide_as (Ok schema) set wanted rows is = (is.0, rows_as schema wanted.file rows is.1, is.2)
-
-  wide_set_as : (wanted : Wanted) (added : List Column) (rows : List Row) (o : Option Set)
-      → IfSet (λ set. IsWideDamagedIn (schema_with set.schema added) set wanted rows stage held s page) o
-      → IfSet (λ set. IsWideDamagedIn (schema_with set.schema added) set wanted rows staged held s page) o
-  wide_set_as wanted added rows None is = absurd is
-  wide_set_as wanted added rows (Some set) is = wide_as (schema_with set.schema added) set wanted rows is
-
-  parents_as : (wanted : Wanted) (added : List Column) → IsParentsDamaged wanted added stage held s page → IsParentsDamaged wanted added staged held s page
-  parents_as wanted [] is = (is.0, is.1, set_as wanted.file is.0 _ _ is.2)
-  parents_as wanted (column ∷ added) is = (is.0, wide_set_as wanted (column ∷ added) is.0 (set_in held.numbers wanted.cvd) is.1)
+  parents_as : (wanted : Wanted) → IsParentsDamaged wanted stage held s page → IsParentsDamaged wanted staged held s page
+  parents_as wanted is = (is.0, is.1, set_as wanted.added wanted.file is.0 _ _ is.2)
 
   bad_as : (source : Source) → IsBad source stage held s page → IsBad source staged held s page
   bad_as (RowsOf set vids) is = is
-  bad_as (ParentsOf set wanted) is = parents_as wanted wanted.added is
+  bad_as (ParentsOf set wanted) is = parents_as wanted is
   bad_as (PlanOf set) is = is
   bad_as (ListsOf set) is = is
   bad_as (SegmentsOf set) is = is
@@ -350,7 +336,7 @@ pub reply_among : (ended : Bool) (user x kept line all left later : List ℕ) (g
 reply_among ended user x kept line all left later gone value keeps whole next some = (
   line,
   (gone, lines_of later, whole_more ended all line left later gone whole next),
-  ap is_comment_in (sym (same_line x kept line value keeps)) ∙ sym (comment_by user (line_of served_forms x)) ∙ some,
+  ap is_comment_in (sym (same_line x kept line value keeps)) ∙ sym (comment_by user (line_of all_forms x)) ∙ some,
 )
 
 pub reading_harmless : (steps : ℕ) (e : ReadErr) (script : Script) (stage : Staged) (s : State) → IsRunDamage steps script stage s (by_reading e)

@@ -21,7 +21,7 @@ use Rattle.law_runs.specs.Serving.{has_error, session_of}
 use Rattle.law_runs.specs.Stops.{IsDue, printed_of}
 use Rattle.ov_model.specs.Act.{Session}
 use Rattle.ov_model.specs.Course.{Served, Space, course, play}
-use Rattle.law_forms.specs.BuiltShapes.{served_forms}
+use Rattle.ov_model.specs.Forms.{all_forms}
 use Rattle.ov_model.specs.Words.{lines_of}
 use Rattle.ov_model.specs.World.{World}
 use Rattle.ov_open.specs.declared.errors.OpenErr.{OpenErr}
@@ -116,7 +116,7 @@ session_at ends = session_of ends.stage.files user_of_run
 
 -- the course of the script under some answers for room
 abbrev pub course_of : ℕ → World → Ends → Space → Served
-course_of steps w old space = course served_forms steps w (session_at old) (lines_of old.script.left) space
+course_of steps w old space = course all_forms steps w (session_at old) (lines_of old.script.left) space
 
 -- There are answers for room, each refusal among them licensed, so that all that a stop at some moment since the entry may have
 -- left is found in the course: of the replies a prefix was printed, and the moves that are due before them took place, and
@@ -124,7 +124,7 @@ course_of steps w old space = course served_forms steps w (session_at old) (line
 pub record Stops (steps : ℕ) (w : World) (old new : Ends) : Type 0 where
   pub space : Space
   pub licensed : (entry : Entry) → IsEntry entry (as_read old.host.tape.disk)
-      → Licensed entry [] served_forms steps w (session_at old) (lines_of old.script.left) space
+      → Licensed entry [] all_forms steps w (session_at old) (lines_of old.script.left) space
   pub stops : (c : Image) → left_since new.host.tape (clock old.host.tape) c → IsDue w (printed_of old.host) (course_of steps w old space).items c
 
 -- the lines whose line feed was taken from the source, and their course
@@ -132,7 +132,7 @@ abbrev pub lines_taken : Ends → Ends → List (List ℕ)
 lines_taken old new = ended_lines (taken_of old.script new.script)
 
 abbrev pub course_taken : ℕ → World → Ends → Ends → Space → Served
-course_taken steps w old new space = course served_forms steps w (session_at old) (lines_taken old new) space
+course_taken steps w old new space = course all_forms steps w (session_at old) (lines_taken old new) space
 
 -- And where only the reading of the script ended, just the lines whose line feed was taken were served: their replies are printed
 -- whole, nothing is pending, the bytes stand for the World after them and their steps, and the
@@ -140,7 +140,7 @@ course_taken steps w old new space = course served_forms steps w (session_at old
 pub record PlayedTaken (steps : ℕ) (w : World) (old new : Ends) : Type 0 where
   pub space : Space
   pub licensed : (entry : Entry) → IsEntry entry (as_read old.host.tape.disk)
-      → Licensed entry [] served_forms steps w (session_at old) (lines_of old.script.left) space
+      → Licensed entry [] all_forms steps w (session_at old) (lines_of old.script.left) space
   pub stops : (c : Image) → left_since new.host.tape (clock old.host.tape) c → IsDue w (printed_of old.host) (course_of steps w old space).items c
   pub printed : printed_of new.host ≡ printed_of old.host ++ play (course_taken steps w old new space).items
   pub settled : AllSettled new.host.tape.disk
@@ -154,7 +154,7 @@ pub record PlayedTaken (steps : ℕ) (w : World) (old new : Ends) : Type 0 where
 pub record Played (steps : ℕ) (w : World) (failed : Bool) (old new : Ends) : Type 0 where
   pub space : Space
   pub licensed : (entry : Entry) → IsEntry entry (as_read old.host.tape.disk)
-      → Licensed entry [] served_forms steps w (session_at old) (lines_of old.script.left) space
+      → Licensed entry [] all_forms steps w (session_at old) (lines_of old.script.left) space
   pub stops : (c : Image) → left_since new.host.tape (clock old.host.tape) c → IsDue w (printed_of old.host) (course_of steps w old space).items c
   pub printed : printed_of new.host ≡ printed_of old.host ++ play (course_of steps w old space).items
   pub settled : AllSettled new.host.tape.disk

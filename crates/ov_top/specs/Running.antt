@@ -7,7 +7,7 @@
 --     reads n user lines      how many bytes of pages these lines may fetch
 --     status_by ran, status_by_opening off      the status
 use Rattle.std.specs.Prelude.{◌≡◌, ◌⊎◌, ◌≤◌, ◌<◌, ◌+◌, ◌^◌, max, ℕ, Bool, true, false, List, [], ◌∷◌, ◌++◌, length, Result, Ok, Err, codes}
-use Rattle.law_forms.specs.BuiltShapes.{served_forms}
+use Rattle.ov_model.specs.Forms.{all_forms}
 use Rattle.ov_host.specs.declared.area.Area.TheVariants.{Pages}
 use Rattle.ov_host.specs.declared.area.Extent.{Extent}
 use Rattle.ov_host.specs.Host.{State}
@@ -63,18 +63,18 @@ ActsAfter (line ∷ lines) user next = (what : Served) × ActsAfter lines (user_
 abbrev pub IsHalted : ℕ → World → Session → Map → List (List ℕ) → List (List ℕ) → Held → State → State → Type 0
 IsHalted steps w s files gone lines before old new =
     (now : Held) × (failed : Bool) × (user : List ℕ) × ActsAfter gone s.user user
-    × Halts served_forms steps w s (session_of files user) gone lines failed before now old new
+    × Halts all_forms steps w s (session_of files user) gone lines failed before now old new
 
 -- Of all the lines, those whose line feed was taken are `taken`. Where it was reading that failed, and the stage didn't fail
 -- (`still`), just these were served.
 abbrev pub AllServed : ℕ → World → Session → Map → List (List ℕ) → List (List ℕ) → Type 0 → Result Bool RunErr → Held → State → State → Type 0
 AllServed steps w s files lines taken still (Ok failed) before old new =
-    (now : Held) × (user : List ℕ) × ActsAfter lines s.user user × Ends served_forms steps w s (session_of files user) lines failed before now old new
+    (now : Held) × (user : List ℕ) × ActsAfter lines s.user user × Ends all_forms steps w s (session_of files user) lines failed before now old new
 AllServed steps w s files lines taken still (Err (running.Damaged area at)) before old new = ⊥
 AllServed steps w s files lines taken still (Err running.Input) before old new =
-    Runs served_forms steps w s lines before old new × (still → IsHalted steps w s files taken lines before old new)
+    Runs all_forms steps w s lines before old new × (still → IsHalted steps w s files taken lines before old new)
 AllServed steps w s files lines taken still (Err running.TooLong) before old new = IsHalted steps w s files taken lines before old new
-AllServed steps w s files lines taken still (Err _) before old new = Runs served_forms steps w s lines before old new
+AllServed steps w s files lines taken still (Err _) before old new = Runs all_forms steps w s lines before old new
 
 -- ---- damage
 
@@ -99,7 +99,7 @@ pub record ReadsDamage (script : Script) (stage : Staged) (s : State) (page : �
 
 -- a line of a text has a reply, whoever asks it
 abbrev pub HasReply : List ℕ → Type 0
-HasReply text = (line : List ℕ) × IsLineOf text line × (is_comment_in (line_of served_forms line) ≡ false)
+HasReply text = (line : List ℕ) × IsLineOf text line × (is_comment_in (line_of all_forms line) ≡ false)
 
 -- a step that was asked for, behind a line that has a reply, met what is damaged at this page, by the same numbers
 pub record StepsOnDamage (steps : ℕ) (script : Script) (s : State) (page : ℕ) : Type 0 where

@@ -3,7 +3,7 @@
 use crate::files::take_file;
 use crate::refusal::reply_to;
 use anyhow::{Result, bail};
-use ov_cmd::read_built_line;
+use ov_cmd::read_line;
 use ov_model::{Command, Reply};
 use ov_plain_act::{Item, Run, Session, World, plain_course};
 use ov_reply::{is_error, reply};
@@ -40,7 +40,7 @@ impl Scene {
 
     /// The scene after a line, whose reply is printed. A comment has none.
     pub fn after_line(self, rt: HostRuntime, line: &[u8]) -> Result<Scene> {
-        match read_built_line(rt.alloc(), line) {
+        match read_line(rt.alloc(), line) {
             Ok(None) => Ok(self),
             Ok(Some(command)) => self.after_command(rt, &command),
             Err(off) => self.after_reply(rt, &reply_to(off)?),

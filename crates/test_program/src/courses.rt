@@ -95,7 +95,31 @@ pub const BEHIND: Course = Course {
     calls: [138, 2, 9],
 };
 
-/// Users, each a version more of a dataset of the store's own, and staged tables, of which there are none.
+/// Columns are added while a plan runs, on one branch and then on another, where the same one is refused. What was copied for the
+/// plan stays, and its targets go on.
+pub const WIDE: Course = Course {
+    steps: false,
+    lines: &[
+        (
+            "init people -s id:int,name:text,score:int -k id -f a.csv\n",
+            &[],
+        ),
+        ("commit people -v 1 -f b.csv -m raise\n", &[]),
+        ("optimize people -d 1/1\n", &[]),
+        ("migrate 1\n", &[]),
+        ("commit people -v 2 -f w.csv -m wide -a team:text\n", &[]),
+        ("commit people -v 1 -f w.csv -m again -a team:text\n", &[]),
+        ("commit people -v 1 -f w.csv -m branch\n", &[]),
+        ("commit people -v 4,1 -f x.csv -m wider -a ok:flag\n", &[]),
+        ("migrate 1\n", &[]),
+        ("checkpoint\n", &[]),
+        ("checkout people -v 1,3 -f out.csv\n", &[]),
+    ],
+    probe: "ls\nlog people\nlayout people\ncheckout people -v 1\ncheckout people -v 3,2\ncheckout people -v 5\nmigrate 9\nlayout people\ncheckout people -v 3,1\n",
+    calls: [123, 2, 18],
+};
+
+/// Users, each a version more of a dataset of the store's own, where no table is staged.
 pub const USERS: Course = Course {
     steps: false,
     lines: &[
@@ -110,6 +134,27 @@ pub const USERS: Course = Course {
     ],
     probe: "ls\nlog orpheus_users\ncheckout orpheus_users -v 1\ncheckout orpheus_users -v 2\ncheckout orpheus_users -v 3\n",
     calls: [70, 2, 0],
+};
+
+/// A staged table. That it is staged and taken off is a version more of a dataset of the store's own each time; its file, which is
+/// written behind it, isn't there for a later run.
+pub const STAGED: Course = Course {
+    steps: false,
+    lines: &[
+        (
+            "init people -s id:int,name:text,score:int -k id -f a.csv\n",
+            &[],
+        ),
+        ("checkout people -v 1 -t work\n", &[]),
+        ("checkout people -v 1 -t work\n", &[]),
+        ("commit -t admin.work -m same\n", &[]),
+        ("tables\n", &[]),
+        ("unstage admin.work\n", &[]),
+        ("commit -t admin.work -m none\n", &[]),
+        ("checkout people -v 2,1 -t work\n", &[]),
+    ],
+    probe: "ls\ntables\nlog people\nlog orpheus_stage\ncheckout orpheus_stage -v 1\ncheckout orpheus_stage -v 2\ncheckout orpheus_stage -v 3\n",
+    calls: [86, 2, 12],
 };
 
 /// Versions without a row, which take no page.
@@ -188,7 +233,8 @@ pub struct State {
     says: Vec<u8>,
 }
 
-/// The state after a course's first so many lines, and a line more with no step behind it.
+/// The state after a course's first so many lines, and a line more with no step behind it. Where no step comes behind a reply it is a
+/// line of the same run, which has the files that lines before it wrote.
 pub fn state_after(
     alloc: Global,
     course: &Course,
@@ -196,8 +242,14 @@ pub fn state_after(
     more: &str,
     most: usize,
 ) -> Result<State, AllocError> {
-    let mut host = run_first(alloc, course, count, NONE)?.host;
-    run_on(alloc, &mut host, false, more.as_bytes(), NEVER, NEVER)?;
+    let mut script = script_of(alloc, course, count)?;
+    let mut host = host_of(alloc, NEVER)?;
+    if course.steps {
+        run_on(alloc, &mut host, true, &script, NEVER, NEVER)?;
+        script.clear();
+    }
+    script.extend_from_slice(more.as_bytes())?;
+    run_on(alloc, &mut host, false, &script, NEVER, NEVER)?;
     let printed = host.printed().len();
     let says = said(alloc, &mut host, course.probe)?;
     Ok(State {

@@ -10,12 +10,22 @@ pub const NEVER: u64 = u64::MAX;
 /// The bytes of `a.csv`.
 pub const PEOPLE: &[u8] = b"id,name,score\n1,ann,10\n2,bob,20\n";
 
-const FILES: [(&str, &[u8]); 4] = [
+const FILES: [(&str, &[u8]); 6] = [
     ("a.csv", PEOPLE),
     ("b.csv", b"id,name,score\n1,ann,10\n2,bob,25\n3,cy,30\n"),
     ("h.csv", b"id,name,score\n"),
     // The rows of version 1 and a new one.
     ("m.csv", b"id,name,score\n1,ann,10\n2,bob,20\n3,cy,30\n"),
+    // A column more: NULL, a text, and the empty text.
+    (
+        "w.csv",
+        b"id,name,score,team\n1,ann,10,\\N\n2,bob,25,red\n3,cy,30,\n",
+    ),
+    // Two columns more, of version 1's rows and a new one.
+    (
+        "x.csv",
+        b"id,name,score,team,ok\n1,ann,10,\\N,t\n2,bob,20,\\N,\n3,cy,30,,f\n",
+    ),
 ];
 
 /// The files of all scripts.

@@ -1,6 +1,7 @@
 //! Calls of the ends that fail: the run ends, and what it leaves is as after a stop.
 use crate::courses::{
-    BEHIND, Course, Fails, MADE, PEOPLE, State, USERS, Way, allows, left_by, run_first, states_of,
+    BEHIND, Course, Fails, MADE, PEOPLE, STAGED, State, USERS, WIDE, Way, allows, left_by,
+    run_first, states_of,
 };
 use crate::ends::{self, NEVER, host_of, run_on, stage_of};
 use ov_files::put_file;
@@ -66,8 +67,20 @@ fn a_fault_in_a_made_dataset_ends_the_run(rt: HostRuntime) -> Result<(), Fail> {
 }
 
 #[test]
+fn a_fault_where_columns_are_added_ends_the_run(rt: HostRuntime) -> Result<(), Fail> {
+    assert!(rt; holds(rt.alloc(), &WIDE)?);
+    Ok(())
+}
+
+#[test]
 fn a_fault_between_users_ends_the_run(rt: HostRuntime) -> Result<(), Fail> {
     assert!(rt; holds(rt.alloc(), &USERS)?);
+    Ok(())
+}
+
+#[test]
+fn a_fault_of_an_end_leaves_a_staged_table_or_none(rt: HostRuntime) -> Result<(), Fail> {
+    assert!(rt; holds(rt.alloc(), &STAGED)?);
     Ok(())
 }
 

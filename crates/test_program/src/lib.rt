@@ -10,6 +10,8 @@ ghost use Rattle.ov_top.specs.Ending.{Plays};
 ghost use Rattle.test_program.specs.Fresh.{ends_of, fresh_ends};
 
 #[cfg(test)]
+mod branches;
+#[cfg(test)]
 mod courses;
 #[cfg(test)]
 mod ends;

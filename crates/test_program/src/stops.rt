@@ -1,7 +1,7 @@
 //! Stops within runs: what the store opened again says is what it said after the moves that were answered, or after one more.
 use crate::courses::{
-    BARE, BEHIND, Course, MADE, NONE, PEOPLE, State, USERS, Way, allows, left_by, run_first, said,
-    state_after, states_of,
+    BARE, BEHIND, Course, MADE, NONE, PEOPLE, STAGED, State, USERS, WIDE, Way, allows, left_by,
+    run_first, said, state_after, states_of,
 };
 use ov_host::Area;
 use ov_memhost::MemHost;
@@ -80,8 +80,20 @@ fn a_stop_in_a_made_dataset_leaves_its_first_moves(rt: HostRuntime) -> Result<()
 }
 
 #[test]
+fn a_stop_where_columns_are_added_leaves_all_of_them_or_none(rt: HostRuntime) -> Result<(), Fail> {
+    assert!(rt; holds(rt.alloc(), &WIDE)?);
+    Ok(())
+}
+
+#[test]
 fn a_stop_between_users_leaves_them_before_or_after(rt: HostRuntime) -> Result<(), Fail> {
     assert!(rt; holds(rt.alloc(), &USERS)?);
+    Ok(())
+}
+
+#[test]
+fn a_stop_leaves_a_staged_table_or_none(rt: HostRuntime) -> Result<(), Fail> {
+    assert!(rt; holds(rt.alloc(), &STAGED)?);
     Ok(())
 }
 

@@ -1,5 +1,9 @@
-use Rattle.std.proofs.Common.{◌≡◌, ◌≤◌, ◌+◌, ◌-◌, ◌∙◌, ℕ, List, [], ◌∷◌, length, sym, ap, subst, arith}
-use Rattle.std.specs.Prelude.{IfErr, None}
+use Rattle.std.proofs.Common.{◌≡◌, ◌≤◌, ◌+◌, ◌-◌, ◌∙◌, ℕ, List, [], ◌∷◌, length, refl, sym, ap, subst, arith}
+use Rattle.std.specs.Prelude.{IfErr, None, Some}
+use Rattle.std.specs.List.{All}
+use Rattle.ov_value.specs.Shapes.{Shape}
+use Rattle.ov_value.specs.Spelling.{IsRow}
+use Rattle.ov_store.specs.Committing.{Set}
 use Rattle.ov_core.specs.AtWorld.{IsAtWorld}
 use Rattle.ov_gen.specs.Versions.{IsGrown, Source}
 use Rattle.ov_gen.proofs.Growing.{begin-few}
@@ -30,9 +34,19 @@ returns-in_err-rows-clause-world g c = λ w grown number at has long state.
     (c.in_err-rows.ensures.world w has.set at has.named rows) c.in_err-rows.ensures.why
     in match_err _ (IsUnmoved (move_next number c.args.count grown) w c.args.store.now.held old new) c.from_residual.result c.in_err-rows.field-0.0 c.from_residual.ensures not_made
 
+pub commit-requires-clause-fit : goal.commit-requires-clause-fit
+commit-requires-clause-fit g c = λ s named.
+    let known = c.requires.known
+    in let same : known.set ≡ s = ap (λ o. elim o as (λ _. Set) [ None ↦ known.set | Some x ↦ x ]) (sym known.named ∙ named)
+    in record {
+      wider = s.schema;
+      with = refl;
+      fit = subst (λ (x : Shape). All (IsRow x) c.in_ok-rows-2.rows) (sym known.schema_is ∙ ap (λ (x : Set). x.schema) same) c.in_ok-rows-2.ensures.fit;
+    }
+
 pub returns-clause-known : goal.returns-clause-known
 returns-clause-known g c =
-    known_ok c.commit.result c.args.cvd.now c.args.store.now.held c.commit.new.self.held c.requires.known _ _ (c.commit.ensures.done c.requires.known.set c.requires.known.named)
+    known_ok c.commit.result c.args.cvd.now c.args.store.now.held c.commit.new.self.held c.requires.known _ _ refl (c.commit.ensures.done c.requires.known.set c.requires.known.named)
 
 pub returns-clause-source : goal.returns-clause-source
 returns-clause-source g c =
@@ -66,8 +80,8 @@ returns-clause-world g c = λ w grown number at has long state.
     in let child : child_of c.parent-parent.new.self.rows c.args.vid c.parent-parent.new.self.state c.in_ok-rows.rows.items ≡ rows_next c.args.count grown
     = child_is grown c.args.count c.args.vid c.parent-parent.new.self.rows c.parent-parent.new.self.state c.in_ok-rows.rows.items count long drawn_state parent
     in version_made w c.args.cvd.now number c.args.count grown has
-    (record { vids = c.from.result ∷ []; message = c.args.message.now; rows = c.in_ok-rows-2.rows })
-    (ap (λ (n : ℕ). n ∷ []) (c.from.ensures ∙ drawn)) c.requires.message
+    (record { vids = c.from.result ∷ []; message = c.args.message.now; added = []; rows = c.in_ok-rows-2.rows })
+    (ap (λ (n : ℕ). n ∷ []) (c.from.ensures ∙ drawn)) c.requires.message refl
     (c.in_ok-rows-2.ensures.rows ∙ ap (λ (x : Drawn (List Row)). x.is) child)
     (omega (arith, long, c.requires.versions)) (omega (arith, long, c.requires.few))
     c.args.store.now.held c.commit.new.self.held old mid new at c.parent_rows.ensures.looked (c.commit.ensures.stops w at_mid)
@@ -91,8 +105,8 @@ returns-clause-damaged g c =
     let new = g.H.Host.state c.commit.new.host
     in subst (λ p. IfErr c.commit.result (IsDamageOf (HasDamage c.args.store.now.held c.args.cvd.now p c.args.count c.args.vid new))) c.parent-parent.ensures.drawn
     (commit_damage c.commit.result c.args.store.now.held c.args.cvd.now c.parent-parent.result c.args.count c.args.vid
-    (record { vids = c.from.result ∷ []; message = c.args.message.now; rows = c.in_ok-rows-2.rows })
-    c.args.store.now c.commit.new.self (g.H.Host.state c.parent_rows.new.host) new (ap (λ (n : ℕ). n ∷ []) c.from.ensures) c.commit.ensures.why c.commit.ensures.stays)
+    (record { vids = c.from.result ∷ []; message = c.args.message.now; added = []; rows = c.in_ok-rows-2.rows })
+    c.args.store.now c.commit.new.self (g.H.Host.state c.parent_rows.new.host) new (ap (λ (n : ℕ). n ∷ []) c.from.ensures) refl c.commit.ensures.why c.commit.ensures.stays)
 
 pub returns-clause-rows_few : goal.returns-clause-rows_few
 returns-clause-rows_few g c =
@@ -125,5 +139,5 @@ pub returns-clause-made : goal.returns-clause-made
 returns-clause-made g c =
     let count : c.parent-parent.new.self.rows ≡ c.args.count = ap (λ (x : Source). x.rows) c.parent-parent.ensures.state ∙ c.requires.source
     in version_is_made c.commit.result c.args.cvd.now c.args.count c.args.vid _ c.args.store.now.held c.commit.new.self.held c.requires.known _ _
-    (ap (λ (n : ℕ). n ∷ []) (c.from.ensures ∙ c.parent-parent.ensures.drawn)) (subst (λ n. IsGrown n (c.args.vid + 1) c.in_ok-rows-2.rows) count c.in_ok-rows-2.ensures.grown)
+    (ap (λ (n : ℕ). n ∷ []) (c.from.ensures ∙ c.parent-parent.ensures.drawn)) refl (subst (λ n. IsGrown n (c.args.vid + 1) c.in_ok-rows-2.rows) count c.in_ok-rows-2.ensures.grown)
     (c.commit.ensures.done c.requires.known.set c.requires.known.named)

@@ -1,4 +1,4 @@
-use Rattle.std.proofs.Common.{[], sym, ap, refl, subst, rules}
+use Rattle.std.proofs.Common.{sym, ap, refl, subst, rules}
 use Rattle.law_runs.proofs.Doing.{breaks_looked}
 use Rattle.law_runs.specs.Serving.{Breaks, session_of}
 use Rattle.ov_model.specs.Act.{commit_deed}
@@ -7,36 +7,38 @@ use Rattle.ov_session.proofs.Asking.{commit_acts, said_still}
 use Rattle.ov_session.proofs.Bounds.{fetched_none, fetched_there}
 use Rattle.ov_session.proofs.Dealing.{no_host, result_and_rows}
 use Rattle.ov_session.proofs.Replying.{seen_missed}
+use Rattle.ov_session.proofs.Rows.{row_none, row_refused}
 use Rattle.ov_session.proofs.Standing.{at_still, idle_same, idle_stored, idle_unmoved}
-use Rattle.ov_session.specs.Commands.{HasFileRows, HasMissed, HasSet, IsAskedOf, IsNoDamage}
+use Rattle.ov_session.specs.Commands.{HasFileRows, HasMissed, HasSet, HasWideRows, IsAskedOf, IsNoDamage}
 use Rattle.ov_session.specs.Standing.{IsIdle}
+use Rattle.ov_store.specs.Committing.{schema_for}
 use Rattle.ov_store.specs.Scanning.{set_in}
 use Rattle.ov_session.proofs.changing.commit.Goals as goal
 
 pub returns-in_err-rows-clause-acts : goal.returns-in_err-rows-clause-acts
 returns-in_err-rows-clause-acts g c = λ w user told at.
     let s = session_of (g.T.Stage.staged c.args.stage.now).files user
-    in let fact : Breaks (commit_deed w s c.args.cvd c.args.vids.now c.args.message.now [] c.args.file.now (set_named w c.args.cvd)) s w (g.H.Host.state c.args.host.now) (g.H.Host.state c.args.host.now)
-    = breaks_looked (commit_deed w s c.args.cvd c.args.vids.now c.args.message.now [] c.args.file.now (set_named w c.args.cvd)) s w c.args.store.now.held (g.H.Host.state c.args.host.now) (g.H.Host.state c.args.host.now) at refl
+    in let fact : Breaks (commit_deed w s c.args.cvd c.args.vids.now c.args.message.now c.args.added.now c.args.file.now (set_named w c.args.cvd)) s w (g.H.Host.state c.args.host.now) (g.H.Host.state c.args.host.now)
+    = breaks_looked (commit_deed w s c.args.cvd c.args.vids.now c.args.message.now c.args.added.now c.args.file.now (set_named w c.args.cvd)) s w c.args.store.now.held (g.H.Host.state c.args.host.now) (g.H.Host.state c.args.host.now) at refl
     in search (rules, fact)
 
 pub returns-in-Rows-clause-acts : goal.returns-in-Rows-clause-acts
 returns-in-Rows-clause-acts g c = λ w user told at.
     let s = session_of (g.T.Stage.staged c.args.stage.now).files user
-    in commit_acts w s (session_of (g.T.Stage.staged c.rows_for.new.stage).files user) c.args.cvd c.args.vids.now c.args.message.now c.args.file.now
+    in commit_acts w s (session_of (g.T.Stage.staged c.rows_for.new.stage).files user) c.args.cvd c.args.vids.now c.args.message.now c.args.added.now c.args.file.now
     c.args.store.now.held c.next_version.new.store.held (g.H.Host.state c.args.host.now) (g.H.Host.state c.next_version.new.host)
     (ap (λ files. session_of files user) (sym c.rows_for.ensures.files)) c.in-Rows.rows c.next_version.result
-    (subst (IsAskedOf w s c.args.cvd c.args.vids.now c.args.message.now c.args.file.now) c.in-Rows.is
+    (subst (IsAskedOf w s c.args.cvd c.args.vids.now c.args.message.now c.args.added.now c.args.file.now) c.in-Rows.is
     (c.in_ok-rows.ensures.asked w (g.H.Host.state c.args.host.now) s c.args.message.now told at refl))
     (λ d is none. c.next_version.ensures.acts w s d at is none)
 
 pub returns-in-Said-clause-acts : goal.returns-in-Said-clause-acts
 returns-in-Said-clause-acts g c = λ w user told at.
     let s = session_of (g.T.Stage.staged c.args.stage.now).files user
-    in said_still (commit_deed w s c.args.cvd c.args.vids.now c.args.message.now [] c.args.file.now (set_named w c.args.cvd)) s
+    in said_still (commit_deed w s c.args.cvd c.args.vids.now c.args.message.now c.args.added.now c.args.file.now (set_named w c.args.cvd)) s
     (session_of (g.T.Stage.staged c.rows_for.new.stage).files user) w c.in-Said.reply c.args.store.now.held (g.H.Host.state c.args.host.now)
     (ap (λ files. session_of files user) (sym c.rows_for.ensures.files)) at
-    (subst (IsAskedOf w s c.args.cvd c.args.vids.now c.args.message.now c.args.file.now) c.in-Said.is
+    (subst (IsAskedOf w s c.args.cvd c.args.vids.now c.args.message.now c.args.added.now c.args.file.now) c.in-Said.is
     (c.in_ok-rows.ensures.asked w (g.H.Host.state c.args.host.now) s c.args.message.now told at refl))
 
 pub returns-in_err-rows-clause-undamaged : goal.returns-in_err-rows-clause-undamaged
@@ -67,11 +69,19 @@ returns-in-Rows-clause-idle g c =
     idle_stored c.args.store.now c.next_version.new.store (g.T.Stage.staged c.args.stage.now) (g.T.Stage.staged c.rows_for.new.stage) (g.H.Host.state c.args.host.now) (g.H.Host.state c.next_version.new.host)
     c.next_version.result c.next_version.ensures.host_alone c.next_version.ensures.idle c.rows_for.ensures.files
 
+-- its rows are rows of the schema with the columns, as next_version requires
+pub next_version-requires-clause-fit : goal.next_version-requires-clause-fit
+next_version-requires-clause-fit g c = λ set is. subst (HasWideRows set.schema c.args.added.now) c.in-Rows.is (c.in_ok-rows.ensures.fit set is)
+
 pub returns-in-Rows-clause-damaged : goal.returns-in-Rows-clause-damaged
 returns-in-Rows-clause-damaged g c =
-    result_and_rows c.args.store.now.held c.args.cvd c.args.vids.now c.args.message.now c.args.file.now (g.T.Stage.staged c.args.stage.now) c.in-Rows.rows (g.H.Host.state c.next_version.new.host)
-    c.next_version.result (λ set is. subst (HasFileRows set.schema c.args.file.now (g.T.Stage.staged c.args.stage.now)) c.in-Rows.is (c.in_ok-rows.ensures.read set is))
-    c.next_version.ensures.damaged
+    let held = c.args.store.now.held
+    in let stage = g.T.Stage.staged c.args.stage.now
+    in result_and_rows held c.args.cvd c.args.vids.now c.args.added.now c.args.message.now c.args.file.now stage c.in-Rows.rows (g.H.Host.state c.next_version.new.host)
+    (λ set is. subst (HasFileRows (schema_for set.schema c.args.added.now) c.args.file.now stage) c.in-Rows.is (c.in_ok-rows.ensures.read set is))
+    (λ none. row_none held.numbers c.args.cvd c.args.vids.now c.args.added.now c.in-Rows.rows
+    (λ set is. subst (HasWideRows set.schema c.args.added.now) c.in-Rows.is (c.in_ok-rows.ensures.fit set is)) held.journal.format none)
+    c.next_version.result c.next_version.ensures.damaged
 
 pub returns-in-Said-clause-fetched : goal.returns-in-Said-clause-fetched
 returns-in-Said-clause-fetched g c = fetched_none _ _
@@ -89,4 +99,7 @@ pub returns-in-Said-clause-by_journal : goal.returns-in-Said-clause-by_journal
 returns-in-Said-clause-by_journal g c = λ by fine. by
 
 pub returns-in-Rows-clause-unread : goal.returns-in-Rows-clause-unread
-returns-in-Rows-clause-unread g c = λ off is. c.next_version.ensures.unread off is
+returns-in-Rows-clause-unread g c = λ off is.
+    let there = row_refused c.args.store.now.held.numbers c.args.cvd c.args.vids.now c.args.added.now c.in-Rows.rows
+    (λ set found. subst (HasWideRows set.schema c.args.added.now) c.in-Rows.is (c.in_ok-rows.ensures.fit set found)) off is
+    in c.next_version.ensures.unread there.0 there.1

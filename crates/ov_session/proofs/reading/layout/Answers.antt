@@ -1,6 +1,5 @@
 use Rattle.std.proofs.Common.{rules, ◌≡◌, ◌∙◌, ℕ, List, sym, ap, subst}
 use Rattle.std.specs.Prelude.{Some, None}
-use Rattle.std.proofs.lemmas.Result.{IfOk-weaker}
 use Rattle.ov_host.specs.declared.area.Extent.{Extent}
 use Rattle.ov_catalog.specs.Numbers.{Numbers}
 use Rattle.ov_catalog.specs.Sets as sets
@@ -9,18 +8,17 @@ use Rattle.ov_store.specs.Scanning.{set_in}
 use Rattle.ov_session.proofs.Lookups.{is_layout, layout_of_none, layout_told}
 use Rattle.ov_session.proofs.reading.layout.Goals as goal
 
-pub returns-in-Some : goal.returns-in-Some
-returns-in-Some c = record {
+pub returns-in_ok-layout_of-in-Some : goal.returns-in_ok-layout_of-in-Some
+returns-in_ok-layout_of-in-Some c = record {
   told = λ w s t at.
       let same : c.as_str.result.now ≡ c.args.cvd = search rules
       in let seen : set_in c.args.store.now.held.numbers c.as_str.result.now ≡ Some (sets.set_in c.in-Some.d.now)
       = subst (λ (n : Numbers Extent Extent). set_in n c.as_str.result.now ≡ Some (sets.set_in c.in-Some.d.now)) c.catalog.ensures (sym c.in-Some.ensures.found)
       in let found : set_in c.args.store.now.held.numbers c.args.cvd ≡ Some (sets.set_in c.in-Some.d.now)
       = subst (λ (name : List ℕ). set_in c.args.store.now.held.numbers name ≡ Some (sets.set_in c.in-Some.d.now)) same seen
-      in IfOk-weaker c.layout_of.result _ _
-      (λ reply is. layout_told w c.args.store.now.held t at s c.args.cvd (sets.set_in c.in-Some.d.now) found ∙ ap (tells s) (sym is))
-      c.layout_of.ensures;
-  seen = IfOk-weaker c.layout_of.result _ _ (λ reply is. is_layout (sets.set_in c.in-Some.d.now) reply is) c.layout_of.ensures;
+      in layout_told w c.args.store.now.held t at s c.args.cvd (sets.set_in c.in-Some.d.now) found ∙ ap (tells s) (sym c.in_ok-layout_of-in-Some.ensures);
+  seen = is_layout (sets.set_in c.in-Some.d.now) c.in_ok-layout_of-in-Some.field-0 c.in_ok-layout_of-in-Some.ensures;
+  memory = tt;
 }
 
 pub returns-in-None : goal.returns-in-None
@@ -33,4 +31,5 @@ returns-in-None c = record {
       = subst (λ (name : List ℕ). set_in c.args.store.now.held.numbers name ≡ None) same seen
       in layout_of_none w c.args.store.now.held t at s c.args.cvd none;
   seen = λ name is. cc;
+  memory = tt;
 }

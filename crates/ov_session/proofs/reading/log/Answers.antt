@@ -20,6 +20,7 @@ returns-in_ok-log_lines-in-Some c = record {
       in log_told w c.args.store.now.held t at s c.args.cvd (sets.set_in c.in-Some.d.now) found
       ∙ ap (λ lines. tells s (says.Log lines)) (sym c.in_ok-log_lines-in-Some.ensures);
   seen = λ name is. cc;
+  memory = tt;
 }
 
 pub returns-in-None : goal.returns-in-None
@@ -32,4 +33,5 @@ returns-in-None c = record {
       = subst (λ (name : List ℕ). set_in c.args.store.now.held.numbers name ≡ None) same seen
       in log_of_none w c.args.store.now.held t at s c.args.cvd none;
   seen = λ name is. cc;
+  memory = tt;
 }

@@ -11,4 +11,5 @@ returns c = record {
   told = λ w s t at.
       ap says.Ls (c.in_ok-cvd_lines.ensures ∙ ap (λ (n : Numbers Extent Extent). shown_cvds n) c.catalog.ensures ∙ ls_told w c.args.store.now.held t at);
   seen = λ name is. cc;
+  memory = tt;
 }

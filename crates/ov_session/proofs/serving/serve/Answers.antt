@@ -1,6 +1,6 @@
 use Rattle.std.proofs.Common.{◌≡◌, ◌∙◌, true, false, refl, sym, ap, subst, arith}
 use Rattle.std.specs.Prelude.{Err, IfErr, Result, is_ok}
-use Rattle.law_forms.specs.BuiltShapes.{served_forms}
+use Rattle.ov_model.specs.Forms.{all_forms}
 use Rattle.ov_host.specs.Host.{State}
 use Rattle.law_runs.specs.Serving.{Serves, session_of}
 use Rattle.ov_store.specs.Kept.{Kept}
@@ -76,8 +76,8 @@ returns-in_err-served-clause-serves g c = λ w told at.
     let s = session_of (g.T.Stage.staged c.args.stage.now).files c.args.user.now
     in let t = session_of (g.T.Stage.staged c.serve_line.new.stage).files c.serve_line.new.user
     in let is = err_is c.from_residual.result c.in_err-served.field-0.0 c.from_residual.ensures.0 c.from_residual.ensures.1
-    in let line : Serves served_forms 0 w s t c.args.line.now false false c.args.store.now.held c.serve_line.new.store.held (g.H.Host.state c.args.host.now) (g.H.Host.state c.serve_line.new.host) = c.in_err-served.ensures.serves w told at
-    in subst (λ (r : Result Served EndErr). Serves served_forms c.args.steps w s t c.args.line.now (is_ok r) (is_refused r) c.args.store.now.held c.serve_line.new.store.held (g.H.Host.state c.args.host.now) (g.H.Host.state c.serve_line.new.host)) (sym is)
+    in let line : Serves all_forms 0 w s t c.args.line.now false false c.args.store.now.held c.serve_line.new.store.held (g.H.Host.state c.args.host.now) (g.H.Host.state c.serve_line.new.host) = c.in_err-served.ensures.serves w told at
+    in subst (λ (r : Result Served EndErr). Serves all_forms c.args.steps w s t c.args.line.now (is_ok r) (is_refused r) c.args.store.now.held c.serve_line.new.store.held (g.H.Host.state c.args.host.now) (g.H.Host.state c.serve_line.new.host)) (sym is)
     (serves_off c.args.steps w s t c.args.line.now c.args.store.now.held c.serve_line.new.store.held (g.H.Host.state c.args.host.now) (g.H.Host.state c.serve_line.new.host) line)
 
 pub returns-then-is_comment-clause-still : goal.returns-then-is_comment-clause-still
@@ -110,7 +110,7 @@ returns-then-is_comment-clause-serves g c = λ w told at.
     let s = session_of (g.T.Stage.staged c.args.stage.now).files c.args.user.now
     in let t = session_of (g.T.Stage.staged c.serve_line.new.stage).files c.serve_line.new.user
     in let none : is_comment_of c.in_ok-served.served ≡ true = sym c.is_comment.ensures ∙ c.if-is_comment.true
-    in let line : Serves served_forms 0 w s t c.args.line.now true (is_refusal_of c.in_ok-served.served) c.args.store.now.held c.serve_line.new.store.held (g.H.Host.state c.args.host.now) (g.H.Host.state c.serve_line.new.host) = c.in_ok-served.ensures.serves w told at
+    in let line : Serves all_forms 0 w s t c.args.line.now true (is_refusal_of c.in_ok-served.served) c.args.store.now.held c.serve_line.new.store.held (g.H.Host.state c.args.host.now) (g.H.Host.state c.serve_line.new.host) = c.in_ok-served.ensures.serves w told at
     in serves_none c.args.steps w s t c.args.line.now true (is_refusal_of c.in_ok-served.served) c.args.store.now.held c.serve_line.new.store.held (g.H.Host.state c.args.host.now) (g.H.Host.state c.serve_line.new.host) (no_line c.args.user.now c.args.line.now (sym c.in_ok-served.ensures.comment ∙ none)) line
 
 pub returns-in_err-take_steps-clause-goes : goal.returns-in_err-take_steps-clause-goes
@@ -177,8 +177,8 @@ returns-in_err-take_steps-clause-serves g c = λ w told at.
     in let t = session_of (g.T.Stage.staged c.serve_line.new.stage).files c.serve_line.new.user
     in let some : is_comment_of c.in_ok-served.served ≡ false = sym c.is_comment.ensures ∙ c.if-is_comment.false
     in let is = err_is c.from_residual-in_err-take_steps.result c.in_err-take_steps.field-0.0 c.from_residual-in_err-take_steps.ensures.0 c.from_residual-in_err-take_steps.ensures.1
-    in let line : Serves served_forms 0 w s t c.args.line.now true (is_refusal_of c.in_ok-served.served) c.args.store.now.held c.serve_line.new.store.held (g.H.Host.state c.args.host.now) (g.H.Host.state c.serve_line.new.host) = c.in_ok-served.ensures.serves w told at
-    in subst (λ (r : Result Served EndErr). Serves served_forms c.args.steps w s t c.args.line.now (is_ok r) (is_refused r) c.args.store.now.held c.take_steps.new.store.held (g.H.Host.state c.args.host.now) (g.H.Host.state c.take_steps.new.host)) (sym is)
+    in let line : Serves all_forms 0 w s t c.args.line.now true (is_refusal_of c.in_ok-served.served) c.args.store.now.held c.serve_line.new.store.held (g.H.Host.state c.args.host.now) (g.H.Host.state c.serve_line.new.host) = c.in_ok-served.ensures.serves w told at
+    in subst (λ (r : Result Served EndErr). Serves all_forms c.args.steps w s t c.args.line.now (is_ok r) (is_refused r) c.args.store.now.held c.take_steps.new.store.held (g.H.Host.state c.args.host.now) (g.H.Host.state c.take_steps.new.host)) (sym is)
     (serves_halted c.args.steps w s t c.args.line.now (some_line c.args.user.now c.args.line.now (sym c.in_ok-served.ensures.comment ∙ some)) (is_refusal_of c.in_ok-served.served) c.args.store.now.held c.serve_line.new.store.held c.take_steps.new.store.held (g.H.Host.state c.args.host.now) (g.H.Host.state c.serve_line.new.host) (g.H.Host.state c.take_steps.new.host) line
     (λ v on. c.in_err-take_steps.ensures.stepped v on))
 
@@ -225,6 +225,6 @@ returns-clause-serves g c = λ w told at.
     let s = session_of (g.T.Stage.staged c.args.stage.now).files c.args.user.now
     in let t = session_of (g.T.Stage.staged c.serve_line.new.stage).files c.serve_line.new.user
     in let some : is_comment_of c.in_ok-served.served ≡ false = sym c.is_comment.ensures ∙ c.if-is_comment.false
-    in let line : Serves served_forms 0 w s t c.args.line.now true (is_refusal_of c.in_ok-served.served) c.args.store.now.held c.serve_line.new.store.held (g.H.Host.state c.args.host.now) (g.H.Host.state c.serve_line.new.host) = c.in_ok-served.ensures.serves w told at
+    in let line : Serves all_forms 0 w s t c.args.line.now true (is_refusal_of c.in_ok-served.served) c.args.store.now.held c.serve_line.new.store.held (g.H.Host.state c.args.host.now) (g.H.Host.state c.serve_line.new.host) = c.in_ok-served.ensures.serves w told at
     in serves_steps c.args.steps w s t c.args.line.now (some_line c.args.user.now c.args.line.now (sym c.in_ok-served.ensures.comment ∙ some)) (is_refusal_of c.in_ok-served.served) c.args.store.now.held c.serve_line.new.store.held c.take_steps.new.store.held (g.H.Host.state c.args.host.now) (g.H.Host.state c.serve_line.new.host) (g.H.Host.state c.take_steps.new.host) line true
     (λ v on. c.in_ok-take_steps.ensures.stepped v on)

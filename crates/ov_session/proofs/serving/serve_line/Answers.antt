@@ -1,16 +1,15 @@
 use Rattle.std.proofs.Common.{◌≡◌, ◌∙◌, false, sym, ap, arith, refl, subst, rules, inl}
 use Rattle.std.specs.Prelude.{Err, IsErrOf, Ok, Option, Result, is_ok}
-use Rattle.ov_cmd.specs.Asked.{AsksBuilt}
+use Rattle.ov_cmd.specs.Asked.{AsksAny}
 use Rattle.ov_cmd.specs.Said.{said}
 use Rattle.ov_session.specs.declared.errors.EndErr.{EndErr}
 use Rattle.ov_session.specs.declared.serving.Served.{Served}
 use Rattle.ov_session.specs.Asking.{line_asked, refusal_to}
 use Rattle.law_runs.specs.Serving.{Serves, session_of}
 use Rattle.ov_model.specs.Line.{Asks, Refused}
-use Rattle.ov_session.proofs.Saying.{comment_none, line_unserved, says_comment, says_refusal}
-use Rattle.ov_session.proofs.Shaping.{broken_shaped, comment_shaped, damaged_shaped, fetched_shaped, idle_shaped, none_shaped, reply_shaped, served_shaped, still_shaped, unread_shaped, whole_shaped}
-use Rattle.law_forms.specs.BuiltShapes.{served_forms, served_line}
-use Rattle.ov_session.specs.Commands.{IsNoDamage, is_comment_in, is_refused}
+use Rattle.ov_session.proofs.Saying.{comment_none, line_unserved, says_broken, says_comment, says_refusal, says_reply}
+use Rattle.ov_model.specs.Forms.{all_forms}
+use Rattle.ov_session.specs.Commands.{IsNoDamage, MeetsDamage, is_comment_in, is_refused}
 use Rattle.std.proofs.Common.{ℕ}
 use Rattle.ov_model.specs.Line.{Line}
 use Rattle.ov_model.specs.declared.reply.Reply.TheVariants as says
@@ -21,33 +20,35 @@ use Rattle.ov_session.specs.Replying.{IsReplyTo}
 use Rattle.ov_session.specs.Standing.{IsIdleOn}
 use Rattle.ov_session.proofs.Numbering.{journal_said}
 use Rattle.ov_session.specs.declared.errors.EndErr.TheVariants as ending
-use Rattle.ov_session.proofs.Meeting.{comment_asks, refused_asks}
+use Rattle.ov_session.proofs.Meeting.{comment_asks, refused_asks, same_command}
+use Rattle.ov_session.proofs.Dealing.{damage_wider}
 use Rattle.ov_model.specs.declared.command.Command.{Command}
 use Rattle.std.specs.Prelude.{IfErr}
 use Rattle.ov_session.specs.Commands.{IsDamageOf, IsDamaged}
 use Rattle.ov_session.proofs.Acting.{comment_user, refused_user, said_user}
-use Rattle.ov_session.proofs.Shaping.{user_shaped}
-use Rattle.ov_session.specs.Acting.{IsNextUser}
+use Rattle.ov_session.specs.Acting.{IsNextUser, user_after}
+use Rattle.ov_session.specs.Bounds.{IsFetchedBy, IsReading, is_off}
+use Rattle.ov_session.specs.Stepping.{line_begins}
 use Rattle.ov_session.proofs.serving.serve_line.Goals as goal
 
 pub act-requires-clause-asked : goal.act-requires-clause-asked
-act-requires-clause-asked g c = (subst AsksBuilt c.in-Ok-Some.field-0-is c.in-Ok-Some.ensures.asked).0
-
-pub act-requires-clause-built : goal.act-requires-clause-built
-act-requires-clause-built g c = (subst AsksBuilt c.in-Ok-Some.field-0-is c.in-Ok-Some.ensures.asked).1
+act-requires-clause-asked g c = subst AsksAny c.in-Ok-Some.field-0-is c.in-Ok-Some.ensures.asked
 
 pub returns-in_err-reply-in-Ok-Some-clause-undamaged : goal.returns-in_err-reply-in-Ok-Some-clause-undamaged
 returns-in_err-reply-in-Ok-Some-clause-undamaged g c = λ w at.
-    let fact : IsNoDamage c.in_err-reply-in-Ok-Some.field-0.0 = c.in_err-reply-in-Ok-Some.ensures.undamaged w at
+    let fact : IsNoDamage c.in_err-reply-in-Ok-Some.field-0.0 = c.in_err-reply-in-Ok-Some.ensures.serves.undamaged w at
     in search (rules, fact)
 
 pub returns-in_err-reply-in-Ok-Some-clause-damaged : goal.returns-in_err-reply-in-Ok-Some-clause-damaged
 returns-in_err-reply-in-Ok-Some-clause-damaged g c =
-    let IsMet : ℕ → Type 0 = λ page. (command : Command) × (line_asked c.args.user.now c.args.line.now ≡ Asks command)
-    × IsDamaged c.args.user.now command (g.T.Stage.staged c.args.stage.now) c.args.store.now.held c.act.new.store.held (g.H.Host.state c.act.new.host) page
+    let user = c.args.user.now
+    in let l = line_asked user c.args.line.now
+    in let IsDamage : Command → ℕ → Type 0
+    = λ command page. IsDamaged user command (g.T.Stage.staged c.args.stage.now) c.args.store.now.held c.act.new.store.held (g.H.Host.state c.act.new.host) page
+    in let IsMet : ℕ → Type 0 = λ page. (command : Command) × (l ≡ Asks command) × IsDamage command page
     in let fact : IsDamageOf IsMet c.in_err-reply-in-Ok-Some.field-0.0
-    = damaged_shaped c.args.user.now c.in-Ok-Some.command (line_asked c.args.user.now c.args.line.now) (c.in-Ok-Some.ensures.ok ∙ ap (λ (o : Option Command). served_line (said o)) c.in-Ok-Some.field-0-is)
-    c.args.store.now c.act.new.store (g.T.Stage.staged c.args.stage.now) (g.T.Stage.staged c.act.new.stage) (g.H.Host.state c.args.host.now) (g.H.Host.state c.act.new.host) c.in_err-reply-in-Ok-Some.field-0.0 c.in_err-reply-in-Ok-Some.ensures.other c.in_err-reply-in-Ok-Some.ensures.damaged
+    = damage_wider (IsDamage c.in-Ok-Some.command) IsMet c.in_err-reply-in-Ok-Some.field-0.0
+    (λ page met. (c.in-Ok-Some.command, c.in-Ok-Some.ensures.ok ∙ ap said c.in-Ok-Some.field-0-is, met)) c.in_err-reply-in-Ok-Some.ensures.serves.damaged
     in let is : c.from_residual.result ≡ Err c.in_err-reply-in-Ok-Some.field-0.0 = search rules
     in subst (λ (r : Result Served EndErr). IfErr r (IsDamageOf IsMet)) (sym is) fact
 
@@ -55,42 +56,42 @@ pub returns-in_err-reply-in-Ok-Some-clause-serves : goal.returns-in_err-reply-in
 returns-in_err-reply-in-Ok-Some-clause-serves g c = λ w told at.
     let s = session_of (g.T.Stage.staged c.args.stage.now).files c.args.user.now
     in let t = session_of (g.T.Stage.staged c.act.new.stage).files c.act.new.user
-    in let fact : Serves served_forms 0 w s t c.args.line.now false false c.args.store.now.held c.act.new.store.held (g.H.Host.state c.args.host.now) (g.H.Host.state c.act.new.host)
-    = broken_shaped c.args.user.now c.in-Ok-Some.command (line_asked c.args.user.now c.args.line.now) (c.in-Ok-Some.ensures.ok ∙ ap (λ (o : Option Command). served_line (said o)) c.in-Ok-Some.field-0-is)
-    c.args.store.now c.act.new.store (g.T.Stage.staged c.args.stage.now) (g.T.Stage.staged c.act.new.stage) (g.H.Host.state c.args.host.now) (g.H.Host.state c.act.new.host) c.in_err-reply-in-Ok-Some.field-0.0 c.in_err-reply-in-Ok-Some.ensures.other
-    w c.args.line.now refl at c.act.new.user (λ built. c.in_err-reply-in-Ok-Some.ensures.acts w built told at)
+    in let fact : Serves all_forms 0 w s t c.args.line.now false false c.args.store.now.held c.act.new.store.held (g.H.Host.state c.args.host.now) (g.H.Host.state c.act.new.host)
+    = says_broken w s t c.args.line.now c.in-Ok-Some.command c.args.store.now.held c.act.new.store.held (g.H.Host.state c.args.host.now) (g.H.Host.state c.act.new.host)
+    (c.in-Ok-Some.ensures.ok ∙ ap said c.in-Ok-Some.field-0-is) (c.in_err-reply-in-Ok-Some.ensures.serves.acts w told at)
     in let is : c.from_residual.result ≡ Err c.in_err-reply-in-Ok-Some.field-0.0 = search rules
-    in subst (λ (r : Result Served EndErr). Serves served_forms 0 w s t c.args.line.now (is_ok r) (is_refused r) c.args.store.now.held c.act.new.store.held
+    in subst (λ (r : Result Served EndErr). Serves all_forms 0 w s t c.args.line.now (is_ok r) (is_refused r) c.args.store.now.held c.act.new.store.held
     (g.H.Host.state c.args.host.now) (g.H.Host.state c.act.new.host)) (sym is) fact
 
 pub returns-in_err-refusal-in-Err-clause-serves : goal.returns-in_err-refusal-in-Err-clause-serves
 returns-in_err-refusal-in-Err-clause-serves g c = λ w told at.
     let s = session_of (g.T.Stage.staged c.args.stage.now).files c.args.user.now
-    in let fact : Serves served_forms 0 w s s c.args.line.now false false c.args.store.now.held c.args.store.now.held (g.H.Host.state c.args.host.now) (g.H.Host.state c.args.host.now)
+    in let fact : Serves all_forms 0 w s s c.args.line.now false false c.args.store.now.held c.args.store.now.held (g.H.Host.state c.args.host.now) (g.H.Host.state c.args.host.now)
     = line_unserved w s c.args.line.now c.args.store.now.held (g.H.Host.state c.args.host.now) at
     in let is : c.from_residual-in_err-refusal-in-Err.result ≡ Err c.in_err-refusal-in-Err.field-0.0 = search rules
-    in subst (λ (r : Result Served EndErr). Serves served_forms 0 w s s c.args.line.now (is_ok r) (is_refused r) c.args.store.now.held c.args.store.now.held
+    in subst (λ (r : Result Served EndErr). Serves all_forms 0 w s s c.args.line.now (is_ok r) (is_refused r) c.args.store.now.held c.args.store.now.held
     (g.H.Host.state c.args.host.now) (g.H.Host.state c.args.host.now)) (sym is) fact
 
 pub returns-in-Ok-None-clause-comment : goal.returns-in-Ok-None-clause-comment
-returns-in-Ok-None-clause-comment g c = sym (ap is_comment_in (c.in-Ok-None.ensures.ok ∙ ap (λ (o : Option Command). served_line (said o)) c.in-Ok-None.field-0-is))
+returns-in-Ok-None-clause-comment g c = sym (ap is_comment_in (c.in-Ok-None.ensures.ok ∙ ap said c.in-Ok-None.field-0-is))
 
 pub returns-in-Ok-None-clause-serves : goal.returns-in-Ok-None-clause-serves
 returns-in-Ok-None-clause-serves g c = λ w told at.
     says_comment w (session_of (g.T.Stage.staged c.args.stage.now).files c.args.user.now) c.args.line.now c.args.store.now.held
-    (g.H.Host.state c.args.host.now) (c.in-Ok-None.ensures.ok ∙ ap (λ (o : Option Command). served_line (said o)) c.in-Ok-None.field-0-is) at
+    (g.H.Host.state c.args.host.now) (c.in-Ok-None.ensures.ok ∙ ap said c.in-Ok-None.field-0-is) at
 
 pub returns-in_ok-reply-in-Ok-Some-clause-comment : goal.returns-in_ok-reply-in-Ok-Some-clause-comment
 returns-in_ok-reply-in-Ok-Some-clause-comment g c =
-    comment_shaped c.args.user.now c.in-Ok-Some.command (line_asked c.args.user.now c.args.line.now) (c.in-Ok-Some.ensures.ok ∙ ap (λ (o : Option Command). served_line (said o)) c.in-Ok-Some.field-0-is) _ c.say.result c.say.ensures.served
+    comment_none (Asks c.in-Ok-Some.command) (line_asked c.args.user.now c.args.line.now) _ c.say.result
+    (sym (c.in-Ok-Some.ensures.ok ∙ ap said c.in-Ok-Some.field-0-is)) refl c.say.ensures.served
 
 pub returns-in_ok-reply-in-Ok-Some-clause-serves : goal.returns-in_ok-reply-in-Ok-Some-clause-serves
 returns-in_ok-reply-in-Ok-Some-clause-serves g c = λ w told at.
-    served_shaped c.args.user.now c.in-Ok-Some.command (line_asked c.args.user.now c.args.line.now) (c.in-Ok-Some.ensures.ok ∙ ap (λ (o : Option Command). served_line (said o)) c.in-Ok-Some.field-0-is)
-    c.args.store.now c.act.new.store (g.T.Stage.staged c.args.stage.now) (g.T.Stage.staged c.act.new.stage) (g.H.Host.state c.args.host.now) (g.H.Host.state c.act.new.host) c.in_ok-reply-in-Ok-Some.reply c.in_ok-reply-in-Ok-Some.ensures.other
-    w c.args.line.now refl at (g.H.Host.state c.say.new.host) c.say.result
+    says_reply w (session_of (g.T.Stage.staged c.args.stage.now).files c.args.user.now) (session_of (g.T.Stage.staged c.act.new.stage).files c.act.new.user)
+    c.args.line.now c.in-Ok-Some.command c.in_ok-reply-in-Ok-Some.reply c.args.store.now.held c.act.new.store.held
+    (g.H.Host.state c.args.host.now) (g.H.Host.state c.act.new.host) (g.H.Host.state c.say.new.host)
+    (c.in-Ok-Some.ensures.ok ∙ ap said c.in-Ok-Some.field-0-is) (c.in_ok-reply-in-Ok-Some.ensures.serves.acts w told at) c.say.result
     (record { answer = c.say.ensures.served; why = c.say.ensures.host_alone; silent = c.say.ensures.unsaid; printed = c.say.ensures.said })
-    c.act.new.user (λ built. c.in_ok-reply-in-Ok-Some.ensures.acts w built told at)
 
 pub returns-in_ok-refusal-in-Err-clause-comment : goal.returns-in_ok-refusal-in-Err-clause-comment
 returns-in_ok-refusal-in-Err-clause-comment g c =
@@ -107,10 +108,10 @@ returns-in_ok-refusal-in-Err-clause-serves g c = λ w told at.
 
 pub returns-in_ok-reply-in-Ok-Some-clause-goes : goal.returns-in_ok-reply-in-Ok-Some-clause-goes
 returns-in_ok-reply-in-Ok-Some-clause-goes g c = record {
-  told = c.say.ensures.goes.told ∙ c.act.ensures.goes.told;
-  kept = c.say.ensures.goes.kept ∙ c.act.ensures.goes.kept;
-  faults = omega (arith, c.act.ensures.goes.faults, c.say.ensures.goes.faults);
-  fetched = omega (arith, c.act.ensures.goes.fetched, c.say.ensures.goes.fetched);
+  told = c.say.ensures.goes.told ∙ c.act.ensures.serves.goes.told;
+  kept = c.say.ensures.goes.kept ∙ c.act.ensures.serves.goes.kept;
+  faults = omega (arith, c.act.ensures.serves.goes.faults, c.say.ensures.goes.faults);
+  fetched = omega (arith, c.act.ensures.serves.goes.fetched, c.say.ensures.goes.fetched);
 }
 
 pub returns-in_err-reply-in-Ok-Some-clause-fetched : goal.returns-in_err-reply-in-Ok-Some-clause-fetched
@@ -120,9 +121,8 @@ returns-in_err-reply-in-Ok-Some-clause-fetched g c =
     in printed_line c.args.user.now (line_asked c.args.user.now c.args.line.now) c.args.store.now.held c.act.new.store.held (IsErrOf c.act.result ending.Host) _
     (g.H.Host.state c.args.host.now) (g.H.Host.state c.act.new.host) (g.H.Host.state c.act.new.host)
     (λ is. host_again c.act.result c.from_residual.result c.in_err-reply-in-Ok-Some.field-0.0 result same is) refl
-    (fetched_shaped c.args.user.now c.in-Ok-Some.command (line_asked c.args.user.now c.args.line.now) (c.in-Ok-Some.ensures.ok ∙ ap (λ (o : Option Command). served_line (said o)) c.in-Ok-Some.field-0-is)
-    c.args.store.now c.act.new.store (g.T.Stage.staged c.args.stage.now) (g.T.Stage.staged c.act.new.stage) (g.H.Host.state c.args.host.now) (g.H.Host.state c.act.new.host) c.act.result c.act.ensures.other
-    (IsErrOf c.act.result ending.Host) c.act.ensures.fetched)
+    (subst (λ (l : Line). IsFetchedBy c.args.user.now l c.args.store.now.held c.act.new.store.held (IsErrOf c.act.result ending.Host) (g.H.Host.state c.args.host.now) (g.H.Host.state c.act.new.host))
+    (sym (c.in-Ok-Some.ensures.ok ∙ ap said c.in-Ok-Some.field-0-is)) c.act.ensures.serves.fetched)
 
 pub returns-in_err-refusal-in-Err-clause-fetched : goal.returns-in_err-refusal-in-Err-clause-fetched
 returns-in_err-refusal-in-Err-clause-fetched g c = unread_line c.args.user.now (line_asked c.args.user.now c.args.line.now) c.args.store.now.held _ (g.H.Host.state c.args.host.now)
@@ -135,9 +135,8 @@ returns-in_ok-reply-in-Ok-Some-clause-fetched g c =
     let result : c.act.result ≡ Ok c.in_ok-reply-in-Ok-Some.reply = search rules
     in printed_line c.args.user.now (line_asked c.args.user.now c.args.line.now) c.args.store.now.held c.act.new.store.held (IsErrOf c.act.result ending.Host) _
     (g.H.Host.state c.args.host.now) (g.H.Host.state c.act.new.host) (g.H.Host.state c.say.new.host) (λ is. absurd (ok_no_host c.act.result c.in_ok-reply-in-Ok-Some.reply result is)) c.say.ensures.fetched
-    (fetched_shaped c.args.user.now c.in-Ok-Some.command (line_asked c.args.user.now c.args.line.now) (c.in-Ok-Some.ensures.ok ∙ ap (λ (o : Option Command). served_line (said o)) c.in-Ok-Some.field-0-is)
-    c.args.store.now c.act.new.store (g.T.Stage.staged c.args.stage.now) (g.T.Stage.staged c.act.new.stage) (g.H.Host.state c.args.host.now) (g.H.Host.state c.act.new.host) c.act.result c.act.ensures.other
-    (IsErrOf c.act.result ending.Host) c.act.ensures.fetched)
+    (subst (λ (l : Line). IsFetchedBy c.args.user.now l c.args.store.now.held c.act.new.store.held (IsErrOf c.act.result ending.Host) (g.H.Host.state c.args.host.now) (g.H.Host.state c.act.new.host))
+    (sym (c.in-Ok-Some.ensures.ok ∙ ap said c.in-Ok-Some.field-0-is)) c.act.ensures.serves.fetched)
 
 pub returns-in_ok-refusal-in-Err-clause-fetched : goal.returns-in_ok-refusal-in-Err-clause-fetched
 returns-in_ok-refusal-in-Err-clause-fetched g c =
@@ -145,14 +144,13 @@ returns-in_ok-refusal-in-Err-clause-fetched g c =
     (unread_line c.args.user.now (line_asked c.args.user.now c.args.line.now) c.args.store.now.held ⊥ (g.H.Host.state c.args.host.now))
 
 pub returns-in_err-reply-in-Ok-Some-clause-unread : goal.returns-in_err-reply-in-Ok-Some-clause-unread
-returns-in_err-reply-in-Ok-Some-clause-unread g c =
-    unread_shaped c.args.user.now c.in-Ok-Some.command (line_asked c.args.user.now c.args.line.now) (c.in-Ok-Some.ensures.ok ∙ ap (λ (o : Option Command). served_line (said o)) c.in-Ok-Some.field-0-is)
-    c.args.store.now c.act.new.store (g.T.Stage.staged c.args.stage.now) (g.T.Stage.staged c.act.new.stage) (g.H.Host.state c.args.host.now) (g.H.Host.state c.act.new.host) c.act.result c.act.ensures.other c.act.ensures.unread
+returns-in_err-reply-in-Ok-Some-clause-unread g c = λ off.
+    c.act.ensures.serves.unread (sym (ap (is_off c.args.store.now.held.numbers c.args.user.now) (c.in-Ok-Some.ensures.ok ∙ ap said c.in-Ok-Some.field-0-is)) ∙ off)
 
 pub returns-in_ok-reply-in-Ok-Some-clause-unread : goal.returns-in_ok-reply-in-Ok-Some-clause-unread
-returns-in_ok-reply-in-Ok-Some-clause-unread g c = λ is.
-    c.say.ensures.fetched ∙ unread_shaped c.args.user.now c.in-Ok-Some.command (line_asked c.args.user.now c.args.line.now) (c.in-Ok-Some.ensures.ok ∙ ap (λ (o : Option Command). served_line (said o)) c.in-Ok-Some.field-0-is)
-    c.args.store.now c.act.new.store (g.T.Stage.staged c.args.stage.now) (g.T.Stage.staged c.act.new.stage) (g.H.Host.state c.args.host.now) (g.H.Host.state c.act.new.host) c.act.result c.act.ensures.other c.act.ensures.unread is
+returns-in_ok-reply-in-Ok-Some-clause-unread g c = λ off.
+    c.say.ensures.fetched
+    ∙ c.act.ensures.serves.unread (sym (ap (is_off c.args.store.now.held.numbers c.args.user.now) (c.in-Ok-Some.ensures.ok ∙ ap said c.in-Ok-Some.field-0-is)) ∙ off)
 
 pub returns-in_ok-refusal-in-Err-clause-unread : goal.returns-in_ok-refusal-in-Err-clause-unread
 returns-in_ok-refusal-in-Err-clause-unread g c = λ is. c.say-in-Err.ensures.fetched
@@ -161,12 +159,13 @@ returns-in_ok-refusal-in-Err-clause-unread g c = λ is. c.say-in-Err.ensures.fet
 
 pub returns-in_err-reply-in-Ok-Some-clause-idle : goal.returns-in_err-reply-in-Ok-Some-clause-idle
 returns-in_err-reply-in-Ok-Some-clause-idle g c =
-    let fact : IsIdleOn (line_asked c.args.user.now c.args.line.now) c.in_err-reply-in-Ok-Some.field-0.0 c.args.store.now c.act.new.store (g.T.Stage.staged c.args.stage.now) (g.T.Stage.staged c.act.new.stage) (g.H.Host.state c.args.host.now) (g.H.Host.state c.act.new.host)
-    = idle_shaped c.args.user.now c.in-Ok-Some.command (line_asked c.args.user.now c.args.line.now) (c.in-Ok-Some.ensures.ok ∙ ap (λ (o : Option Command). served_line (said o)) c.in-Ok-Some.field-0-is)
-    c.args.store.now c.act.new.store (g.T.Stage.staged c.args.stage.now) (g.T.Stage.staged c.act.new.stage) (g.H.Host.state c.args.host.now) (g.H.Host.state c.act.new.host) c.in_err-reply-in-Ok-Some.field-0.0 c.in_err-reply-in-Ok-Some.ensures.other
-    c.in_err-reply-in-Ok-Some.ensures.idle
+    let IsIdle : Line → EndErr → Type 0
+    = λ l e. IsIdleOn l e c.args.store.now c.act.new.store (g.T.Stage.staged c.args.stage.now) (g.T.Stage.staged c.act.new.stage) (g.H.Host.state c.args.host.now) (g.H.Host.state c.act.new.host)
+    in let fact : IsIdle (line_asked c.args.user.now c.args.line.now) c.in_err-reply-in-Ok-Some.field-0.0
+    = subst (λ (l : Line). IsIdle l c.in_err-reply-in-Ok-Some.field-0.0) (sym (c.in-Ok-Some.ensures.ok ∙ ap said c.in-Ok-Some.field-0-is))
+    c.in_err-reply-in-Ok-Some.ensures.serves.idle
     in let is : c.from_residual.result ≡ Err c.in_err-reply-in-Ok-Some.field-0.0 = search rules
-    in subst (λ (r : Result Served EndErr). IfErr r (λ e. IsIdleOn (line_asked c.args.user.now c.args.line.now) e c.args.store.now c.act.new.store (g.T.Stage.staged c.args.stage.now) (g.T.Stage.staged c.act.new.stage) (g.H.Host.state c.args.host.now) (g.H.Host.state c.act.new.host))) (sym is) fact
+    in subst (λ (r : Result Served EndErr). IfErr r (IsIdle (line_asked c.args.user.now c.args.line.now))) (sym is) fact
 
 pub returns-in_err-refusal-in-Err-clause-idle : goal.returns-in_err-refusal-in-Err-clause-idle
 returns-in_err-refusal-in-Err-clause-idle g c =
@@ -189,7 +188,7 @@ pub returns-in_ok-reply-in-Ok-Some-clause-at : goal.returns-in_ok-reply-in-Ok-So
 returns-in_ok-reply-in-Ok-Some-clause-at g c = λ w at.
     at_said c.act.new.store.held (g.H.Host.state c.act.new.host) (g.H.Host.state c.say.new.host) c.in_ok-reply-in-Ok-Some.reply c.say.result
     (record { answer = c.say.ensures.served; why = c.say.ensures.host_alone; silent = c.say.ensures.unsaid; printed = c.say.ensures.said })
-    (c.in_ok-reply-in-Ok-Some.ensures.at w at).at
+    (c.in_ok-reply-in-Ok-Some.ensures.serves.at w at).at
 
 pub returns-in_ok-refusal-in-Err-clause-at : goal.returns-in_ok-refusal-in-Err-clause-at
 returns-in_ok-refusal-in-Err-clause-at g c = λ w at.
@@ -204,9 +203,8 @@ returns-in-Ok-None-clause-replied g c = refl
 pub returns-in_ok-reply-in-Ok-Some-clause-replied : goal.returns-in_ok-reply-in-Ok-Some-clause-replied
 returns-in_ok-reply-in-Ok-Some-clause-replied g c =
     is_replied (line_asked c.args.user.now c.args.line.now) c.in_ok-reply-in-Ok-Some.reply c.args.store.now.held (g.T.Stage.staged c.args.stage.now) (g.T.Stage.staged c.act.new.stage) (g.H.Host.state c.args.host.now) (g.H.Host.state c.act.new.host) (g.H.Host.state c.say.new.host)
-    (reply_shaped c.args.user.now c.in-Ok-Some.command (line_asked c.args.user.now c.args.line.now) (c.in-Ok-Some.ensures.ok ∙ ap (λ (o : Option Command). served_line (said o)) c.in-Ok-Some.field-0-is)
-    c.args.store.now c.act.new.store (g.T.Stage.staged c.args.stage.now) (g.T.Stage.staged c.act.new.stage) (g.H.Host.state c.args.host.now) (g.H.Host.state c.act.new.host) c.in_ok-reply-in-Ok-Some.reply c.in_ok-reply-in-Ok-Some.ensures.other) c.act.ensures.goes.told
-    (λ some. (c.in_ok-reply-in-Ok-Some.ensures.at some.0 some.1).printed) c.in_ok-reply-in-Ok-Some.ensures.missed c.say.result
+    (subst (λ (l : Line). IsReplyTo l c.in_ok-reply-in-Ok-Some.reply) (sym (c.in-Ok-Some.ensures.ok ∙ ap said c.in-Ok-Some.field-0-is)) tt) c.act.ensures.serves.goes.told
+    (λ some. (c.in_ok-reply-in-Ok-Some.ensures.serves.at some.0 some.1).printed) c.in_ok-reply-in-Ok-Some.ensures.serves.missed c.say.result
     (record { answer = c.say.ensures.served; why = c.say.ensures.host_alone; silent = c.say.ensures.unsaid; printed = c.say.ensures.said })
 
 pub returns-in_ok-refusal-in-Err-clause-replied : goal.returns-in_ok-refusal-in-Err-clause-replied
@@ -221,7 +219,7 @@ returns-in_ok-refusal-in-Err-clause-replied g c =
 pub returns-in_err-reply-in-Ok-Some-clause-by_journal : goal.returns-in_err-reply-in-Ok-Some-clause-by_journal
 returns-in_err-reply-in-Ok-Some-clause-by_journal g c = λ by fine.
     let is : c.from_residual.result ≡ Err c.in_err-reply-in-Ok-Some.field-0.0 = search rules
-    in c.in_err-reply-in-Ok-Some.ensures.by_journal by
+    in c.in_err-reply-in-Ok-Some.ensures.serves.by_journal by
     (λ e. let host : c.in_err-reply-in-Ok-Some.field-0.0 ≡ ending.Host = cc in fine (is ∙ ap Err host))
 
 pub returns-in_err-refusal-in-Err-clause-by_journal : goal.returns-in_err-refusal-in-Err-clause-by_journal
@@ -234,7 +232,7 @@ pub returns-in_ok-reply-in-Ok-Some-clause-by_journal : goal.returns-in_ok-reply-
 returns-in_ok-reply-in-Ok-Some-clause-by_journal g c = λ by fine.
     journal_said c.act.new.store.held (g.H.Host.state c.act.new.host) (g.H.Host.state c.say.new.host) c.in_ok-reply-in-Ok-Some.reply c.say.result
     (record { answer = c.say.ensures.served; why = c.say.ensures.host_alone; silent = c.say.ensures.unsaid; printed = c.say.ensures.said }) fine
-    (c.in_ok-reply-in-Ok-Some.ensures.by_journal by (λ e. cc))
+    (c.in_ok-reply-in-Ok-Some.ensures.serves.by_journal by (λ e. cc))
 
 pub returns-in_ok-refusal-in-Err-clause-by_journal : goal.returns-in_ok-refusal-in-Err-clause-by_journal
 returns-in_ok-refusal-in-Err-clause-by_journal g c = λ by fine.
@@ -244,13 +242,14 @@ returns-in_ok-refusal-in-Err-clause-by_journal g c = λ by fine.
 -- ---- an answer met no damage
 
 pub returns-in-Ok-None-clause-whole : goal.returns-in-Ok-None-clause-whole
-returns-in-Ok-None-clause-whole g c = λ command page asked told. absurd (comment_asks command (sym (c.in-Ok-None.ensures.ok ∙ ap (λ (o : Option Command). served_line (said o)) c.in-Ok-None.field-0-is) ∙ asked))
+returns-in-Ok-None-clause-whole g c = λ command page asked told. absurd (comment_asks command (sym (c.in-Ok-None.ensures.ok ∙ ap said c.in-Ok-None.field-0-is) ∙ asked))
 
 pub returns-in_ok-reply-in-Ok-Some-clause-whole : goal.returns-in_ok-reply-in-Ok-Some-clause-whole
 returns-in_ok-reply-in-Ok-Some-clause-whole g c = λ command page asked told.
-    whole_shaped c.args.user.now c.in-Ok-Some.command (line_asked c.args.user.now c.args.line.now) (c.in-Ok-Some.ensures.ok ∙ ap (λ (o : Option Command). served_line (said o)) c.in-Ok-Some.field-0-is)
-    c.args.store.now c.act.new.store (g.T.Stage.staged c.args.stage.now) (g.T.Stage.staged c.act.new.stage) (g.H.Host.state c.args.host.now) (g.H.Host.state c.act.new.host) c.in_ok-reply-in-Ok-Some.reply c.in_ok-reply-in-Ok-Some.ensures.other command page c.say.result asked
-    (c.in_ok-reply-in-Ok-Some.ensures.whole page told)
+    on_any _ c.say.result
+    (subst (λ (x : Command). MeetsDamage c.args.user.now x (g.T.Stage.staged c.args.stage.now) c.args.store.now.held (g.H.Host.state c.args.host.now) page → ⊥)
+    (same_command c.in-Ok-Some.command command (sym (c.in-Ok-Some.ensures.ok ∙ ap said c.in-Ok-Some.field-0-is) ∙ asked))
+    (c.in_ok-reply-in-Ok-Some.ensures.serves.whole page told))
 
 pub returns-in_ok-refusal-in-Err-clause-whole : goal.returns-in_ok-refusal-in-Err-clause-whole
 returns-in_ok-refusal-in-Err-clause-whole g c = λ command page asked told. absurd (refused_asks c.in_ok-refusal-in-Err.field-0 command (sym (c.in-Err.ensures.err c.in_ok-refusal-in-Err.ensures.some ∙ ap Refused (sym c.in_ok-refusal-in-Err.ensures.refusal)) ∙ asked))
@@ -258,23 +257,20 @@ returns-in_ok-refusal-in-Err-clause-whole g c = λ command page asked told. absu
 -- ---- what changes no store
 
 pub returns-in_err-reply-in-Ok-Some-clause-still : goal.returns-in_err-reply-in-Ok-Some-clause-still
-returns-in_err-reply-in-Ok-Some-clause-still g c =
-    still_shaped c.args.user.now c.in-Ok-Some.command (line_asked c.args.user.now c.args.line.now) (c.in-Ok-Some.ensures.ok ∙ ap (λ (o : Option Command). served_line (said o)) c.in-Ok-Some.field-0-is)
-    c.args.store.now c.act.new.store (g.T.Stage.staged c.args.stage.now) (g.T.Stage.staged c.act.new.stage) (g.H.Host.state c.args.host.now) (g.H.Host.state c.act.new.host) c.act.result c.act.ensures.other c.act.ensures.still
+returns-in_err-reply-in-Ok-Some-clause-still g c = λ reads.
+    c.act.ensures.serves.still (subst IsReading (c.in-Ok-Some.ensures.ok ∙ ap said c.in-Ok-Some.field-0-is) reads)
 
 pub returns-in_ok-reply-in-Ok-Some-clause-still : goal.returns-in_ok-reply-in-Ok-Some-clause-still
-returns-in_ok-reply-in-Ok-Some-clause-still g c =
-    still_shaped c.args.user.now c.in-Ok-Some.command (line_asked c.args.user.now c.args.line.now) (c.in-Ok-Some.ensures.ok ∙ ap (λ (o : Option Command). served_line (said o)) c.in-Ok-Some.field-0-is)
-    c.args.store.now c.act.new.store (g.T.Stage.staged c.args.stage.now) (g.T.Stage.staged c.act.new.stage) (g.H.Host.state c.args.host.now) (g.H.Host.state c.act.new.host) c.act.result c.act.ensures.other c.act.ensures.still
+returns-in_ok-reply-in-Ok-Some-clause-still g c = λ reads.
+    c.act.ensures.serves.still (subst IsReading (c.in-Ok-Some.ensures.ok ∙ ap said c.in-Ok-Some.field-0-is) reads)
 
 -- ---- no plan
 
 pub returns-in_ok-reply-in-Ok-Some-clause-begins_none : goal.returns-in_ok-reply-in-Ok-Some-clause-begins_none
 returns-in_ok-reply-in-Ok-Some-clause-begins_none g c = λ quiet none.
     on_any _ c.say.result
-    (none_shaped c.args.user.now c.in-Ok-Some.command (line_asked c.args.user.now c.args.line.now) (c.in-Ok-Some.ensures.ok ∙ ap (λ (o : Option Command). served_line (said o)) c.in-Ok-Some.field-0-is)
-    c.args.store.now c.act.new.store (g.T.Stage.staged c.args.stage.now) (g.T.Stage.staged c.act.new.stage) (g.H.Host.state c.args.host.now) (g.H.Host.state c.act.new.host) c.in_ok-reply-in-Ok-Some.reply c.in_ok-reply-in-Ok-Some.ensures.other
-    c.in_ok-reply-in-Ok-Some.ensures.begins_none quiet none)
+    (c.in_ok-reply-in-Ok-Some.ensures.serves.begins_none
+    (sym (ap (line_begins c.args.store.now.held.numbers) (c.in-Ok-Some.ensures.ok ∙ ap said c.in-Ok-Some.field-0-is)) ∙ quiet) none)
 
 -- ---- who acts behind it
 
@@ -295,7 +291,7 @@ pub returns-in_ok-reply-in-Ok-Some-clause-user : goal.returns-in_ok-reply-in-Ok-
 returns-in_ok-reply-in-Ok-Some-clause-user g c =
     let l = line_asked c.args.user.now c.args.line.now
     in said_user l c.in-Ok-Some.command c.args.user.now c.act.new.user
-    (user_shaped c.args.user.now c.in-Ok-Some.command l (c.in-Ok-Some.ensures.ok ∙ ap (λ (o : Option Command). served_line (said o)) c.in-Ok-Some.field-0-is))
+    (λ what. ap (λ (x : Line). user_after x what c.args.user.now) (c.in-Ok-Some.ensures.ok ∙ ap said c.in-Ok-Some.field-0-is))
     c.in_ok-reply-in-Ok-Some.reply c.in_ok-reply-in-Ok-Some.ensures.user c.say.result c.say.ensures.served
 
 pub returns-in_ok-refusal-in-Err-clause-user : goal.returns-in_ok-refusal-in-Err-clause-user

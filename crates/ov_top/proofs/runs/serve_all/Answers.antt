@@ -1,6 +1,6 @@
 use Rattle.std.proofs.Common.{◌≡◌, ◌∙◌, Bool, ℕ, List, [], true, false, refl, sym, ap, subst, arith}
 use Rattle.std.specs.Prelude.{Err, IfErr, IsTrue, Ok, Result}
-use Rattle.law_forms.specs.BuiltShapes.{served_forms}
+use Rattle.ov_model.specs.Forms.{all_forms}
 use Rattle.ov_host.specs.Host.{Rose}
 use Rattle.law_runs.specs.Serving.{Serves, session_of}
 use Rattle.ov_model.specs.Line.{Line}
@@ -102,7 +102,7 @@ returns-in_err-served-clause-served g c = λ w script stage at.
     in let e = c.in_err-served.field-0.0
     in let gone = c.lines.invariant.so_far w script stage at
     in let given = given_true _ _ _ _ _ c.if-branch.true (c.in_ok-next_line.ensures.given (c.lines.invariant.told ∙ script) (c.lines.invariant.at_end script))
-    in let serves : Serves served_forms c.args.steps gone.so.world t u given.0 false false c.lines.store.held c.serve.new.store.held (g.H.Host.state c.lines.host) (g.H.Host.state c.serve.new.host)
+    in let serves : Serves all_forms c.args.steps gone.so.world t u given.0 false false c.lines.store.held c.serve.new.store.held (g.H.Host.state c.lines.host) (g.H.Host.state c.serve.new.host)
     = serves_as c.args.steps gone.so.world t u
     c.as_slice.result.now c.next_line.new.line.items given.0 false false c.lines.store.held c.serve.new.store.held (g.H.Host.state c.lines.host) (g.H.Host.state c.serve.new.host)
     c.as_slice.ensures.value given.2
@@ -160,7 +160,7 @@ lines-preserved g c =
           in let later = left_of c.next_line.new.self (g.S.Source.script c.next_line.new.source)
           in let gone = inv.so_far w script stage at
           in let given = given_true _ _ _ _ _ c.if-branch.true (c.in_ok-next_line.ensures.given (inv.told ∙ script) (inv.at_end script))
-          in let serves : Serves served_forms c.args.steps gone.so.world t u given.0 true (is_refusal_of c.in_ok-served.served) c.lines.store.held c.serve.new.store.held (g.H.Host.state c.lines.host) (g.H.Host.state c.serve.new.host)
+          in let serves : Serves all_forms c.args.steps gone.so.world t u given.0 true (is_refusal_of c.in_ok-served.served) c.lines.store.held c.serve.new.store.held (g.H.Host.state c.lines.host) (g.H.Host.state c.serve.new.host)
           = serves_as c.args.steps gone.so.world t u
           c.as_slice.result.now c.next_line.new.line.items given.0 true (is_refusal_of c.in_ok-served.served) c.lines.store.held c.serve.new.store.held
           (g.H.Host.state c.lines.host) (g.H.Host.state c.serve.new.host) c.as_slice.ensures.value given.2

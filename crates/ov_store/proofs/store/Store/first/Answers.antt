@@ -48,7 +48,7 @@ returns-clause-brings c = λ w s at.
           (subst (λ (n : List ℕ). new_off c.args.self.now.held.numbers n ≡ None) c.as_str.ensures.text c.in_ok-may_begin.ensures.answer) c.args.schema.now (in_key_order c.args.schema.now c.args.rows)
           c.in_ok-may_begin.ensures.numbers c.requires.name c.requires.sound (subst (AreRows c.args.schema.now) c.in_ok-rows.ensures.rows
           (rows_sorted c.args.schema.now c.args.rows c.in_ok-rows.rows c.in_ok-rows.ensures.kept c.in_ok-rows.ensures.rise c.in_ok-rows.ensures.few c.requires.fit c.requires.short))
-          (plain_rows w c.args.self.now.held.journal.format c.args.schema.now c.args.rows at.stands.format none);
+          (plain_rows w c.args.self.now.held.journal.format c.args.schema.now false c.args.rows at.stands.format none);
       says = subst (λ (rows : List Row). Some (content (event_in b.event) b.list.items b.segment.items) ≡ asked_event (Init c.args.name.now c.args.schema.now rows) w)
           c.in_ok-rows.ensures.rows (c.in_ok-first_version.ensures.says w);
     }
