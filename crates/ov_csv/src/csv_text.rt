@@ -1,6 +1,6 @@
 //! The text of rows.
 
-ghost use Rattle.std.specs.Prelude.{◌≡◌, [], Some, None, IfOk, OnOk, OnErr};
+ghost use Rattle.std.specs.Prelude.{◌≡◌, [], Some, None, IfOk, OnOk, OnErr, is_some, true};
 ghost use Rattle.csv.specs.Writing.{default_writer, row_text};
 ghost use Rattle.ov_value.specs.Shapes.{names};
 ghost use Rattle.ov_model.specs.Answers.{cell_fields};
@@ -44,6 +44,16 @@ impl CsvText {
         }
     }
 
+    /// The same, with memory for so many bytes.
+    pub fn with_room(alloc: Global, bytes: usize) -> Result<CsvText, AllocError>
+        ensures { IfOk result (λ text. text ≡ Some []) }
+    {
+        Ok(CsvText {
+            text: Vec::with_capacity(alloc, bytes)?,
+            failed: false,
+        })
+    }
+
     /// Adds the line of the columns' names.
     pub fn header(&mut self, columns: &[Column]) -> Result<(), AllocError>
         ensures ok { OnOk result (Grows self.old (row_text default_writer (names columns.now)) self.new) }
@@ -84,6 +94,22 @@ impl CsvText {
         push_answer(&mut self.text, kinds, cells)?;
         self.failed = false;
         Ok(())
+    }
+
+    /// The bytes so far.
+    pub fn bytes(&self) -> &[u8]
+        requires { is_some self.now ≡ true }
+        ensures { self.now ≡ Some result.now }
+    {
+        &self.text
+    }
+
+    /// Begins anew, in the memory that it has.
+    pub fn clear(&mut self)
+        requires { is_some self.old ≡ true }
+        ensures { self.new ≡ Some [] }
+    {
+        self.text.clear();
     }
 
     /// The bytes of the text.
