@@ -29,4 +29,4 @@ pub use answering::write_answer;
 pub use csv_err::CsvErr;
 pub use csv_text::{CsvText, write_rows};
 pub use reading::read_csv;
-pub use scans::write_csv;
+pub use scans::{cells_at, write_csv};

@@ -31,7 +31,8 @@ pub fn write_csv(
     text.finish()
 }
 
-fn cells_at(records: &RecordTable, place: usize) -> Cells<'_>
+/// The values of the record at a position.
+pub fn cells_at(records: &RecordTable, place: usize) -> Cells<'_>
     requires { place < length records.now }
     ensures { result ≡ row_at records.now place }
 {

@@ -1,14 +1,12 @@
-//! Named files of the stage: the rows of one, and bytes put into one.
+//! Named files of the stage, and the rows of one.
 //!
 //! `rows_of_file` reads a file piece by piece, up to the size that a file may have and one byte more, and hands it to
 //! `ov_csv`. What is wrong with a file is a refusal; an error is the stage's, or want of memory.
 #![tactic(auto)]
 
 mod errors;
-mod putting;
 mod reading;
 mod rows;
 
 pub use errors::FileErr;
-pub use putting::put_file;
 pub use rows::{FileRows, rows_of_file};

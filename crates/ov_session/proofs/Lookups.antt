@@ -12,7 +12,7 @@ use Rattle.ov_host.specs.Host.{State}
 use Rattle.ov_host.specs.Stage.{Files as Map}
 use Rattle.ov_host.specs.declared.area.Extent.{Extent}
 use Rattle.ov_catalog.specs.Numbers.{SetNumbers}
-use Rattle.ov_checkout.specs.declared.text.Checkout.{Checkout}
+use Rattle.ov_checkout.specs.Given.{Given}
 use Rattle.ov_core.specs.AtWorld.{IsAtWorld}
 use Rattle.ov_core.specs.Held.{Held}
 use Rattle.law_runs.specs.Serving.{Breaks, Does, files_of, session_of}
@@ -52,8 +52,8 @@ pub schema_is : (w : World) (held : Held) (s : State) → IsAtWorld w held s →
 schema_is w held s at name d is set found = (counts w held s at name d is set found).schema
 
 -- the text of the World's rows under its schema is that of the merge
-pub is_merge_of : (d : Dataset) (vids : List ℕ) (made : Checkout) (schema : Shape) (rows : List (List Row)) → schema ≡ d.cvd.schema → rows ≡ rows_listed d.cvd.versions vids
-    → made.text.items ≡ text_of schema (merged schema rows) → made.rows ≡ length (merged schema rows) → IsMergeOf d vids made
+pub is_merge_of : (d : Dataset) (vids : List ℕ) (made : Given) (schema : Shape) (rows : List (List Row)) → schema ≡ d.cvd.schema → rows ≡ rows_listed d.cvd.versions vids
+    → made.text ≡ text_of schema (merged schema rows) → made.rows ≡ length (merged schema rows) → IsMergeOf d vids made
 is_merge_of d vids made schema rows same listed text count = record {
   text = text ∙ (λ i. text_of (same i) (merged (same i) (listed i)));
   rows = count ∙ (λ i. length (merged (same i) (listed i)));
@@ -71,15 +71,15 @@ pub files_put : (files : Map) (name bytes : List ℕ) → files_of (insert files
 files_put files name bytes =
     fun_ext (λ other. get-insert nat_list_cmp_total files name bytes other ∙ ap (λ (b : Bool). cond b (Some bytes) (get files other)) (is_eq-slice_cmp other name))
 
-module _ (d : Dataset) (vids : List ℕ) (made : Checkout) (is : IsMergeOf d vids made) (user : List ℕ) where
-  pub gives_file : (files now : Map) (cvd file : List ℕ) (rows : ℕ) → d.cvd.name ≡ cvd → made.rows ≡ rows → now ≡ insert files file made.text.items
+module _ (d : Dataset) (vids : List ℕ) (made : Given) (is : IsMergeOf d vids made) (user : List ℕ) where
+  pub gives_file : (files now : Map) (cvd file : List ℕ) (rows : ℕ) → d.cvd.name ≡ cvd → made.rows ≡ rows → now ≡ insert files file made.text
       → gives (session_of files user) d.cvd (merge_of d.cvd vids) (Some file) ≡ tells (session_of now user) (says.ToFile cvd rows file)
   gives_file files now cvd file rows name count grown = λ i. tells (record { files = same i; user = user }) (says.ToFile (name i) (many i) file)
     where
       same : put (files_of files) file (text_of d.cvd.schema (merge_of d.cvd vids)) ≡ files_of now
       same =
           ap (λ bytes. put (files_of files) file bytes) (sym is.text)
-          ∙ sym (files_put files file made.text.items)
+          ∙ sym (files_put files file made.text)
           ∙ ap files_of (sym grown)
 
       many : length (merge_of d.cvd vids) ≡ rows

@@ -16,7 +16,7 @@ use Rattle.ov_host.specs.Stage.{Files, Staged}
 use Rattle.ov_core.specs.Held.{Held}
 use Rattle.law_runs.specs.Serving.{Breaks, Does}
 use Rattle.ov_catalog.specs.Reached.{IfThere}
-use Rattle.ov_checkout.specs.declared.text.Checkout.{Checkout}
+use Rattle.ov_checkout.specs.Given.{Given}
 use Rattle.ov_fetch.specs.Extents.{page_bytes}
 use Rattle.ov_model.specs.Act.{Deed, Session, commit_deed, commit_refusal, commit_rows, does, merge_of, refuses, with_rows}
 use Rattle.ov_model.specs.Csv.{text_of}
@@ -239,8 +239,8 @@ IsAskedOf w s cvd vids message added file (asked.Said reply) =
 -- ---- a checkout
 
 -- the text is that of the merge of these versions
-pub record IsMergeOf (d : Dataset) (vids : List ℕ) (made : Checkout) : Type 0 where
-  pub text : made.text.items ≡ text_of d.cvd.schema (merge_of d.cvd vids)
+pub record IsMergeOf (d : Dataset) (vids : List ℕ) (made : Given) : Type 0 where
+  pub text : made.text ≡ text_of d.cvd.schema (merge_of d.cvd vids)
   pub rows : made.rows ≡ length (merge_of d.cvd vids)
 
 -- ---- a reply

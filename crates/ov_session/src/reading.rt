@@ -20,7 +20,6 @@ ghost use Rattle.ov_session.specs.Commands.{Acts, Attended, IfNoFile, IsDamageOf
 
 use crate::errors::{EndErr, end, refused};
 use ov_checkout::{Checkout, checkout_of};
-use ov_files::put_file;
 use ov_host::{Host, Stage};
 use ov_listing::{cvd_lines, layout_of, log_lines};
 use ov_model::{Refusal, Reply, Seq};
@@ -29,7 +28,7 @@ use ov_store::{Store, StoreErr};
 use ov_value::Txt;
 use std::alloc::Global;
 
-/// The merge of these versions of a dataset, as a file's text.
+/// The merge of these versions of a dataset.
 pub(crate) fn merged<H: Host>(
     alloc: Global,
     store: &Store,
@@ -52,11 +51,12 @@ pub(crate) fn merged<H: Host>(
         return Err(StoreErr::NoCvd);
     };
     let scan = store.scan(host, cvd, vids)?;
-    Ok(checkout_of(alloc, &d.schema, &scan)?)
+    Ok(checkout_of(alloc, &d.schema, scan)?)
 }
 
 /// Prints a checkout, or puts it into a file.
 pub(crate) fn give<T: Stage>(
+    alloc: Global,
     stage: &mut T,
     cvd: Txt,
     made: Checkout,
@@ -70,19 +70,17 @@ pub(crate) fn give<T: Stage>(
         → IfOk result (λ reply. gives (session_of (T.staged stage.old).files user) d.cvd (merge_of d.cvd vids) file
         ≡ tells (session_of (T.staged stage.new).files user) reply) }
 {
-    let Checkout { text, rows } = made;
     let Some(file) = file else {
+        let text = made.text(alloc)?;
         return Ok(Reply::Csv {
             text: Seq::from_vec(text),
         });
     };
-    // The text of as many rows is longer than memory is.
-    let Ok(rows) = u32::try_from(rows) else {
+    // As many rows are more than memory has.
+    let Ok(rows) = u32::try_from(made.rows()) else {
         return Err(EndErr::Memory);
     };
-    if put_file(stage, &file, text.as_slice()).is_err() {
-        return Err(EndErr::Stage);
-    }
+    made.put(alloc, stage, &file)?;
     Ok(Reply::ToFile { cvd, rows, file })
 }
 
@@ -115,7 +113,7 @@ pub fn checkout<H: Host, T: Stage>(
         store.now.held store.now.held (H.state host.old) (H.state host.new) }
 {
     match merged(alloc, store, host, cvd.as_str(), vids) {
-        Ok(made) => give(stage, cvd, made, file),
+        Ok(made) => give(alloc, stage, cvd, made, file),
         Err(off) => refused(off, cvd),
     }
 }

@@ -67,7 +67,7 @@ fn keep_table<H: Host, T: Stage>(
 {
     let name = Txt::new(alloc, "orpheus_stage")?;
     match change(alloc, store, host, Registry::Stage, rows) {
-        Ok(()) => give(stage, cvd, made, Some(file)),
+        Ok(()) => give(alloc, stage, cvd, made, Some(file)),
         Err(off) => refused(off, name),
     }
 }

@@ -3,10 +3,8 @@ use crate::courses::{
     BEHIND, Course, Fails, MADE, PEOPLE, STAGED, State, USERS, WIDE, Way, allows, left_by,
     run_first, states_of,
 };
-use crate::ends::{self, NEVER, host_of, run_on, stage_of};
-use ov_files::put_file;
+use crate::ends::{NEVER, host_of, run_on};
 use ov_top::Status;
-use ov_value::Txt;
 use std::alloc::{AllocError, Global};
 use std::test::Fail;
 
@@ -112,29 +110,6 @@ fn lines_before_a_fault_of_the_source_are_served(rt: HostRuntime) -> Result<(), 
         let ended = run_on(alloc, &mut host, false, script.as_bytes(), call, NEVER)?;
         assert!(rt; ended == status);
         assert!(rt; host.printed() == printed.as_bytes());
-    }
-    Ok(())
-}
-
-// Bytes that are put, and the call that fails: a file is created, written and finished.
-const PUTS: [(&[u8], u64); 5] = [
-    (b"x\n1\n", 0),
-    (b"x\n1\n", 1),
-    (b"x\n1\n", 2),
-    (b"x\n1\n", 3),
-    (b"", 3),
-];
-
-#[test]
-fn a_file_is_put_beside_others_or_the_call_fails(rt: HostRuntime) -> Result<(), Fail> {
-    let alloc = rt.alloc();
-    let name = Txt::new(alloc, "out.csv")?;
-    for (bytes, call) in PUTS {
-        let mut stage = stage_of(alloc, call)?;
-        let done = put_file(&mut stage, &name, bytes).is_ok();
-        assert!(rt; done == (call == 3));
-        assert!(rt; !done || stage.file("out.csv") == Some(bytes));
-        assert!(rt; stage.file("a.csv") == Some(ends::PEOPLE));
     }
     Ok(())
 }

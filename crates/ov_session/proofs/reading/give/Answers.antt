@@ -8,13 +8,12 @@ use Rattle.ov_session.proofs.reading.give.Goals as goal
 
 pub returns-clause-given : goal.returns-clause-given
 returns-clause-given g c = λ w user d vids told is name.
-    let well : is_err c.put_file.result ≡ false = sym c.is_err.ensures.value ∙ c.if-is_err.false
-    in let put = was_put c.put_file.result well (c.put_file.ensures.put told)
-    in let grown : (g.T.Stage.staged c.put_file.new.stage).files ≡ insert (g.T.Stage.staged c.args.stage.now).files c.in-Some.file c.args.made.text.items
+    let put = c.put.ensures.put told
+    in let grown : (g.T.Stage.staged c.put.new.stage).files ≡ insert (g.T.Stage.staged c.args.stage.now).files c.in-Some.file c.args.made.text
     = search (rules, put)
     in let rows : c.args.made.rows ≡ c.in-Ok.rows = search rules
     in ap (gives (session_of (g.T.Stage.staged c.args.stage.now).files user) d.cvd (merge_of d.cvd vids)) c.in-Some.is
-    ∙ gives_file d vids c.args.made is user (g.T.Stage.staged c.args.stage.now).files (g.T.Stage.staged c.put_file.new.stage).files c.args.cvd c.in-Some.file c.in-Ok.rows name rows grown
+    ∙ gives_file d vids c.args.made is user (g.T.Stage.staged c.args.stage.now).files (g.T.Stage.staged c.put.new.stage).files c.args.cvd c.in-Some.file c.in-Ok.rows name rows grown
 
 pub returns-in_default-clause-seen : goal.returns-in_default-clause-seen
 returns-in_default-clause-seen g c = λ name is. cc
