@@ -9,6 +9,7 @@ ghost use Rattle.ov_csv.specs.Growing.{Grows};
 
 use crate::answer_line::push_answer;
 use crate::header_line::push_header;
+use crate::room::take_text;
 use crate::row_line::push_row;
 use ov_model::Cell;
 use ov_segment::RowTable;
@@ -67,7 +68,9 @@ impl CsvText {
             return Err(AllocError);
         }
         self.failed = true;
-        push_row(&mut self.text, columns, row)?;
+        let mut text = take_text(&mut self.text);
+        push_row(&mut text, columns, row)?;
+        self.text = text;
         self.failed = false;
         Ok(())
     }
@@ -96,6 +99,7 @@ impl CsvText {
 }
 
 /// The text of the rows: a header of the schema's column names, and a line for each row, in time linear in the text.
+#[inline(never)]
 pub fn write_rows(alloc: Global, schema: &Schema, rows: &RowTable) -> Result<Vec<u8>, AllocError>
     ensures { IfOk result (λ text. text.items ≡ text_of schema.now rows.now) }
 {

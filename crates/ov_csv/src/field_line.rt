@@ -1,9 +1,10 @@
 //! A line of CSV, field by field, as the `csv` crate writes it by default.
 
-ghost use Rattle.std.specs.Prelude.{◌≡◌, ◌==◌, ◌++◌, ◌∷◌, ◌+◌, ◌<◌, ◌≤◌, [], if◌then◌else◌, true, false, not, length, take, IfSome, IfNone, IsTrue, IsFalse, OnOk, vec_len, vec_capacity};
+ghost use Rattle.std.specs.Prelude.{◌≡◌, ◌==◌, ◌++◌, ◌∷◌, ◌+◌, ◌<◌, ◌≤◌, [], if◌then◌else◌, true, false, not, length, take, IfOk, IfSome, IfNone, IsTrue, IsFalse, OnOk, vec_len, vec_capacity};
 ghost use Rattle.std.specs.List.{list_any};
 ghost use Rattle.csv.specs.Writing.{default_writer, field_text, quoted, needs_byte, needs_quotes, next_sep};
 
+use crate::room::{make_room, take_text};
 use std::alloc::AllocError;
 
 /// Adds what stands before the field at this place of a line.
@@ -40,14 +41,14 @@ pub(crate) fn push_field(
 ) -> Result<(), AllocError>
     ensures { OnOk result (text.new.items ≡ text.old.items ++ (next_sep default_writer place ++ field_text default_writer field.now)) }
 {
-    text.reserve(field.len() + 1)?;
+    make_room(text, field.len() + 1)?;
     put_separator(text, place);
     let start = text.len();
     if put_plain(text, field) {
         return Ok(());
     }
-    text.truncate(start);
-    push_quoted(text, field)
+    *text = with_quoted(take_text(text), start, field)?;
+    Ok(())
 }
 
 // Puts the bytes of a field, or some of them where one calls for quotes, and tells whether none does.
@@ -122,17 +123,30 @@ fn put_rest(text: &mut Vec<u8>, field: &[u8]) -> bool
 }
 
 /// Adds what ends a line that begins at this place: a line without a byte gets two quotes, so that it isn't read as none.
+#[inline(always)]
 pub(crate) fn end_line(text: &mut Vec<u8>, start: usize) -> Result<(), AllocError>
     ensures { OnOk result (text.new.items ≡ text.old.items ++ ((if length text.old.items == start then 34 ∷ 34 ∷ [] else []) ++ 10 ∷ [])) }
 {
+    make_room(text, 3)?;
     if text.len() == start {
-        text.extend_from_slice(b"\"\"\n")
-    } else {
-        text.extend_from_slice(b"\n")
+        text.push_reserved(b'"');
+        text.push_reserved(b'"');
     }
+    text.push_reserved(b'\n');
+    Ok(())
 }
 
+// The field between quotes in place of what stands from the start on.
 #[inline(never)]
+fn with_quoted(text: Vec<u8>, start: usize, field: &[u8]) -> Result<Vec<u8>, AllocError>
+    ensures { IfOk result (λ made. made.items ≡ take start text.items ++ quoted default_writer field.now) }
+{
+    let mut made = text;
+    made.truncate(start);
+    push_quoted(&mut made, field)?;
+    Ok(made)
+}
+
 fn push_quoted(text: &mut Vec<u8>, field: &[u8]) -> Result<(), AllocError>
     ensures { OnOk result (text.new.items ≡ text.old.items ++ quoted default_writer field.now) }
 {

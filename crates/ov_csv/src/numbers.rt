@@ -1,10 +1,11 @@
 //! The digits of a number.
 
-ghost use Rattle.std.specs.Prelude.{◌≡◌, ◌++◌, ◌∷◌, [], ◌<◌, ◌≤◌, ◌+◌, ◌/◌, ◌%◌, OnOk, vec_len, vec_capacity};
+ghost use Rattle.std.specs.Prelude.{◌≡◌, ◌++◌, ◌∷◌, [], ◌<◌, ◌≤◌, ◌+◌, ◌/◌, ◌%◌, IfOk, OnOk, vec_len, vec_capacity};
 ghost use Rattle.std.specs.Fmt.{decimal, signed_decimal};
 ghost use Rattle.csv.specs.Writing.{default_writer, next_sep};
 
 use crate::field_line::{push_separator, put_separator};
+use crate::room::{make_room, take_text};
 use itoa::Buffer;
 use std::alloc::AllocError;
 
@@ -21,16 +22,19 @@ pub(crate) fn push_number(text: &mut Vec<u8>, place: usize, number: i64) -> Resu
     if 0 <= number && number < 100_000_000 {
         push_short(text, place, number as u32)
     } else {
-        push_long(text, place, number)
+        *text = with_long(take_text(text), place, number)?;
+        Ok(())
     }
 }
 
 #[inline(never)]
-fn push_long(text: &mut Vec<u8>, place: usize, number: i64) -> Result<(), AllocError>
-    ensures { OnOk result (text.new.items ≡ text.old.items ++ (next_sep default_writer place ++ signed_decimal number)) }
+fn with_long(text: Vec<u8>, place: usize, number: i64) -> Result<Vec<u8>, AllocError>
+    ensures { IfOk result (λ made. made.items ≡ text.items ++ (next_sep default_writer place ++ signed_decimal number)) }
 {
-    push_separator(text, place)?;
-    text.extend_from_slice(Buffer::new().format(number).as_bytes())
+    let mut made = text;
+    push_separator(&mut made, place)?;
+    made.extend_from_slice(Buffer::new().format(number).as_bytes())?;
+    Ok(made)
 }
 
 #[inline(always)]
@@ -38,7 +42,7 @@ fn push_short(text: &mut Vec<u8>, place: usize, number: u32) -> Result<(), Alloc
     requires { number < 100000000 }
     ensures { OnOk result (text.new.items ≡ text.old.items ++ (next_sep default_writer place ++ decimal number)) }
 {
-    text.reserve(9)?;
+    make_room(text, 9)?;
     put_separator(text, place);
     put_short(text, number);
     Ok(())

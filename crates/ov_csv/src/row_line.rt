@@ -1,6 +1,6 @@
 //! The line of a row, field by field from the bytes of the row.
 
-ghost use Rattle.std.specs.Prelude.{◌≡◌, ◌++◌, ◌∷◌, OnOk};
+ghost use Rattle.std.specs.Prelude.{◌≡◌, ◌++◌, ◌∷◌, IfOk, OnOk};
 ghost use Rattle.csv.specs.Writing.{default_writer, field_text, next_sep, row_body, row_text};
 ghost use Rattle.ov_value.specs.Cells.{value_of};
 ghost use Rattle.ov_model.specs.Csv.{field_of, fields_of as row_fields, null_field as null_field_of, text_field};
@@ -8,11 +8,13 @@ ghost use Rattle.ov_model.specs.Csv.{field_of, fields_of as row_fields, null_fie
 use crate::field_line::{end_line, push_field};
 use crate::fields::is_null_mark;
 use crate::numbers::push_number;
+use crate::room::take_text;
 use ov_value::{CellRef, Cells, Column, Kind};
 use std::alloc::AllocError;
 
 /// Adds the line of a row, whose values stand in these columns. Each field goes into the text as it is read from the row's
 /// bytes; memory is taken for the text alone, and for a text that gets a backslash more.
+#[inline(always)]
 pub(crate) fn push_row(
     text: &mut Vec<u8>,
     columns: &[Column],
@@ -74,25 +76,31 @@ fn push_text(text: &mut Vec<u8>, place: usize, written: &[u8]) -> Result<(), All
     ensures { OnOk result (text.new.items ≡ text.old.items ++ (next_sep default_writer place ++ field_text default_writer (text_field written.now))) }
 {
     match written {
-        [b'\\', rest @ ..] => push_escaped(text, place, written, rest),
+        [b'\\', rest @ ..] => {
+            *text = with_escaped(take_text(text), place, written, rest)?;
+            Ok(())
+        }
         _ => push_field(text, place, written),
     }
 }
 
 #[inline(never)]
-fn push_escaped(
-    text: &mut Vec<u8>,
+fn with_escaped(
+    text: Vec<u8>,
     place: usize,
     written: &[u8],
     rest: &[u8],
-) -> Result<(), AllocError>
+) -> Result<Vec<u8>, AllocError>
     requires { written.now ≡ 92 ∷ rest.now }
-    ensures { OnOk result (text.new.items ≡ text.old.items ++ (next_sep default_writer place ++ field_text default_writer (text_field written.now))) }
+    ensures { IfOk result (λ made. made.items ≡ text.items ++ (next_sep default_writer place ++ field_text default_writer (text_field written.now))) }
 {
+    let mut made = text;
     if !is_null_mark(rest) {
-        return push_field(text, place, written);
+        push_field(&mut made, place, written)?;
+        return Ok(made);
     }
-    let mut more = Vec::from_slice(*text.allocator(), b"\\")?;
+    let mut more = Vec::from_slice(*made.allocator(), b"\\")?;
     more.extend_from_slice(written)?;
-    push_field(text, place, more.as_slice())
+    push_field(&mut made, place, more.as_slice())?;
+    Ok(made)
 }
