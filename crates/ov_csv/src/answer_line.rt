@@ -38,12 +38,7 @@ fn push_fields(text: &mut Vec<u8>, kinds: &[Kind], cells: &[Cell]) -> Result<(),
     Ok(())
 }
 
-fn push_one(
-    text: &mut Vec<u8>,
-    place: usize,
-    kind: Kind,
-    cell: &Cell,
-) -> Result<(), AllocError>
+fn push_one(text: &mut Vec<u8>, place: usize, kind: Kind, cell: &Cell) -> Result<(), AllocError>
     ensures { OnOk result (text.new.items ≡ text.old.items ++ (next_sep default_writer place ++ field_text default_writer (cell_field kind cell.now))) }
 {
     match cell {

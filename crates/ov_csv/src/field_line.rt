@@ -34,11 +34,7 @@ pub(crate) fn put_separator(text: &mut Vec<u8>, place: usize)
 /// Adds what stands before the field at this place of a line and the field: between quotes where one of its bytes calls for
 /// them. Room is made once; the bytes are put there as they are looked at, and taken back where one calls for quotes.
 #[inline(always)]
-pub(crate) fn push_field(
-    text: &mut Vec<u8>,
-    place: usize,
-    field: &[u8],
-) -> Result<(), AllocError>
+pub(crate) fn push_field(text: &mut Vec<u8>, place: usize, field: &[u8]) -> Result<(), AllocError>
     ensures { OnOk result (text.new.items ≡ text.old.items ++ (next_sep default_writer place ++ field_text default_writer field.now)) }
 {
     make_room(text, field.len() + 1)?;
@@ -47,6 +43,14 @@ pub(crate) fn push_field(
     if put_plain(text, field) {
         return Ok(());
     }
+    requote(text, start, field)
+}
+
+// Puts the field between quotes in place of what stands from the start on.
+#[inline(always)]
+fn requote(text: &mut Vec<u8>, start: usize, field: &[u8]) -> Result<(), AllocError>
+    ensures { OnOk result (text.new.items ≡ take start text.old.items ++ quoted default_writer field.now) }
+{
     *text = with_quoted(take_text(text), start, field)?;
     Ok(())
 }
@@ -136,7 +140,6 @@ pub(crate) fn end_line(text: &mut Vec<u8>, start: usize) -> Result<(), AllocErro
     Ok(())
 }
 
-// The field between quotes in place of what stands from the start on.
 #[inline(never)]
 fn with_quoted(text: Vec<u8>, start: usize, field: &[u8]) -> Result<Vec<u8>, AllocError>
     ensures { IfOk result (λ made. made.items ≡ take start text.items ++ quoted default_writer field.now) }
@@ -168,8 +171,7 @@ fn any_low(a: u8, b: u8, c: u8, d: u8, e: u8, f: u8, g: u8, h: u8) -> bool
     (a <= b',')
         | ((b <= b',')
             | ((c <= b',')
-                | ((d <= b',')
-                    | ((e <= b',') | ((f <= b',') | ((g <= b',') | (h <= b',')))))))
+                | ((d <= b',') | ((e <= b',') | ((f <= b',') | ((g <= b',') | (h <= b',')))))))
 }
 
 fn any_marks(a: u8, b: u8, c: u8, d: u8, e: u8, f: u8, g: u8, h: u8) -> bool
@@ -183,6 +185,5 @@ fn any_marks(a: u8, b: u8, c: u8, d: u8, e: u8, f: u8, g: u8, h: u8) -> bool
 fn marks(byte: u8) -> bool
     ensures { result ≡ needs_byte default_writer byte }
 {
-    byte <= b','
-        && ((byte == b',') | (byte == b'"') | (byte == b'\r') | (byte == b'\n'))
+    byte <= b',' && ((byte == b',') | (byte == b'"') | (byte == b'\r') | (byte == b'\n'))
 }

@@ -22,9 +22,16 @@ pub(crate) fn push_number(text: &mut Vec<u8>, place: usize, number: i64) -> Resu
     if 0 <= number && number < 100_000_000 {
         push_short(text, place, number as u32)
     } else {
-        *text = with_long(take_text(text), place, number)?;
-        Ok(())
+        push_long(text, place, number)
     }
+}
+
+#[inline(always)]
+fn push_long(text: &mut Vec<u8>, place: usize, number: i64) -> Result<(), AllocError>
+    ensures { OnOk result (text.new.items ≡ text.old.items ++ (next_sep default_writer place ++ signed_decimal number)) }
+{
+    *text = with_long(take_text(text), place, number)?;
+    Ok(())
 }
 
 #[inline(never)]

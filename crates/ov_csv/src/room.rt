@@ -6,7 +6,7 @@ use std::alloc::AllocError;
 use std::mem;
 
 /// Makes room for so many bytes more. A text is moved to other memory out of line and by value: no call is passed its address,
-/// so it stays in registers while fields are put behind it.
+/// so it stays in registers while fields are put behind it. What a rare call needs stands in a function of its own.
 #[inline(always)]
 pub(crate) fn make_room(text: &mut Vec<u8>, more: usize) -> Result<(), AllocError>
     ensures items { OnOk result (text.new.items ≡ text.old.items) }
@@ -14,8 +14,18 @@ pub(crate) fn make_room(text: &mut Vec<u8>, more: usize) -> Result<(), AllocErro
     ensures room { OnOk result (vec_len text.new + more ≤ vec_capacity text.new) }
 {
     if text.capacity() - text.len() < more {
-        *text = with_room(take_text(text), more)?;
+        return move_text(text, more);
     }
+    Ok(())
+}
+
+#[inline(always)]
+fn move_text(text: &mut Vec<u8>, more: usize) -> Result<(), AllocError>
+    ensures items { OnOk result (text.new.items ≡ text.old.items) }
+    ensures len { OnOk result (vec_len text.new ≡ vec_len text.old) }
+    ensures room { OnOk result (vec_len text.new + more ≤ vec_capacity text.new) }
+{
+    *text = with_room(take_text(text), more)?;
     Ok(())
 }
 

@@ -76,12 +76,23 @@ fn push_text(text: &mut Vec<u8>, place: usize, written: &[u8]) -> Result<(), All
     ensures { OnOk result (text.new.items ≡ text.old.items ++ (next_sep default_writer place ++ field_text default_writer (text_field written.now))) }
 {
     match written {
-        [b'\\', rest @ ..] => {
-            *text = with_escaped(take_text(text), place, written, rest)?;
-            Ok(())
-        }
+        [b'\\', rest @ ..] => push_escaped(text, place, written, rest),
         _ => push_field(text, place, written),
     }
+}
+
+#[inline(always)]
+fn push_escaped(
+    text: &mut Vec<u8>,
+    place: usize,
+    written: &[u8],
+    rest: &[u8],
+) -> Result<(), AllocError>
+    requires { written.now ≡ 92 ∷ rest.now }
+    ensures { OnOk result (text.new.items ≡ text.old.items ++ (next_sep default_writer place ++ field_text default_writer (text_field written.now))) }
+{
+    *text = with_escaped(take_text(text), place, written, rest)?;
+    Ok(())
 }
 
 #[inline(never)]
