@@ -1,11 +1,11 @@
 //! The text of rows.
 
-ghost use Rattle.std.specs.Prelude.{◌≡◌, [], Some, None, IfOk, OnOk, OnErr};
+ghost use Rattle.std.specs.Prelude.{◌≡◌, [], Some, None, IfOk, OnOk, OnErr, MatchOption};
 ghost use Rattle.csv.specs.Writing.{default_writer, row_text};
 ghost use Rattle.ov_value.specs.Shapes.{names};
 ghost use Rattle.ov_model.specs.Answers.{cell_fields};
 ghost use Rattle.ov_model.specs.Csv.{fields_of as row_fields, text_of};
-ghost use Rattle.ov_csv.specs.Growing.{Grows};
+ghost use Rattle.ov_csv.specs.Growing.{Grows, emptied};
 
 use crate::answer_line::push_answer;
 use crate::header_line::push_header;
@@ -87,6 +87,25 @@ impl CsvText {
         push_answer(&mut self.text, kinds, cells)?;
         self.failed = false;
         Ok(())
+    }
+
+    /// The bytes so far, for a caller who passes a long text on in pieces; `None` once memory was wanting.
+    pub fn bytes(&self) -> Option<&[u8]>
+        ensures { MatchOption result (self.now ≡ None) (λ bytes. self.now ≡ Some bytes.now) }
+    {
+        if self.failed {
+            None
+        } else {
+            Some(self.text.as_slice())
+        }
+    }
+
+    /// Lets the bytes so far go, and keeps their memory for those to come: the bytes that were passed on, piece by piece, and
+    /// then those that are there are the whole text.
+    pub fn clear(&mut self)
+        ensures { self.new ≡ emptied self.old }
+    {
+        self.text.clear();
     }
 
     /// The bytes of the text.

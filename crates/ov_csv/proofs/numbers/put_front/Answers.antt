@@ -1,4 +1,4 @@
-use Rattle.std.proofs.Common.{◌++◌, ◌∙◌, ap, sym, arith}
+use Rattle.std.proofs.Common.{◌++◌, ◌∙◌, ap, sym}
 use Rattle.std.proofs.lemmas.Fmt.{decimal_digit}
 use Rattle.ov_csv.proofs.NumberDigits.{two_digits}
 use Rattle.ov_csv.proofs.numbers.put_front.Goals as goal

@@ -1,4 +1,4 @@
-use Rattle.std.proofs.Common.{ℕ, List, ◌≡◌, ◌++◌, ◌∷◌, [], ◌∙◌, ◌+◌, ◌/◌, ◌%◌, ap, sym, append_assoc, arith}
+use Rattle.std.proofs.Common.{ℕ, List, ◌++◌, ◌∷◌, [], ◌∙◌, ◌+◌, ◌/◌, ◌%◌, ap, sym, append_assoc}
 use Rattle.std.specs.Fmt.{decimal}
 use Rattle.ov_csv.proofs.NumberDigits.{last_four}
 use Rattle.ov_csv.proofs.numbers.put_short.Goals as goal
