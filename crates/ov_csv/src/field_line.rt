@@ -118,7 +118,7 @@ fn put_rest(text: &mut Vec<u8>, field: &[u8]) -> bool
     ensures stays { take (length text.old.items) text.new.items ≡ text.old.items }
 {
     for byte in field {
-        if marks(*byte) {
+        if marks_alone(*byte) {
             return false;
         }
         text.push_reserved(*byte);
@@ -185,5 +185,12 @@ fn any_marks(a: u8, b: u8, c: u8, d: u8, e: u8, f: u8, g: u8, h: u8) -> bool
 fn marks(byte: u8) -> bool
     ensures { result ≡ needs_byte default_writer byte }
 {
-    byte <= b',' && ((byte == b',') | (byte == b'"') | (byte == b'\r') | (byte == b'\n'))
+    (byte == b',') | (byte == b'"') | (byte == b'\r') | (byte == b'\n')
+}
+
+// The same of a byte that is looked at by itself: most stand above the comma, and need one test.
+fn marks_alone(byte: u8) -> bool
+    ensures { result ≡ needs_byte default_writer byte }
+{
+    byte <= b',' && marks(byte)
 }
