@@ -8,6 +8,7 @@ pub mod Lists
 pub mod NullKeys
 pub mod NumberDigits
 pub mod Places
+pub mod PutLemmas
 pub mod QuoteLemmas
 pub mod Rows
 pub mod Spelled

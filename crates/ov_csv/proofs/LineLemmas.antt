@@ -20,20 +20,18 @@ pub record Writes (before : List ℕ) (all : List (List ℕ)) (place : ℕ) (lef
 pub writes_none : (before : List ℕ) (all : List (List ℕ)) → Writes before all 0 all before
 writes_none before all = record { fields = []; placed = refl; all_is = refl; text_is = sym (append-nil before) }
 
-pub writes_more : (before : List ℕ) (all : List (List ℕ)) (place : ℕ) (field : List ℕ) (from left : List (List ℕ)) (text mid new : List ℕ) → Writes before all place from text → from ≡ field ∷ left
-    → mid ≡ text ++ next_sep default_writer place → new ≡ mid ++ field_text default_writer field → Writes before all (place + 1) left new
-writes_more before all place field from left text mid new w split separated added =
+pub writes_more : (before : List ℕ) (all : List (List ℕ)) (place : ℕ) (field : List ℕ) (from left : List (List ℕ)) (text new : List ℕ) → Writes before all place from text → from ≡ field ∷ left
+    → new ≡ text ++ (next_sep default_writer place ++ field_text default_writer field) → Writes before all (place + 1) left new
+writes_more before all place field from left text new w split added =
     let body : List ℕ = row_body default_writer w.fields in
-    let sep : List ℕ = next_sep default_writer place in
     record {
       fields = w.fields ++ field ∷ [];
       placed = omega (arith, w.placed, length-append w.fields (field ∷ []));
       all_is = w.all_is ∙ ap (λ l. w.fields ++ l) split ∙ sym (append_assoc w.fields (field ∷ []) left);
       text_is =
-          added ∙ ap (λ l. l ++ field_text default_writer field) (separated ∙ ap (λ l. l ++ sep) w.text_is ∙ append_assoc before body sep)
-          ∙ append_assoc before (body ++ sep) (field_text default_writer field)
-          ∙ ap (λ l. before ++ l) (append_assoc body sep (field_text default_writer field)
-          ∙ ap (λ n. body ++ (next_sep default_writer n ++ field_text default_writer field)) (sym w.placed) ∙ sym (row-more default_writer w.fields field));
+          added ∙ ap (λ l. l ++ (next_sep default_writer place ++ field_text default_writer field)) w.text_is
+          ∙ append_assoc before body (next_sep default_writer place ++ field_text default_writer field)
+          ∙ ap (λ l. before ++ l) (ap (λ n. body ++ (next_sep default_writer n ++ field_text default_writer field)) (sym w.placed) ∙ sym (row-more default_writer w.fields field));
     }
 
 -- no field is left

@@ -32,17 +32,11 @@ pair_at p low = below 100 p refl low
 
 -- ---- the digits of a number by those of its pairs
 
-pub one_digit : (n : ℕ) → n < 10 → decimal n ≡ (48 + n % 100 % 10) ∷ []
-one_digit n low = let same : n ≡ n % 100 % 10 = omega (arith, low) in decimal_digit n low ∙ ap (λ d. (48 + d) ∷ []) same
-
-two : (n : ℕ) → 10 ≤ n → n < 100 → decimal n ≡ (48 + n / 10) ∷ (48 + n % 10) ∷ []
-two n low high = decimal_step n low (omega (arith, high)) ∙ ap (λ l. l ++ (48 + n % 10) ∷ []) (decimal_digit (n / 10) (omega (arith, high)))
-
-pub two_digits : (n : ℕ) → 10 ≤ n → n < 100 → decimal n ≡ (48 + n % 100 / 10) ∷ (48 + n % 100 % 10) ∷ []
-two_digits n low high = let same : n ≡ n % 100 = omega (arith, high) in two n low high ∙ ap (λ m. (48 + m / 10) ∷ (48 + m % 10) ∷ []) same
+pub two_digits : (n : ℕ) → 10 ≤ n → n < 100 → decimal n ≡ (48 + n / 10) ∷ (48 + n % 10) ∷ []
+two_digits n low high = decimal_step n low (omega (arith, high)) ∙ ap (λ l. l ++ (48 + n % 10) ∷ []) (decimal_digit (n / 10) (omega (arith, high)))
 
 -- the last two digits behind the others
-last_two : (n : ℕ) → 100 ≤ n → n < 100000000 → decimal n ≡ decimal (n / 100) ++ (48 + n % 100 / 10) ∷ (48 + n % 100 % 10) ∷ []
+pub last_two : (n : ℕ) → 100 ≤ n → n < 100000000 → decimal n ≡ decimal (n / 100) ++ (48 + n % 100 / 10) ∷ (48 + n % 100 % 10) ∷ []
 last_two n low high =
     let a : n / 10 / 10 ≡ n / 100 = omega arith in
     let b : n / 10 % 10 ≡ n % 100 / 10 = omega arith in
@@ -52,22 +46,15 @@ last_two n low high =
     ∙ append_assoc (decimal (n / 10 / 10)) ((48 + n / 10 % 10) ∷ []) ((48 + n % 10) ∷ [])
     ∙ (λ i. decimal (a i) ++ (48 + b i) ∷ (48 + c i) ∷ [])
 
-pub three_digits : (n : ℕ) → 100 ≤ n → n < 1000 → decimal n ≡ (48 + n / 100 % 10) ∷ (48 + n % 100 / 10) ∷ (48 + n % 100 % 10) ∷ []
-three_digits n low high =
-    let same : n / 100 ≡ n / 100 % 10 = omega (arith, high) in
-    last_two n low (omega (arith, high)) ∙ ap (λ l. l ++ (48 + n % 100 / 10) ∷ (48 + n % 100 % 10) ∷ []) (decimal_digit (n / 100) (omega (arith, high)) ∙ ap (λ d. (48 + d) ∷ []) same)
-
-pub four_digits : (n : ℕ) → 1000 ≤ n → n < 10000 → decimal n ≡ (48 + n / 100 / 10) ∷ (48 + n / 100 % 10) ∷ (48 + n % 100 / 10) ∷ (48 + n % 100 % 10) ∷ []
-four_digits n low high = last_two n (omega (arith, low)) (omega (arith, high)) ∙ ap (λ l. l ++ (48 + n % 100 / 10) ∷ (48 + n % 100 % 10) ∷ []) (two (n / 100) (omega (arith, low)) (omega (arith, high)))
-
 -- the last four digits behind the others
 pub last_four : (n : ℕ) → 10000 ≤ n → n < 100000000
-    → decimal n ≡ decimal (n / 10000) ++ (48 + n % 10000 / 100 / 10) ∷ (48 + n % 10000 / 100 % 10) ∷ (48 + n % 100 / 10) ∷ (48 + n % 100 % 10) ∷ []
+    → decimal n ≡ decimal (n / 10000) ++ (48 + n % 10000 / 100 / 10) ∷ (48 + n % 10000 / 100 % 10) ∷ (48 + n % 10000 % 100 / 10) ∷ (48 + n % 10000 % 100 % 10) ∷ []
 last_four n low high =
     let a : n / 100 / 100 ≡ n / 10000 = omega arith in
     let b : n / 100 % 100 ≡ n % 10000 / 100 = omega arith in
+    let c : n % 100 ≡ n % 10000 % 100 = omega arith in
     let last : List ℕ = (48 + n % 100 / 10) ∷ (48 + n % 100 % 10) ∷ [] in
     last_two n (omega (arith, low)) high
     ∙ ap (λ l. l ++ last) (last_two (n / 100) (omega (arith, low)) (omega (arith, high)))
     ∙ append_assoc (decimal (n / 100 / 100)) ((48 + n / 100 % 100 / 10) ∷ (48 + n / 100 % 100 % 10) ∷ []) last
-    ∙ (λ i. decimal (a i) ++ (48 + b i / 10) ∷ (48 + b i % 10) ∷ last)
+    ∙ (λ i. decimal (a i) ++ (48 + b i / 10) ∷ (48 + b i % 10) ∷ (48 + c i / 10) ∷ (48 + c i % 10) ∷ [])

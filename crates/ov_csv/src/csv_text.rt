@@ -9,6 +9,7 @@ ghost use Rattle.ov_csv.specs.Growing.{Grows};
 
 use crate::answer_line::push_answer;
 use crate::header_line::push_header;
+use crate::room::take_text;
 use crate::row_line::push_row;
 use ov_model::Cell;
 use ov_segment::RowTable;
@@ -77,7 +78,9 @@ impl CsvText {
             return Err(AllocError);
         }
         self.failed = true;
-        push_row(&mut self.text, columns, row)?;
+        let mut text = take_text(&mut self.text);
+        push_row(&mut text, columns, row)?;
+        self.text = text;
         self.failed = false;
         Ok(())
     }
@@ -96,7 +99,7 @@ impl CsvText {
         Ok(())
     }
 
-    /// The bytes so far.
+    /// The bytes so far, for a caller who passes a long text on in pieces.
     pub fn bytes(&self) -> &[u8]
         requires { is_some self.now ≡ true }
         ensures { self.now ≡ Some result.now }
@@ -104,7 +107,8 @@ impl CsvText {
         &self.text
     }
 
-    /// Begins anew, in the memory that it has.
+    /// Lets the bytes so far go, and keeps their memory for those to come: the bytes that were passed on, piece by piece, and then
+    /// those that are there are the whole text.
     pub fn clear(&mut self)
         requires { is_some self.old ≡ true }
         ensures { self.new ≡ Some [] }
@@ -122,6 +126,7 @@ impl CsvText {
 }
 
 /// The text of the rows: a header of the schema's column names, and a line for each row, in time linear in the text.
+#[inline(never)]
 pub fn write_rows(alloc: Global, schema: &Schema, rows: &RowTable) -> Result<Vec<u8>, AllocError>
     ensures { IfOk result (λ text. text.items ≡ text_of schema.now rows.now) }
 {

@@ -21,6 +21,7 @@ mod plain;
 mod read_lines;
 mod reading;
 mod records;
+mod room;
 mod row_line;
 mod scans;
 mod texts;

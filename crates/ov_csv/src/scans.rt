@@ -12,6 +12,7 @@ use std::alloc::{AllocError, Global};
 
 /// The text of the rows at these positions in the records of a scan: a header of the schema's column names, and a line for
 /// each position, in time linear in the text. The scan is sound for the schema, and the positions exist.
+#[inline(never)]
 pub fn write_csv(
     alloc: Global,
     schema: &Schema,

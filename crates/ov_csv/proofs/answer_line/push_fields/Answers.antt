@@ -8,6 +8,6 @@ returns-in-None c =
 
 pub loop-place-preserved : goal.loop-place-preserved
 loop-place-preserved c =
-    writes_more c.args.text.now.items _ c.loop-place.place _ _ _ c.loop-place.text.items c.push_separator.new.text.items c.push_one.new.text.items c.loop-place.invariant
+    writes_more c.args.text.now.items _ c.loop-place.place _ _ _ c.loop-place.text.items c.push_one.new.text.items c.loop-place.invariant
     (split c.args.kinds.now c.args.cells.now c.loop-place.place c.in-Some.cell.now c.loop-place-test.true c.in-Some.ensures.lookup.3.0 c.in-Some.ensures.lookup.1)
-    c.in_ok-push_separator-in-Some.ensures c.in_ok-push_one-in-Some.ensures
+    c.in_ok-push_one-in-Some.ensures
