@@ -1,6 +1,6 @@
 -- A file that grows line by line, some of it in a piece that wasn't passed on yet.
-use Rattle.std.proofs.Common.{◌≡◌, ◌∙◌, ◌<◌, ◌≤◌, ◌+◌, ◌++◌, ◌∷◌, [], ℕ, List, Option, Some, None, arith, refl, sym, subst, ap, true, take, length, append_assoc, append-nil, get_or}
-use Rattle.std.specs.Prelude.{slice_index_or, map}
+use Rattle.std.proofs.Common.{◌≡◌, ◌∙◌, ◌<◌, ◌+◌, ◌++◌, ◌∷◌, [], ℕ, List, Option, Some, None, arith, subst, ap, take, length, append_assoc, append-nil, get_or}
+use Rattle.std.specs.Prelude.{map}
 use Rattle.std.specs.List.{flat_map}
 use Rattle.std.proofs.lemmas.List.{map_more}
 use Rattle.std.proofs.lemmas.Grind.{flat_map-append}

@@ -2,7 +2,7 @@
 --     Given      the text of a file, and how many rows it has
 --     behind stage text      the bytes of the file that is being written, and behind them those that were not passed on yet
 --     KeepsOpen result old new      what adding to it keeps to
-use Rattle.std.specs.Prelude.{◌≡◌, ◌++◌, ℕ, Bool, true, false, List, Option, Some, None, Result, Ok, Err}
+use Rattle.std.specs.Prelude.{◌≡◌, ◌++◌, ℕ, true, List, Option, Some, None, Result, Ok, Err}
 use Rattle.ov_host.specs.Host.{Rose}
 use Rattle.ov_host.specs.Stage.{OthersStay, Staged}
 use Rattle.ov_files.specs.Files.{Serves}

@@ -1,6 +1,6 @@
 -- The commands that read, as what they mean over a World.
 use Rattle.std.proofs.Common.{◌≡◌, ℕ, List, [], ◌∷◌, Bool, true, false, cond, length, refl, sym, ◌∙◌, ap}
-use Rattle.std.specs.Prelude.{IfOk, OnOk, Option, Some, None, Result, Ok, Err, if◌then◌else◌, is_err, map, option_map}
+use Rattle.std.specs.Prelude.{IfOk, Option, Some, None, Result, Ok, Err, if◌then◌else◌, map, option_map}
 use Rattle.std.specs.FinMap.{get, get-insert, insert}
 use Rattle.std.specs.Str.{bytes_eq}
 use Rattle.std.proofs.Math.Path.{fun_ext}
@@ -60,11 +60,6 @@ is_merge_of d vids made schema rows same listed text count = record {
 }
 
 -- ---- a file that is put
-
--- what holds after a call that didn't fail
-pub was_put : {A B P : Type 0} (r : Result A B) → is_err r ≡ false → OnOk r P → P
-was_put (Ok a) well put = put
-was_put (Err b) well put = absurd cc
 
 -- in the map of the stage as in the definitions
 pub files_put : (files : Map) (name bytes : List ℕ) → files_of (insert files name bytes) ≡ put (files_of files) name bytes

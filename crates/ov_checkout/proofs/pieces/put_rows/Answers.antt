@@ -1,4 +1,4 @@
-use Rattle.std.proofs.Common.{rules, ◌≡◌, ◌∙◌, ◌++◌, ℕ, List, Some, take, subst, sym, ap, true, get_or}
+use Rattle.std.proofs.Common.{rules, ◌∙◌, ℕ, List, take, subst, sym, get_or}
 use Rattle.std.specs.List.{flat_map}
 use Rattle.csv.specs.Writing.{default_writer, row_text}
 use Rattle.ov_model.specs.Book.{Row}

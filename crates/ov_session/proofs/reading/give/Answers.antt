@@ -1,9 +1,8 @@
-use Rattle.std.proofs.Common.{rules, ◌≡◌, ◌∙◌, false, sym, ap}
-use Rattle.std.specs.Prelude.{is_err}
+use Rattle.std.proofs.Common.{rules, ◌≡◌, ◌∙◌, ap}
 use Rattle.std.specs.FinMap.{insert}
 use Rattle.law_runs.specs.Serving.{session_of}
 use Rattle.ov_model.specs.Act.{gives, merge_of}
-use Rattle.ov_session.proofs.Lookups.{gives_file, was_put}
+use Rattle.ov_session.proofs.Lookups.{gives_file}
 use Rattle.ov_session.proofs.reading.give.Goals as goal
 
 pub returns-clause-given : goal.returns-clause-given
