@@ -56,7 +56,7 @@ impl Checkout {
         write_csv(alloc, &self.schema, &self.scan, self.places.as_slice())
     }
 
-    /// Puts the text into the file of this name, in place of what it had, in pieces of some 64 KB. All memory is taken before the
+    /// Puts the text into the file of this name, in place of what it had, in pieces of some 64 KB, whose memory is taken before the
     /// file is begun. After a fault of the stage that file may be absent or hold anything, and all others stay; after want of
     /// memory it stays too.
     pub fn put<T: Stage>(&self, alloc: Global, stage: &mut T, name: &Txt) -> Result<(), FileErr>
