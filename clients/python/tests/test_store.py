@@ -102,11 +102,22 @@ class Commands(Case):
         self.refused(71, ann.create_user, "bob")
         self.refused(72, orpheus.Store(store.folder, user="bob").ls)
 
-    def test_what_the_program_has_not_yet_is_refused(self):
+    def test_staged_tables(self):
         store = self.people()
-        self.refused(53, store.stage, "people", 1, "t")
-        self.refused(53, store.commit_staged, "ann.t")
-        self.assertEqual(len(store.log("people")), 2)
+        store.create_user("ann")
+        ann = orpheus.Store(store.folder, user="ann")
+        taken = ann.stage("people", [2, 1], "work", self.room)
+        self.assertEqual((taken.cvd, taken.rows, taken.path), ("people", 3, self.at("ann.work.staged")))
+        self.assertEqual(self.read("ann.work.staged"), self.read("b.csv"))
+        self.assertEqual([tuple(it) for it in ann.tables()], [("ann.work", "people", (2, 1))])
+        self.refused(75, ann.stage, "people", 1, "work", self.room)
+        self.refused(71, store.commit_staged, "ann.work", "theirs", self.room)
+        self.put("ann.work.staged", "id,name,score\n1,ann,11\n2,bob,25\n3,cy,30\n")
+        self.assertEqual(ann.commit_staged("ann.work", "mine", self.room)[1:], (3, 3, 1))
+        self.assertEqual(store.log("people")[-1].parents, (2, 1))
+        ann.unstage("ann.work")
+        self.refused(74, ann.commit_staged, "ann.work", "again", self.room)
+        self.assertEqual(ann.tables(), [])
 
     def test_columns_are_added(self):
         store = self.people()
