@@ -1,4 +1,4 @@
-//! The tests of texts that no script shows: spans of tokens, lines and replies of commands to come, queries of lineages, relatives of
+//! The tests of texts that no script shows: spans of tokens, what lines ask for, replies of stores that are full, queries of lineages, relatives of
 //! versions, and who may ask of which datasets (`ov_lex`, `ov_cmd`, `ov_reply`, `ov_parse`, `ov_lineage`, `ov_users`).
 //!
 //! In a crate of their own they are proved without proving those crates once more. What scripts show is held by the examples, by

@@ -1,4 +1,4 @@
-//! Lines of commands to come, which no script can ask for yet.
+//! What lines of users, staged tables and budgets ask for, as commands.
 
 use ov_cmd::{LineErr, read_line};
 use ov_model::Command;
@@ -64,7 +64,7 @@ const LINES: [(&str, Said<'static>); 17] = [
 ];
 
 #[test]
-fn lines_of_commands_to_come(rt: HostRuntime) -> Result<(), Fail> {
+fn lines_of_users_and_budgets(rt: HostRuntime) -> Result<(), Fail> {
     for (line, wanted) in LINES {
         let found = read_line(rt.alloc(), line.as_bytes());
         let said = match &found {

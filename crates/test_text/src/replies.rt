@@ -1,4 +1,4 @@
-//! The texts of replies that no script shows: of commands to come, and of stores that are full.
+//! The texts of replies to users and budgets, and of stores that are full.
 
 use ov_reply::*;
 use ov_value::Txt;
