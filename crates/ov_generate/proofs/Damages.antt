@@ -1,15 +1,18 @@
 -- Which answers are damage, and of what.
-use Rattle.std.proofs.Common.{◌≡◌, ◌≤◌, ◌<◌, ℕ, List, refl, sym, subst}
+use Rattle.std.proofs.Common.{◌≡◌, ◌<◌, ◌+◌, ◌-◌, ◌∙◌, ℕ, List, length, refl, sym, subst, ap, arith}
+use Rattle.std.specs.Prelude.{None}
 use Rattle.ov_host.specs.Host.{State}
 use Rattle.ov_host.specs.declared.area.Area.{Area}
 use Rattle.ov_core.specs.Held.{Held}
 use Rattle.ov_model.specs.Moves.{Move}
 use Rattle.ov_model.specs.World.{World}
 use Rattle.ov_store.specs.Kept.{Kept, Stays}
+use Rattle.ov_store.specs.Refusals.{new_off}
 use Rattle.ov_store.specs.Scanning.{IsUndamaged}
 use Rattle.ov_store.specs.declared.errors.StoreErr.{StoreErr}
 use Rattle.ov_store.specs.declared.errors.StoreErr.TheVariants as why
-use Rattle.ov_generate.specs.Making.{HasDamage, HasDamagedVersion, IsDamageOf, IsUnmoved}
+use Rattle.ov_generate.specs.Making.{HasDamage, IsDamageOf, IsUnmoved}
+use Rattle.ov_generate.specs.Reads.{AreBegun, Begun, HasDamagedVersion, IsAfter, state_behind}
 
 pub undamaged_of : (off : StoreErr) → ((area : Area) (at : ℕ) → off ≡ why.Damaged area at → ⊥) → IsUndamaged off
 undamaged_of (why.Damaged area at) none = none area at refl
@@ -32,23 +35,33 @@ undamaged_of (why.FormatOne row) none = tt
 pub unmoved_none : (m : Move) (w : World) (held : Held) (old new : State) (off : StoreErr) → IsUnmoved m w held old new off → (area : Area) (at : ℕ) → off ≡ why.Damaged area at → ⊥
 unmoved_none m w held old new off is area at same = subst (IsUnmoved m w held old new) same is
 
--- a version's damage, of those that are asked for
-pub version_damage : (k l : Kept) (name cvd : List ℕ) (parent count vid versions : ℕ) (mid new : State) (off : StoreErr) → name ≡ cvd → 2 ≤ vid → vid ≤ versions → 1 ≤ parent → parent < vid
-    → Stays off k l mid new → IsDamageOf (HasDamage k.held name parent count vid new) off → IsDamageOf (HasDamagedVersion l.held cvd count versions new) off
-version_damage k l name cvd parent count vid versions mid new off same later within some earlier stays is = by off stays is
+-- the next version's damage, of those that are asked for
+pub version_damage : (k l : Kept) (name cvd : List ℕ) (seed count versions made x : ℕ) (before : Held) (begun : List Begun) (mid new : State) (off : StoreErr) → name ≡ cvd
+    → new_off before.numbers name ≡ None → AreBegun name seed count before begun → IsAfter name seed count before begun k.held → length begun + 1 ≡ made → made < versions
+    → x ≡ state_behind seed count (made - 1) → Stays off k l mid new → IsDamageOf (HasDamage k.held name x count (made + 1) new) off
+    → IsDamageOf (HasDamagedVersion cvd seed count versions before l.held new) off
+version_damage k l name cvd seed count versions made x before begun mid new off same allowed are after_ long few drawn stays is = by off stays is
   where
-    by : (e : StoreErr) → Stays e k l mid new → IsDamageOf (HasDamage k.held name parent count vid new) e → IsDamageOf (HasDamagedVersion l.held cvd count versions new) e
+    state_is : x ≡ state_behind seed count (length begun)
+    state_is = drawn ∙ ap (state_behind seed count) (let one : made - 1 ≡ length begun = omega (arith, long) in one)
+
+    vid_is : made + 1 ≡ length begun + 2
+    vid_is = omega (arith, long)
+
+    by : (e : StoreErr) → Stays e k l mid new → IsDamageOf (HasDamage k.held name x count (made + 1) new) e → IsDamageOf (HasDamagedVersion cvd seed count versions before l.held new) e
     by (why.Damaged area at) st d = (
       d.0,
-      record {
-        vid = vid;
-        later = later;
-        within = within;
-        parent = parent;
-        some = some;
-        earlier = earlier;
-        damage = subst (λ (n : List ℕ). HasDamage l.held n parent count vid new at) same (subst (λ (x : Kept). HasDamage x.held name parent count vid new at) (sym st.0) d.1);
-      },
+      subst (λ (n : List ℕ). HasDamagedVersion n seed count versions before l.held new at) same
+          (subst (λ (y : Kept). HasDamagedVersion name seed count versions before y.held new at) (sym st.0)
+          (record {
+            allowed = allowed;
+            begun = begun;
+            are = are;
+            made = after_;
+            few = omega (arith, few, long);
+            damage = subst (λ (n : ℕ). HasDamage k.held name (state_behind seed count (length begun)) count n new at) vid_is
+                (subst (λ (n : ℕ). HasDamage k.held name n count (made + 1) new at) state_is d.1);
+          })),
     )
     by why.Host st d = tt
     by why.Memory st d = tt

@@ -1,5 +1,5 @@
 -- What was fetched while the versions were made.
-use Rattle.std.proofs.Common.{◌≡◌, ◌≤◌, ◌<◌, ◌+◌, ◌*◌, ◌∙◌, inl, inr, ℕ, List, [], ◌∷◌, length, refl, sym, ap, subst, arith}
+use Rattle.std.proofs.Common.{◌≡◌, ◌≤◌, ◌<◌, ◌+◌, ◌-◌, ◌*◌, ◌∙◌, inl, inr, ℕ, List, [], ◌∷◌, length, refl, sym, ap, subst, arith}
 use Rattle.std.specs.Prelude.{Err, IfOk, Ok, OnOk, Option, Result, Some}
 use Rattle.ov_host.specs.Host.{State}
 use Rattle.ov_core.specs.Held.{Held}
@@ -10,7 +10,8 @@ use Rattle.ov_store.specs.Scanning.{set_in}
 use Rattle.ov_store.specs.declared.errors.StoreErr.{StoreErr}
 use Rattle.ov_store.specs.declared.store.Committed.{Committed}
 use Rattle.ov_generate.specs.Making.{IsKnown}
-use Rattle.ov_generate.specs.Reads.{AreBegun, Begun, HasFetched, IsAfter, IsFirstMade, IsVersionMade, begun_fetch, bytes_of}
+use Rattle.ov_generate.specs.Reads.{AreBegun, Begun, HasFetched, IsAfter, IsFirstMade, IsVersionMade, begun_fetch, bytes_of, state_behind}
+use Rattle.ov_model.specs.Generator.{parent_drawn}
 
 pub bytes_there : (o : Option Set) (set : Set) (vid parent : ℕ) → o ≡ Some set → vid ≡ parent → bytes_for set (vid ∷ []) ≡ bytes_of o parent
 bytes_there o set vid parent is same = ap (λ p. bytes_for set (p ∷ [])) same ∙ sym (ap (λ x. bytes_of x parent) is)
@@ -33,13 +34,22 @@ module _ (name : List ℕ) (seed count : ℕ) (before : Held) (old : State) wher
   pub fetching_first : (now : Held) (new : State) → IsFirstMade name seed count before now → new.fetched ≡ old.fetched → IsFetching 1 now new
   fetching_first now new first same = record { begun = []; are = tt; after_ = first; long = refl; fetched = omega (arith, same) }
 
-  module _ (made parent : ℕ) (held : Held) (mid new : State) (f : IsFetching made held mid) (some : 1 ≤ parent) (most : parent ≤ made)
-      (fetched : new.fetched ≤ mid.fetched + 2 * bytes_of (set_in held.numbers name) parent) where
+  module _ (made parent x : ℕ) (held : Held) (mid new : State) (f : IsFetching made held mid) (state_is : x ≡ state_behind seed count (made - 1))
+      (parent_is : parent ≡ (parent_drawn made x).is) (fetched : new.fetched ≤ mid.fetched + 2 * bytes_of (set_in held.numbers name) parent) where
     abbrev more : List Begun
     more = record { held = held; parent = parent } ∷ f.begun
 
     are_more : AreBegun name seed count before more
-    are_more = (some, omega (arith, most, f.long), f.after_, f.are)
+    are_more = (drawn, f.after_, f.are)
+      where
+        long : made ≡ length f.begun + 1
+        long = sym f.long
+
+        behind : made - 1 ≡ length f.begun
+        behind = omega (arith, f.long)
+
+        drawn : parent ≡ (parent_drawn (length f.begun + 1) (state_behind seed count (length f.begun))).is
+        drawn = parent_is ∙ (λ i. (parent_drawn (long i) (state_is i)).is) ∙ (λ i. (parent_drawn (length f.begun + 1) (state_behind seed count (behind i))).is)
 
     pub fetching_more : (now : Held) → IsVersionMade name count (made + 1) parent held now → IsFetching (made + 1) now new
     fetching_more now is = record {

@@ -7,4 +7,5 @@ pub mod Versions
 pub mod Firsts
 pub mod Whole
 pub mod Damages
+pub mod Drawing
 pub mod Fetching

@@ -1,5 +1,5 @@
 -- The rows of a parent, read back at a World, and what stays while they are.
-use Rattle.std.proofs.Common.{◌≡◌, ◌≤◌, ◌<◌, ◌==◌, ◌||◌, ◌⊎◌, inl, inr, ℕ, zero, suc, true, false, List, [], ◌∷◌, length, map, get_or, refl, sym, ◌∙◌, ap, subst, arith}
+use Rattle.std.proofs.Common.{◌≡◌, ◌≤◌, ◌<◌, ◌==◌, ◌||◌, ◌⊎◌, ◌-◌, inl, inr, ℕ, zero, suc, true, false, List, [], ◌∷◌, length, map, get_or, refl, sym, ◌∙◌, ap, subst, arith}
 use Rattle.std.specs.Prelude.{nat_lt, if◌then◌else◌, IsErr, IsErrOf, MatchResult, Option, Some, None, IfErr, IfOk, OnOk, Result, Ok, Err}
 use Rattle.std.specs.List.{AllZip}
 use Rattle.std.specs.Result.{IsErrAnd}
@@ -12,11 +12,13 @@ use Rattle.ov_host.proofs.Stops.{only_start}
 use Rattle.ov_core.specs.AtWorld.{IsAtWorld, IsEither}
 use Rattle.ov_core.specs.Held.{Held, IsByJournal}
 use Rattle.ov_fetch.specs.Extents.{Looked}
-use Rattle.ov_fetch.proofs.Looks.{looked_again}
+use Rattle.ov_fetch.proofs.Looks.{looked_again, same_pages}
+use Rattle.ov_gen.specs.Versions.{IsGrown}
 use Rattle.ov_model.specs.Book.{Row, Version}
+use Rattle.ov_model.specs.Generator.{parent_drawn}
 use Rattle.ov_model.specs.Moves.{Move, moved}
 use Rattle.ov_model.specs.World.{World}
-use Rattle.ov_store.specs.Committing.{IsUncommitted, Set, Wish}
+use Rattle.ov_store.specs.Committing.{IfSet, IsDamagedAt, IsUncommitted, Set, Wish}
 use Rattle.ov_store.specs.Kept.{Kept, Stays}
 use Rattle.ov_store.specs.Refusals.{vids_off}
 use Rattle.ov_store.specs.Scanning.{IsUndamaged, scan_off, set_in, versions_off}
@@ -28,7 +30,7 @@ use Rattle.law_runs.specs.Stops.{printed_of}
 use Rattle.law_runs.proofs.Found.{stands_left}
 use Rattle.law_generated.specs.Grown.{Grown, HasGrown, parent_next}
 use Rattle.law_generated.proofs.Steps.{parent_least, parent_most}
-use Rattle.ov_generate.specs.Making.{HasDamage, IsDamageOf, IsKnown, IsNotGrownIn, IsUnmoved, IsUnread}
+use Rattle.ov_generate.specs.Making.{AreRowsRead, AreScanned, HasDamage, IsDamageOf, IsKnown, IsNotGrownIn, IsUnmoved, IsUnread, IsWishOf}
 
 -- ---- the host was looked at
 
@@ -176,6 +178,10 @@ pub result_const : {A : Type 0} (r : Result A StoreErr) (P : Type 0) → P → I
 result_const (Ok x) P p = p
 result_const (Err off) P p = tt
 
+pub ok_const : {A : Type 0} (r : Result A StoreErr) (P : Type 0) → P → OnOk r P
+ok_const (Ok x) P p = p
+ok_const (Err off) P p = tt
+
 -- what leaves by a `?`
 pub match_err : {A E : Type 0} (P : A → Type 0) (Q : E → Type 0) (r : Result A E) (e : E) → IsErr r × IsErrAnd r (λ x. x ≡ e) → Q e → MatchResult r P Q
 match_err P Q (Ok x) e h q = absurd (true≢false (sym h.0))
@@ -198,15 +204,24 @@ of_err (Err y) e x h is = sym h.1 ∙ err_same (Err y) y x refl is
 
 -- ---- damage
 
-pub unread_damage : (held : Held) (name : List ℕ) (parent count vid : ℕ) (old new : State) (off : StoreErr) → Looked old new → IsUnread held name parent count vid old new off
-    → IsDamageOf (HasDamage held name parent count vid new) off
-unread_damage held name parent count vid old new off looked unread = by off unread
-  where
-    page_of : (x : StoreErr) (page : ℕ) → x ≡ why.Damaged Pages page → IsNotGrownIn (set_in held.numbers name) parent count vid old page → IsDamageOf (HasDamage held name parent count vid new) x
-    page_of x page is off_ = subst (IsDamageOf (HasDamage held name parent count vid new)) (sym is) (refl, record { before = old; looked = looked; damaged = inr (inl off_) })
+-- rows that were read at a state are those at one at which the host was at most looked at since
+pub read_later : (set : Set) (parent : ℕ) (old mid : State) (rows : List Row) → Looked old mid → AreRowsRead set parent old rows → AreRowsRead set parent mid rows
+read_later set parent old mid rows looked read told =
+    let before : old.tells ≡ true = sym looked.told ∙ told
+    in subst (λ (area : List ℕ). AreScanned area set parent rows) (sym (same_pages old mid looked before)) (read before)
 
-    by : (e : StoreErr) → IsUnread held name parent count vid old new e → IsDamageOf (HasDamage held name parent count vid new) e
-    by (why.Damaged area at) (inl u) = (u.0, record { before = old; looked = looked; damaged = inl u.2 })
+pub unread_damage : (held : Held) (name : List ℕ) (k : IsKnown held.numbers name) (x parent count vid : ℕ) (old new : State) (off : StoreErr) → parent ≡ (parent_drawn (vid - 1) x).is → Looked old new
+    → IsUnread held name parent count vid old new off → IsDamageOf (HasDamage held name x count vid new) off
+unread_damage held name k x parent count vid old new off drawn looked unread = by off (subst (λ p. IsUnread held name p count vid old new off) drawn unread)
+  where
+    p : ℕ
+    p = (parent_drawn (vid - 1) x).is
+
+    page_of : (e : StoreErr) (page : ℕ) → e ≡ why.Damaged Pages page → IsNotGrownIn (set_in held.numbers name) p count vid old page → IsDamageOf (HasDamage held name x count vid new) e
+    page_of e page is off_ = subst (IsDamageOf (HasDamage held name x count vid new)) (sym is) (refl, record { known = k; before = old; looked = looked; damaged = inr (inl off_) })
+
+    by : (e : StoreErr) → IsUnread held name p count vid old new e → IsDamageOf (HasDamage held name x count vid new) e
+    by (why.Damaged area at) (inl u) = (u.0, record { known = k; before = old; looked = looked; damaged = inl u.2 })
     by (why.Damaged area at) (inr u) = page_of (why.Damaged area at) u.0 u.1 u.2
     by why.Host u = tt
     by why.Memory u = tt
@@ -224,13 +239,29 @@ unread_damage held name parent count vid old new off looked unread = by off unre
     by why.NoNumbers u = tt
     by (why.FormatOne row) u = tt
 
-pub commit_damage : {A : Type 0} (r : Result A StoreErr) (held : Held) (name : List ℕ) (parent count vid : ℕ) (wish : Wish) (k l : Kept) (mid new : State) → wish.vids ≡ parent ∷ [] → wish.added ≡ []
-    → IfErr r (IsUncommitted held name wish mid new) → IfErr r (λ off. Stays off k l mid new) → IfErr r (IsDamageOf (HasDamage held name parent count vid new))
-commit_damage (Ok x) held name parent count vid wish k l mid new vids none why_ stays = tt
-commit_damage (Err off) held name parent count vid wish k l mid new vids none why_ stays = by off why_ stays
+pub commit_damage : {A : Type 0} (r : Result A StoreErr) (held : Held) (name : List ℕ) (known : IsKnown held.numbers name) (x count vid : ℕ) (rows : List Row) (wish : Wish) (k l : Kept) (mid new : State)
+    → IsWishOf x count vid rows wish → IsGrown count vid rows → AreRowsRead known.set (parent_drawn (vid - 1) x).is mid rows
+    → IfErr r (IsUncommitted held name wish mid new) → IfErr r (λ off. Stays off k l mid new) → IfErr r (IsDamageOf (HasDamage held name x count vid new))
+commit_damage (Ok y) held name known x count vid rows wish k l mid new asked grown read why_ stays = tt
+commit_damage (Err off) held name known x count vid rows wish k l mid new asked grown read why_ stays = by off why_ stays
   where
-    by : (e : StoreErr) → IsUncommitted held name wish mid new e → Stays e k l mid new → IsDamageOf (HasDamage held name parent count vid new) e
-    by (why.Damaged area at) u s = (u.0, record { before = mid; looked = s.1; damaged = inr (inr (wish, vids, none, u.2)) })
+    by : (e : StoreErr) → IsUncommitted held name wish mid new e → Stays e k l mid new → IsDamageOf (HasDamage held name x count vid new) e
+    by (why.Damaged area at) u s = (
+      u.0,
+      record {
+        known = known;
+        before = mid;
+        looked = s.1;
+        damaged = inr (inr (record {
+          rows = rows;
+          read = read;
+          grown = grown;
+          wish = wish;
+          asked = asked;
+          damaged = subst (λ (o : Option Set). IfSet (λ set. IsDamagedAt set wish mid at) o) known.named u.2;
+        }));
+      },
+    )
     by why.Host u s = tt
     by why.Memory u s = tt
     by (why.Full pages) u s = tt

@@ -15,8 +15,8 @@ ghost use Rattle.ov_store.specs.Refusals.{new_off};
 ghost use Rattle.ov_store.specs.Scanning.{IsUndamaged};
 ghost use Rattle.ov_store.specs.declared.errors.StoreErr.{StoreErr as StoreErrValue};
 ghost use Rattle.law_runs.specs.Serving.{Does};
-ghost use Rattle.ov_generate.specs.Making.{Ends, HasDamagedVersion, IsDamageOf, IsKnown, IsWanted};
-ghost use Rattle.ov_generate.specs.Reads.{HasFetched};
+ghost use Rattle.ov_generate.specs.Making.{Ends, IsDamageOf, IsKnown, IsWanted};
+ghost use Rattle.ov_generate.specs.Reads.{HasDamagedVersion, HasFetched};
 
 use crate::tables::first_table;
 use crate::version::add_version;
@@ -91,7 +91,8 @@ pub fn generate<H: Host>(
     ensures first { (off : StoreErrValue) → new_off store.old.held.numbers wanted.now.cvd ≡ Some off → IfErr result (λ e. e ≡ off) }
     ensures allowed { OnOk result (new_off store.old.held.numbers wanted.now.cvd ≡ None) }
     ensures cause { IsErrOf result StoreErr.Host → Rose (H.state host.old).faults (H.state host.new).faults }
-    ensures damaged { IfErr result (IsDamageOf (HasDamagedVersion store.new.held wanted.now.cvd wanted.now.rows wanted.now.versions (H.state host.new))) }
+    ensures damaged { IfErr result (IsDamageOf (HasDamagedVersion wanted.now.cvd wanted.now.seed wanted.now.rows wanted.now.versions store.old.held store.new.held
+        (H.state host.new))) }
     ensures undamaged { (w : World) → IsAtWorld w store.old.held (H.state host.old) → IfErr result IsUndamaged }
     ensures usable { (IsErrOf result StoreErr.Host → ⊥) → MayCall store.new (H.state host.new) }
     ensures by_journal { IsByJournal store.old.held (H.state host.old) → (IsErrOf result StoreErr.Host → ⊥) → IsByJournal store.new.held (H.state host.new) }

@@ -11,7 +11,7 @@ ghost use Rattle.ov_read.specs.Agreement.{list_of};
 ghost use Rattle.ov_read.specs.Sizes.{bytes_for};
 ghost use Rattle.ov_store.specs.Committing.{Set};
 ghost use Rattle.ov_store.specs.Scanning.{IsUndamaged, scan_off, set_in};
-ghost use Rattle.ov_generate.specs.Making.{IsKnown, IsUnread};
+ghost use Rattle.ov_generate.specs.Making.{AreRowsRead, IsKnown, IsUnread};
 
 use crate::rows::{are_grown, copied_rows};
 use ov_host::{Area, Host};
@@ -51,6 +51,7 @@ pub(crate) fn parent_rows<H: Host>(
     ensures fetched { (set : Set) → set_in store.now.held.numbers cvd.now ≡ Some set
         → (H.state host.new).fetched ≤ (H.state host.old).fetched + bytes_for set (parent ∷ []) }
     ensures grown { IfOk result (λ rows. IsGrown count vid rows.items) }
+    ensures read { (set : Set) → set_in store.now.held.numbers cvd.now ≡ Some set → IfOk result (λ rows. AreRowsRead set parent (H.state host.old) rows.items) }
     ensures why { IfErr result (IsUnread store.now.held cvd.now parent count vid (H.state host.old) (H.state host.new)) }
     ensures world { (w : World) (d : Dataset) → IsAtWorld w store.now.held (H.state host.old) → set_named w cvd.now ≡ Some d
         → IsGrown count vid (rows_at d.cvd.versions parent) → MatchResult result (λ rows. rows.items ≡ rows_at d.cvd.versions parent) IsUndamaged }

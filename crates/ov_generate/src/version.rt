@@ -4,7 +4,7 @@ ghost use Rattle.std.specs.Prelude.{◌≡◌, ◌≤◌, ◌<◌, ◌+◌, ◌-
 ghost use Rattle.ov_host.specs.Host.{Rose};
 ghost use Rattle.ov_core.specs.AtWorld.{IsAtWorld};
 ghost use Rattle.ov_core.specs.Held.{IsByJournal};
-ghost use Rattle.ov_model.specs.Generator.{parent_drawn};
+ghost use Rattle.ov_model.specs.Generator.{child_of, parent_drawn};
 ghost use Rattle.ov_model.specs.World.{World};
 ghost use Rattle.ov_read.specs.Sizes.{bytes_for};
 ghost use Rattle.ov_store.specs.Committing.{Set};
@@ -52,9 +52,10 @@ pub(crate) fn add_version<H: Host>(
     ensures made { OnOk result (IsVersionMade cvd.now count vid (parent_drawn (vid - 1) source.old.state).is store.old.held store.new.held) }
     ensures known { IfOk result (λ made. IsKnown store.new.held.numbers cvd.now) }
     ensures source { IfOk result (λ made. source.new.rows ≡ count) }
+    ensures drawn { OnOk result (source.new.state ≡ (child_of count vid (parent_drawn (vid - 1) source.old.state).state []).state) }
     ensures rows_few { IfOk result (λ made. made.rows ≤ 1000000) }
     ensures cause { IsErrOf result StoreErr.Host → Rose (H.state host.old).faults (H.state host.new).faults }
-    ensures damaged { IfErr result (IsDamageOf (HasDamage store.old.held cvd.now (parent_drawn (vid - 1) source.old.state).is count vid (H.state host.new))) }
+    ensures damaged { IfErr result (IsDamageOf (HasDamage store.old.held cvd.now source.old.state count vid (H.state host.new))) }
     ensures stays { IfErr result (λ off. Stays off store.old store.new (H.state host.old) (H.state host.new)) }
     ensures usable { OnOk result (MayCall store.new (H.state host.new)) }
     ensures by_journal { IsByJournal store.old.held (H.state host.old) → OnOk result (IsByJournal store.new.held (H.state host.new)) }

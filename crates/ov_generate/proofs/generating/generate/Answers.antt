@@ -19,9 +19,9 @@ use Rattle.law_runs.proofs.Doing.{breaks_looked}
 use Rattle.law_moves.specs.Doing.{IsMoved}
 use Rattle.ov_generate.specs.Making.{Ends, IsDamageOf, IsKnown, IsUnmoved}
 use Rattle.ov_store.specs.Scanning.{IsUndamaged}
-use Rattle.ov_model.specs.Generator.{draw, parent_drawn}
+use Rattle.ov_model.specs.Generator.{parent_drawn}
 use Rattle.law_generated.specs.Grown.{move_next}
-use Rattle.law_generated.proofs.Steps.{parent_by_least, parent_by_most}
+use Rattle.ov_generate.proofs.Drawing.{behind_next}
 use Rattle.ov_generate.proofs.Damages.{undamaged_of, unmoved_none, version_damage}
 use Rattle.ov_generate.proofs.Firsts.{by_off, first_made, free_named, may_off, still_of}
 use Rattle.ov_generate.specs.Reads.{HasFetched, IsFirstMade}
@@ -120,6 +120,7 @@ loop-before-init g c =
           (known_first a.cvd c.in_ok-rows.rows held now
           (subst (λ (n : List ℕ). new_off held.numbers n ≡ None) c.as_str-cvd.ensures.text c.in_ok-may_begin.ensures.answer) done);
       source = ap (λ (x : Source). x.rows) c.in_ok-rows.ensures.state ∙ c.new-source.ensures.rows;
+      drawn = ap (λ (x : Source). x.state) c.in_ok-rows.ensures.state ∙ (λ i. (fresh_rows (c.new-source.ensures.rows i) 1 (c.new-source.ensures.state i)).state);
       message = c.in_ok-message.ensures;
       within = c.requires.wanted.some_versions;
       fetching = fetching_first name a.seed a.rows held old now new
@@ -194,14 +195,13 @@ loop-before-preserved g c =
       call = c.in_ok-made.ensures.usable;
       known = c.in_ok-made.ensures.known;
       source = c.in_ok-made.ensures.source;
+      drawn = behind_next a.seed a.rows before c.loop-before.source.state c.add_version.new.source.state c.loop-before.auto.before inv.drawn c.in_ok-made.ensures.drawn;
       message = inv.message;
       within = omega (arith, c.loop-before-test.true);
       fetching =
-          let some : 1 ≤ before = c.loop-before.auto.before
-          in let drawn : 1 ≤ before + 1 - 1 = omega (arith, some)
-          in fetching_more name a.seed a.rows held old before (parent_drawn (before + 1 - 1) c.loop-before.source.state).is c.loop-before.store.held mid new inv.fetching
-          (parent_by_least (before + 1 - 1) (draw 4 c.loop-before.source.state) drawn)
-          (let most = parent_by_most (before + 1 - 1) (draw 4 c.loop-before.source.state) drawn in omega (arith, most))
+          let same : before + 1 - 1 ≡ before = omega arith
+          in fetching_more name a.seed a.rows held old before (parent_drawn (before + 1 - 1) c.loop-before.source.state).is c.loop-before.source.state c.loop-before.store.held mid new inv.fetching
+          inv.drawn (ap (λ n. (parent_drawn n c.loop-before.source.state).is) same)
           c.add_version.ensures.fetched c.add_version.new.store.held c.in_ok-made.ensures.made;
       few = few_more c.loop-before.members c.from.result before inv.few (omega (arith, c.from.ensures, c.in_ok-made.ensures.rows_few));
       by_journal = λ by. c.in_ok-made.ensures.by_journal (inv.by_journal by);
@@ -243,15 +243,11 @@ pub returns-in_err-made-clause-damaged : goal.returns-in_err-made-clause-damaged
 returns-in_err-made-clause-damaged g c =
     let a = c.args.wanted.now
     in let off = c.in_err-made.field-0.0
-    in let vid = c.loop-before.before + 1
-    in let some : 1 ≤ c.loop-before.before = c.loop-before.auto.before
-    in let before : 1 ≤ vid - 1 = omega (arith, some)
+    in let inv = c.loop-before.invariant
     in if_err (IsDamageOf _) c.from_residual-in_err-made.result off c.from_residual-in_err-made.ensures
-    (version_damage c.loop-before.store c.add_version.new.store c.as_str-cvd.result.now a.cvd (parent_drawn (vid - 1) c.loop-before.source.state).is a.rows vid a.versions
-    (g.H.Host.state c.loop-before.host) (g.H.Host.state c.add_version.new.host) off c.as_str-cvd.ensures.text (omega (arith, some)) (omega (arith, c.loop-before-test.true))
-    (parent_by_least (vid - 1) (draw 4 c.loop-before.source.state) before)
-    (let most = parent_by_most (vid - 1) (draw 4 c.loop-before.source.state) before in omega (arith, most, some))
-    c.in_err-made.ensures.stays c.in_err-made.ensures.damaged)
+    (version_damage c.loop-before.store c.add_version.new.store c.as_str-cvd.result.now a.cvd a.seed a.rows a.versions c.loop-before.before c.loop-before.source.state
+    c.args.store.now.held inv.fetching.begun (g.H.Host.state c.loop-before.host) (g.H.Host.state c.add_version.new.host) off c.as_str-cvd.ensures.text
+    c.in_ok-may_begin.ensures.answer inv.fetching.are inv.fetching.after_ inv.fetching.long c.loop-before-test.true inv.drawn c.in_err-made.ensures.stays c.in_err-made.ensures.damaged)
 
 pub returns-in_err-made-clause-undamaged : goal.returns-in_err-made-clause-undamaged
 returns-in_err-made-clause-undamaged g c = λ w at.
@@ -343,10 +339,9 @@ returns-in_err-made-clause-fetched g c =
     in let held = c.args.store.now.held
     in let before = c.loop-before.before
     in let off = c.in_err-made.field-0.0
-    in let drawn : 1 ≤ before + 1 - 1 = (let some : 1 ≤ before = c.loop-before.auto.before in omega (arith, some))
-    in let fetched = fetched_off name a.seed a.rows held old before (parent_drawn (before + 1 - 1) c.loop-before.source.state).is c.loop-before.store.held mid new c.loop-before.invariant.fetching
-    (parent_by_least (before + 1 - 1) (draw 4 c.loop-before.source.state) drawn)
-    (let most = parent_by_most (before + 1 - 1) (draw 4 c.loop-before.source.state) drawn in omega (arith, most))
+    in let same : before + 1 - 1 ≡ before = omega arith
+    in let fetched = fetched_off name a.seed a.rows held old before (parent_drawn (before + 1 - 1) c.loop-before.source.state).is c.loop-before.source.state c.loop-before.store.held mid new
+    c.loop-before.invariant.fetching c.loop-before.invariant.drawn (ap (λ n. (parent_drawn n c.loop-before.source.state).is) same)
     c.add_version.ensures.fetched a.versions c.add_version.new.store.held (IsErrOf c.from_residual-in_err-made.result why.Host) c.loop-before-test.true
     (λ fine. ap (λ (k : Kept). k.held) (still_of off c.loop-before.store c.add_version.new.store mid new c.in_err-made.ensures.stays
     (λ is. fine (err_of c.from_residual-in_err-made.result off why.Host c.from_residual-in_err-made.ensures is))).0)

@@ -6,6 +6,7 @@ use Rattle.ov_model.specs.Act.{Session, init_refusal}
 use Rattle.ov_model.specs.World.{World}
 use Rattle.ov_store.specs.Kept.{MayCall}
 use Rattle.ov_generate.specs.Making.{IsKnown}
+use Rattle.ov_generate.specs.Reads.{state_behind}
 use Rattle.ov_generate.proofs.Fetching.{IsFetching}
 use Rattle.ov_generate.proofs.Whole.{IsGrowing}
 use Rattle.ov_generate.proofs.generating.generate.Given as goal
@@ -21,6 +22,7 @@ invariant-loop-before g l =
       call : MayCall l.store (state l.host);
       known : IsKnown l.store.held.numbers l.cvd;
       source : l.source.rows ≡ l.count;
+      drawn : l.source.state ≡ state_behind l.fn.wanted.seed l.count (l.before - 1);
       message : l.message ≡ codes "gen";
       within : l.before ≤ l.fn.wanted.versions;
       fetching : IsFetching l.cvd l.fn.wanted.seed l.count l.fn.store.held (state l.fn.host) l.before l.store.held (state l.host);

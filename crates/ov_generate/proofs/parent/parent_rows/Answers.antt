@@ -24,6 +24,19 @@ returns-then-are_grown-clause-world g c = λ w d at named grown.
     = one_pick (rows_at scan.records) scan.picks (model.rows_at d.cvd.versions c.args.parent) c.as_slice-2.result.now (c.in_ok-scan.ensures.world w d at named ∙ ap (λ n. model.rows_at d.cvd.versions n ∷ []) c.from.ensures) pick
     in c.in_ok-rows.ensures ∙ is
 
+pub returns-then-are_grown-clause-read : goal.returns-then-are_grown-clause-read
+returns-then-are_grown-clause-read g c = λ set named told.
+    let scan = c.in_ok-scan.scan
+    in let old = g.H.Host.state c.args.host.now
+    in let pick : c.as_slice-2.result.now ≡ get_or scan.picks 0 c.as_slice-2.result.now = search rules
+    in record {
+      records = scan.records;
+      pick = c.as_slice-2.result.now;
+      scanned = subst (λ n. IsScanned (page_bytes old) set scan.records n c.as_slice-2.result.now) c.from.ensures
+          (one_beside (IsScanned (page_bytes old) set scan.records) c.from.result scan.picks c.as_slice-2.result.now (c.in_ok-scan.ensures.scanned set told named) pick);
+      rows_are = c.in_ok-rows.ensures;
+    }
+
 pub returns-clause-why : goal.returns-clause-why
 returns-clause-why g c =
     let scan = c.in_ok-scan.scan

@@ -1,5 +1,5 @@
 use Rattle.std.proofs.Common.{◌≡◌, ◌≤◌, ◌+◌, ◌-◌, ◌∙◌, ℕ, List, [], ◌∷◌, length, refl, sym, ap, subst, arith}
-use Rattle.std.specs.Prelude.{IfErr, None, Some}
+use Rattle.std.specs.Prelude.{None, Some}
 use Rattle.std.specs.List.{All}
 use Rattle.ov_value.specs.Shapes.{Shape}
 use Rattle.ov_value.specs.Spelling.{IsRow}
@@ -14,9 +14,10 @@ use Rattle.ov_store.specs.Scanning.{scan_off, set_in}
 use Rattle.ov_store.proofs.Looking.{looked_at}
 use Rattle.law_generated.specs.Grown.{move_next, parent_next, rows_next, rows_of_parent}
 use Rattle.law_generated.proofs.Steps.{parent_rows}
-use Rattle.ov_generate.specs.Making.{HasDamage, IsDamageOf, IsUnmoved}
+use Rattle.ov_generate.specs.Making.{AreRowsRead, HasDamage, IsDamageOf, IsUnmoved}
+use Rattle.ov_generate.proofs.Drawing.{child_draws}
 use Rattle.ov_generate.proofs.Fetching.{bytes_there, version_is_made}
-use Rattle.ov_generate.proofs.Reading.{commit_damage, if_err, match_err, parent_there, result_const, result_journal, result_stays, unread_damage, unread_unmoved}
+use Rattle.ov_generate.proofs.Reading.{commit_damage, if_err, match_err, ok_const, parent_there, read_later, result_const, result_journal, result_stays, unread_damage, unread_unmoved}
 use Rattle.ov_generate.proofs.Versions.{child_is, known_ok, parent_is, rows_ok, state_is, version_made, world_rows}
 use Rattle.ov_generate.proofs.version.add_version.Goals as goal
 
@@ -53,6 +54,15 @@ returns-clause-source g c =
     let same : c.child_table.new.source.rows ≡ c.args.count
     = ap (λ (x : Source). x.rows) c.in_ok-rows-2.ensures.state ∙ ap (λ (x : Source). x.rows) c.parent-parent.ensures.state ∙ c.requires.source
     in result_const c.commit.result (c.child_table.new.source.rows ≡ c.args.count) same
+
+pub returns-clause-drawn : goal.returns-clause-drawn
+returns-clause-drawn g c =
+    let x = c.args.source.now.state
+    in let count : c.parent-parent.new.self.rows ≡ c.args.count = ap (λ (y : Source). y.rows) c.parent-parent.ensures.state ∙ c.requires.source
+    in let state : c.parent-parent.new.self.state ≡ (parent_drawn (c.args.vid - 1) x).state = ap (λ (y : Source). y.state) c.parent-parent.ensures.state
+    in ok_const c.commit.result _
+    (ap (λ (y : Source). y.state) c.in_ok-rows-2.ensures.state ∙ (λ i. (child_of (count i) c.args.vid (state i) c.in_ok-rows.rows.items).state)
+    ∙ child_draws c.args.count c.args.vid (parent_drawn (c.args.vid - 1) x).state c.in_ok-rows.rows.items)
 
 pub returns-clause-stays : goal.returns-clause-stays
 returns-clause-stays g c =
@@ -93,20 +103,35 @@ returns-clause-world g c = λ w grown number at has long state.
 pub returns-in_err-rows-clause-damaged : goal.returns-in_err-rows-clause-damaged
 returns-in_err-rows-clause-damaged g c =
     let new = g.H.Host.state c.parent_rows.new.host
-    in let parent = (parent_drawn (c.args.vid - 1) c.args.source.now.state).is
-    in let damage : IsDamageOf (HasDamage c.args.store.now.held c.args.cvd.now parent c.args.count c.args.vid new) c.in_err-rows.field-0.0
-    = subst (λ p. IsDamageOf (HasDamage c.args.store.now.held c.args.cvd.now p c.args.count c.args.vid new) c.in_err-rows.field-0.0) c.parent-parent.ensures.drawn
-    (unread_damage c.args.store.now.held c.args.cvd.now c.parent-parent.result c.args.count c.args.vid (g.H.Host.state c.args.host.now) new c.in_err-rows.field-0.0
-    c.parent_rows.ensures.looked c.in_err-rows.ensures.why)
-    in if_err (IsDamageOf (HasDamage c.args.store.now.held c.args.cvd.now parent c.args.count c.args.vid new)) c.from_residual.result c.in_err-rows.field-0.0 c.from_residual.ensures damage
+    in let x = c.args.source.now.state
+    in let damage : IsDamageOf (HasDamage c.args.store.now.held c.args.cvd.now x c.args.count c.args.vid new) c.in_err-rows.field-0.0
+    = unread_damage c.args.store.now.held c.args.cvd.now c.requires.known x c.parent-parent.result c.args.count c.args.vid (g.H.Host.state c.args.host.now) new c.in_err-rows.field-0.0
+    c.parent-parent.ensures.drawn c.parent_rows.ensures.looked c.in_err-rows.ensures.why
+    in if_err (IsDamageOf (HasDamage c.args.store.now.held c.args.cvd.now x c.args.count c.args.vid new)) c.from_residual.result c.in_err-rows.field-0.0 c.from_residual.ensures damage
 
 pub returns-clause-damaged : goal.returns-clause-damaged
 returns-clause-damaged g c =
-    let new = g.H.Host.state c.commit.new.host
-    in subst (λ p. IfErr c.commit.result (IsDamageOf (HasDamage c.args.store.now.held c.args.cvd.now p c.args.count c.args.vid new))) c.parent-parent.ensures.drawn
-    (commit_damage c.commit.result c.args.store.now.held c.args.cvd.now c.parent-parent.result c.args.count c.args.vid
-    (record { vids = c.from.result ∷ []; message = c.args.message.now; added = []; rows = c.in_ok-rows-2.rows })
-    c.args.store.now c.commit.new.self (g.H.Host.state c.parent_rows.new.host) new (ap (λ (n : ℕ). n ∷ []) c.from.ensures) refl c.commit.ensures.why c.commit.ensures.stays)
+    let old = g.H.Host.state c.args.host.now
+    in let mid = g.H.Host.state c.parent_rows.new.host
+    in let new = g.H.Host.state c.commit.new.host
+    in let set = c.requires.known.set
+    in let x = c.args.source.now.state
+    in let drawn = c.parent-parent.ensures.drawn
+    in let count : c.parent-parent.new.self.rows ≡ c.args.count = ap (λ (y : Source). y.rows) c.parent-parent.ensures.state ∙ c.requires.source
+    in let state : c.parent-parent.new.self.state ≡ (parent_drawn (c.args.vid - 1) x).state = ap (λ (y : Source). y.state) c.parent-parent.ensures.state
+    in let rows = c.in_ok-rows.rows.items
+    in commit_damage c.commit.result c.args.store.now.held c.args.cvd.now c.requires.known x c.args.count c.args.vid rows
+    (record { vids = c.from.result ∷ []; message = c.args.message.now; added = []; rows = c.in_ok-rows-2.rows }) c.args.store.now c.commit.new.self mid new
+    (record {
+      vids_are = ap (λ (n : ℕ). n ∷ []) (c.from.ensures ∙ drawn);
+      message_is = c.requires.message;
+      none_added = refl;
+      rows_are = c.in_ok-rows-2.ensures.rows ∙ (λ i. (child_of (count i) c.args.vid (state i) rows).is);
+    })
+    c.in_ok-rows.ensures.grown
+    (read_later set (parent_drawn (c.args.vid - 1) x).is old mid rows c.parent_rows.ensures.looked
+    (subst (λ p. AreRowsRead set p old rows) drawn (c.in_ok-rows.ensures.read set c.requires.known.named)))
+    c.commit.ensures.why c.commit.ensures.stays
 
 pub returns-clause-rows_few : goal.returns-clause-rows_few
 returns-clause-rows_few g c =
