@@ -149,13 +149,13 @@ after_none : (name : List ℕ) (seed count : ℕ) (before : Held) (begun : List 
 after_none name seed count before [] now are after none = done_none _ before now tt after none
 after_none name seed count before (b ∷ begun) now are after none =
     committed_none after.set after.wish after.read b.held now after.made after.committed
-    (after_none name seed count before begun b.held are.3 are.2 none)
+    (after_none name seed count before begun b.held are.2 are.1 none)
 
 found_none : (name : List ℕ) (seed count : ℕ) (before : Held) (begun : List Begun) (now : Held) → AreBegun name seed count before begun → IsFound before begun now
     → running before.numbers ≡ None → running now.numbers ≡ None
 found_none name seed count before [] now are found none = subst (λ (h : Held). running h.numbers ≡ None) (sym found) none
 found_none name seed count before (b ∷ begun) now are found none =
-    subst (λ (h : Held). running h.numbers ≡ None) (sym found) (after_none name seed count before begun b.held are.3 are.2 none)
+    subst (λ (h : Held). running h.numbers ≡ None) (sym found) (after_none name seed count before begun b.held are.2 are.1 none)
 
 pub generated_none : (name : List ℕ) (seed count versions : ℕ) (before now : Held) (fault : Type 0) (old new : State) → HasFetched name seed count versions before now fault old new
     → (fault → ⊥) → running before.numbers ≡ None → running now.numbers ≡ None

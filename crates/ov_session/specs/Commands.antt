@@ -4,7 +4,7 @@
 --     IsBad source stage held s page      what is read of these versions is damaged, and this page names it
 --     IsDamaged user command stage before now s page      what the user's command reads by its row is damaged, and the numbers don't
 --                                                         refuse it; a `generate` by what the store keeps now, after the versions that it
---                                                         made, and a `migrate` so after its steps
+--                                                         made of what it kept before, and a `migrate` so after its steps
 --     MeetsDamage user command stage held s page      damage that it meets before it is answered
 --     IfNoFile P reply      this holds where the reply is that there is no such file
 --     Acts d s t w result ..      where the store is at a World, a command does what it means, or is stopped in it
@@ -50,7 +50,7 @@ use Rattle.ov_session.specs.declared.errors.EndErr.TheVariants as ending
 use Rattle.ov_store.specs.Committing.{IfSet, IsDamagedAt, Set, TakesRows, adds, commit_off, schema_for}
 use Rattle.ov_store.specs.Planning.{IsDamagedFor, optimize_off}
 use Rattle.ov_store.specs.Scanning.{IsDamagedIn, scan_off, set_in, vids_in}
-use Rattle.ov_generate.specs.Making.{HasDamagedVersion}
+use Rattle.ov_generate.specs.Reads.{HasDamagedVersion}
 use Rattle.ov_files.specs.Files.{file_rows}
 use Rattle.std.specs.FinMap.{get}
 
@@ -140,7 +140,7 @@ AreAnyBad (Some later) sources stage held s page =
 
 abbrev pub DamagedBy : Own → Reads → Staged → Held → Held → State → ℕ → Type 0
 DamagedBy Nought row stage before now s page = (row.off ≡ None) × AreAnyBad row.later (row.always ++ row.if_done) stage before s page
-DamagedBy (Versions cvd seed rows versions) row stage before now s page = HasDamagedVersion now cvd rows versions s page
+DamagedBy (Versions cvd seed rows versions) row stage before now s page = HasDamagedVersion cvd seed rows versions before now s page
 DamagedBy (Steps count) row stage before now s page = IsStepDamaged count now s page
 
 abbrev pub IsDamaged : List ℕ → Command → Staged → Held → Held → State → ℕ → Type 0

@@ -12,8 +12,8 @@ ghost use Rattle.law_steps.specs.Turns.{running};
 ghost use Rattle.ov_store.specs.Kept.{MayCall};
 ghost use Rattle.ov_store.specs.Refusals.{new_off};
 ghost use Rattle.ov_store.specs.declared.errors.StoreErr.{StoreErr as StoreErrValue};
-ghost use Rattle.ov_generate.specs.Making.{HasDamagedVersion, IsWanted};
-ghost use Rattle.ov_generate.specs.Reads.{HasFetched};
+ghost use Rattle.ov_generate.specs.Making.{IsWanted};
+ghost use Rattle.ov_generate.specs.Reads.{HasDamagedVersion, HasFetched};
 ghost use Rattle.ov_session.specs.Commands.{Acts, Goes, IfNoFile, IsDamageOf, IsNoDamage};
 ghost use Rattle.ov_session.specs.Standing.{IsAtSilently};
 
@@ -40,7 +40,8 @@ pub fn make_versions<H: Host>(
     ensures unread { (off : StoreErrValue) → new_off store.old.held.numbers wanted.cvd ≡ Some off → H.state host.new ≡ H.state host.old }
     ensures cause { IsErrOf result EndErr.Host → Rose (H.state host.old).faults (H.state host.new).faults }
     ensures host_alone { IsErrOf result EndErr.Stage → ⊥ }
-    ensures damaged { IfErr result (IsDamageOf (HasDamagedVersion store.new.held wanted.cvd wanted.rows wanted.versions (H.state host.new))) }
+    ensures damaged { IfErr result (IsDamageOf (HasDamagedVersion wanted.cvd wanted.seed wanted.rows wanted.versions store.old.held store.new.held
+        (H.state host.new))) }
     ensures undamaged { (w : World) → IsAtWorld w store.old.held (H.state host.old) → IfErr result IsNoDamage }
     ensures usable { OnOk result (MayCall store.new (H.state host.new)) }
     ensures begins_none { running store.old.held.numbers ≡ None → OnOk result (running store.new.held.numbers ≡ None) }

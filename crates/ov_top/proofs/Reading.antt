@@ -34,7 +34,7 @@ use Rattle.ov_session.specs.Bounds.{IsFetchedBy, IsReading, IsReadingCommand, ma
 use Rattle.ov_session.proofs.Acting.{user_either}
 use Rattle.ov_session.proofs.Bounds.{reading_fetched}
 use Rattle.ov_session.specs.Commands.{AreAnyBad, AreBad, AreRowsOf, DamagedBy, IsBad, IsDamageOf, IsDamaged, IsNoDamage, IsParentsDamaged, is_comment_in, is_comment_of}
-use Rattle.ov_session.specs.Reads.{Own, Nought, Versions, Steps, File, Unused, Taken, Given, GivenBehind, Later, Reads, Source, RowsOf, ParentsOf, PlanOf, ListsOf, SegmentsOf, LastOf, ChangeOf, Wanted, file_of, reads_of}
+use Rattle.ov_session.specs.Reads.{Changes, Nothing, Once, Several, changes_of, Own, Nought, Versions, Steps, File, Unused, Taken, Given, GivenBehind, Later, Reads, Source, RowsOf, ParentsOf, PlanOf, ListsOf, SegmentsOf, LastOf, ChangeOf, Wanted, file_of, reads_of}
 use Rattle.ov_session.specs.Damages.{IsCommandMet, IsMetBy, IsStepMet}
 use Rattle.ov_session.specs.Replying.{IsReplied, IsReplyTo}
 use Rattle.ov_session.specs.Standing.{IsIdle, IsIdleBy, IsIdleFor, IsIdleOn}
@@ -48,7 +48,7 @@ use Rattle.ov_script.specs.declared.reader.ReadErr.{ReadErr}
 use Rattle.ov_script.specs.declared.reader.ReadErr.TheVariants as reading
 use Rattle.ov_script.proofs.Readers.{next_lines}
 use Rattle.ov_top.specs.Errors.{by_reading, by_serving}
-use Rattle.ov_top.specs.Running.{ActsAfter, AreReading, HasReply, IsRunDamage, IsUnharmed, MeetsDamage, ReadsDamage, StepsOnDamage, reads, user_of_run}
+use Rattle.ov_top.specs.Running.{ActsAfter, AreReading, HasReply, IsKeptBefore, IsRunDamage, IsUnharmed, MeetsDamage, ReadsDamage, StepsOnDamage, reads, user_of_run}
 use Rattle.ov_top.proofs.Lined.{acts_more, kept_line, long_line}
 
 -- ---- lines, as they were kept
@@ -228,6 +228,11 @@ module _ (stage staged : Staged) (files : staged.files ≡ stage.files) (told : 
   damaged_as : (user : List ℕ) (command : Command) → IsDamaged user command stage held held s page → IsDamaged user command staged held held s page
   damaged_as user command is = row_as (reads_of held.numbers user command).own (reads_of held.numbers user command) is
 
+kept_now : (changes : Changes) (held : Held) → IsKeptBefore changes held held
+kept_now Nothing held = refl
+kept_now Once held = refl
+kept_now Several held = tt
+
 -- what a command but a `generate` and a `migrate` met, it met before it changed anything
 module _ (before now : Kept) (stage staged : Staged) (old new : State) (told : staged.tells ≡ stage.tells) (area : Area) (page : ℕ) where
   still_damaged : (user : List ℕ) (command : Command) → IsIdle (ending.Damaged area page) before now stage staged old new
@@ -242,14 +247,23 @@ module _ (before now : Kept) (stage staged : Staged) (old new : State) (told : s
   idle_file Given idle = idle
   idle_file GivenBehind idle = idle
 
+  record IsDamagedSince (user : List ℕ) (command : Command) : Type 0 where
+    pub entry : Held
+    pub kept : IsKeptBefore (changes_of command) entry now.held
+    pub damaged : IsDamaged user command staged entry now.held new page
+
+  since_now : (user : List ℕ) (command : Command) → IsIdle (ending.Damaged area page) before now stage staged old new
+      → IsDamaged user command stage before.held now.held new page → IsDamagedSince user command
+  since_now user command idle is = record { entry = now.held; kept = kept_now (changes_of command) now.held; damaged = still_damaged user command idle is }
+
   now_damaged : (user : List ℕ) (command : Command) → IsIdleBy command (ending.Damaged area page) before now stage staged old new
-      → IsDamaged user command stage before.held now.held new page → IsDamaged user command staged now.held now.held new page
-  now_damaged user (asks.Generate cvd seed rows versions) idle is = is
-  now_damaged user (asks.Migrate count) idle is = is
+      → IsDamaged user command stage before.held now.held new page → IsDamagedSince user command
+  now_damaged user (asks.Generate cvd seed rows versions) idle is = record { entry = before.held; kept = tt; damaged = is }
+  now_damaged user (asks.Migrate count) idle is = record { entry = before.held; kept = tt; damaged = is }
   now_damaged user (asks.Checkout cvd vids file None) idle is =
-      still_damaged user (asks.Checkout cvd vids file None) (idle_file (file_of (asks.Checkout cvd vids file None)) idle) is
-  now_damaged user (asks.Checkout cvd vids file (Some table)) idle is = still_damaged user (asks.Checkout cvd vids file (Some table)) idle is
-  now_damaged user command idle is = still_damaged user command idle is
+      since_now user (asks.Checkout cvd vids file None) (idle_file (file_of (asks.Checkout cvd vids file None)) idle) is
+  now_damaged user (asks.Checkout cvd vids file (Some table)) idle is = since_now user (asks.Checkout cvd vids file (Some table)) idle is
+  now_damaged user command idle is = since_now user command idle is
 
 -- what has a reply is no comment
 reply_some : (l : Line) (reply : Reply) → IsReplyTo l reply → is_comment_in l ≡ false
@@ -272,6 +286,8 @@ module _ (user x : List ℕ) (before now : Kept) (script : Script) (stage staged
       → ReadsDamage script staged new page
   command_damage page by is =
       let met = is.damaged
+      in let since = now_damaged before now stage staged old new told Pages page user met.0
+          (subst (λ (l : Line). IsIdleOn l (ending.Damaged Pages page) before now stage staged old new) met.1 is.idle) met.2
       in record {
         before = gone;
         line = x;
@@ -282,8 +298,9 @@ module _ (user x : List ℕ) (before now : Kept) (script : Script) (stage staged
         asks = met.1;
         held = now.held;
         numbers = by;
-        damaged = now_damaged before now stage staged old new told Pages page user met.0
-            (subst (λ (l : Line). IsIdleOn l (ending.Damaged Pages page) before now stage staged old new) met.1 is.idle) met.2;
+        entry = since.entry;
+        kept = since.kept;
+        damaged = since.damaged;
       }
 
   -- a step's

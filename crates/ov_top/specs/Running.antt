@@ -27,6 +27,7 @@ use Rattle.ov_session.specs.Acting.{user_after}
 use Rattle.ov_session.specs.Asking.{line_asked}
 use Rattle.ov_session.specs.Bounds.{IsReading, may_fetch}
 use Rattle.ov_session.specs.Commands.{IsDamaged, is_comment_in}
+use Rattle.ov_session.specs.Reads.{Changes, Nothing, Once, Several, changes_of}
 use Rattle.ov_session.specs.Stepping.{IsStepDamaged}
 use Rattle.ov_session.specs.declared.serving.Served.{Served}
 use Rattle.ov_session.specs.declared.serving.Served.TheVariants as served
@@ -82,9 +83,15 @@ AllServed steps w s files lines taken still (Err _) before old new = Runs all_fo
 abbrev pub IsLineOf : List ℕ → List ℕ → Type 0
 IsLineOf text line = (before : List (List ℕ)) × (after : List (List ℕ)) × (lines_of text ≡ before ++ line ∷ after)
 
+-- what the store kept before a command that met damage: what it keeps, but of a command that may make several changes
+abbrev pub IsKeptBefore : Changes → Held → Held → Type 0
+IsKeptBefore Nothing entry held = entry ≡ held
+IsKeptBefore Once entry held = entry ≡ held
+IsKeptBefore Several entry held = Unit {0}
+
 -- A line of the script asked for what is damaged at this page, of the user who acts behind the lines before it, by the numbers that the
--- journal on the host says (of a `generate` with the versions that it made before, of a `migrate` with its steps), and by the files of
--- the stage, where it tells them.
+-- journal on the host says (of a `generate` with the versions that it made before, of what was kept at its entry; of a `migrate` with
+-- its steps), and by the files of the stage, where it tells them.
 pub record ReadsDamage (script : Script) (stage : Staged) (s : State) (page : ℕ) : Type 0 where
   pub before : List (List ℕ)
   pub line : List ℕ
@@ -95,7 +102,9 @@ pub record ReadsDamage (script : Script) (stage : Staged) (s : State) (page : �
   pub asks : line_asked user line ≡ Asks command
   pub held : Held
   pub numbers : s.tells ≡ true → IsByJournal held s
-  pub damaged : IsDamaged user command stage held held s page
+  pub entry : Held
+  pub kept : IsKeptBefore (changes_of command) entry held
+  pub damaged : IsDamaged user command stage entry held s page
 
 -- a line of a text has a reply, whoever asks it
 abbrev pub HasReply : List ℕ → Type 0

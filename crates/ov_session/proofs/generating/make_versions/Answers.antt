@@ -1,6 +1,6 @@
 use Rattle.std.proofs.Common.{◌≡◌, []}
 use Rattle.std.specs.Prelude.{None}
-use Rattle.ov_generate.specs.Making.{HasDamagedVersion}
+use Rattle.ov_generate.specs.Reads.{HasDamagedVersion}
 use Rattle.ov_model.specs.Act.{Session}
 use Rattle.ov_model.specs.Deed.{permitted}
 use Rattle.ov_model.specs.declared.command.Command.TheVariants as asks
@@ -43,7 +43,8 @@ returns-in-Err-clause-by_journal g c = λ by fine.
 
 pub returns-in-Err-clause-damaged : goal.returns-in-Err-clause-damaged
 returns-in-Err-clause-damaged g c =
-    result_damage (HasDamagedVersion c.generate.new.store.held c.args.wanted.cvd c.args.wanted.rows c.args.wanted.versions (g.H.Host.state c.generate.new.host)) c.in-Err.off c.refused.result
+    let a = c.args.wanted
+    in result_damage (HasDamagedVersion a.cvd a.seed a.rows a.versions c.args.store.now.held c.generate.new.store.held (g.H.Host.state c.generate.new.host)) c.in-Err.off c.refused.result
     c.refused.ensures.end c.in-Err.ensures.damaged
 
 pub returns-in-Err-clause-undamaged : goal.returns-in-Err-clause-undamaged
