@@ -1,6 +1,6 @@
 -- What a command keeps to that is served, by what the call that serves it says.
-use Rattle.std.proofs.Common.{◌≡◌, ℕ, List, refl, sym, ap, subst, arith}
-use Rattle.std.specs.Prelude.{IfErr, IfOk, IsErrOf, OnOk, Ok, Err, Result}
+use Rattle.std.proofs.Common.{◌≡◌, ℕ, List, refl, sym, subst, arith}
+use Rattle.std.specs.Prelude.{IfErr, IfOk, IsErrOf, Ok, Err, Result}
 use Rattle.ov_core.specs.AtWorld.{IsAtWorld}
 use Rattle.ov_host.specs.Host.{State}
 use Rattle.ov_host.specs.Stage.{Staged}

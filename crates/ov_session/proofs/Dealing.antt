@@ -1,5 +1,5 @@
 -- What a command is dealt with by, and that nothing is damaged at a World.
-use Rattle.std.proofs.Common.{◌≡◌, ◌∙◌, ℕ, List, [], Some, None, true, inl, inr, refl, sym, ap, subst}
+use Rattle.std.proofs.Common.{◌≡◌, ◌∙◌, ℕ, List, Some, None, true, inl, inr, refl, sym, ap, subst}
 use Rattle.std.specs.List.{AllZip}
 use Rattle.std.specs.Prelude.{IfErr, Ok, Err, Option, Result}
 use Rattle.ov_host.specs.declared.area.Area.{Area}
@@ -13,14 +13,11 @@ use Rattle.ov_new_version.specs.Joined.{RefusesJoined, joined_of}
 use Rattle.ov_value.specs.declared.column.Column.{Column}
 use Rattle.ov_core.specs.AtWorld.{IsAtWorld}
 use Rattle.ov_core.specs.Held.{Held}
-use Rattle.ov_model.specs.Act.{Session, checkout_deed, commit_deed}
-use Rattle.ov_model.specs.Deed.{permitted}
 use Rattle.ov_model.specs.Book.{Row}
 use Rattle.ov_read.specs.Damages.{IsDamage as IsDamageRead}
 use Rattle.ov_model.specs.World.{Dataset, World, set_named}
-use Rattle.ov_model.specs.declared.command.Command.TheVariants as asks
 use Rattle.ov_model.specs.declared.reply.Reply.{Reply}
-use Rattle.ov_session.specs.Commands.{Acts, AreRowsOf, IsCommitDamaged, IsDamageOf, IsNoDamage, IsNoHost, IsScanDamaged}
+use Rattle.ov_session.specs.Commands.{AreRowsOf, IsCommitDamaged, IsDamageOf, IsNoDamage, IsNoHost, IsScanDamaged}
 use Rattle.ov_session.specs.Errors.{end_of}
 use Rattle.ov_session.specs.Reads.{commit_row_off}
 use Rattle.ov_session.specs.declared.errors.EndErr.{EndErr}

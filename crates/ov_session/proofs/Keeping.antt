@@ -42,10 +42,10 @@ use Rattle.ov_store.specs.declared.errors.StoreErr.TheVariants as why
 use Rattle.ov_session.proofs.Calls.{stays_still}
 use Rattle.ov_session.proofs.Idling.{committed_none, done_none}
 use Rattle.ov_session.proofs.Standing.{the_end}
-use Rattle.ov_session.specs.Commands.{Acts, IfDamaged, IsDamageOf, IsNoHost}
+use Rattle.ov_session.specs.Commands.{Acts, IsDamageOf, IsNoHost}
 use Rattle.ov_session.specs.Errors.{end_of, reply_of}
 use Rattle.ov_session.specs.Staging.{keeps, with_merge}
-use Rattle.ov_session.specs.Standing.{Idle, IsAtSilently, IsBehindIt, IsIdleBehind}
+use Rattle.ov_session.specs.Standing.{IsAtSilently, IsBehindIt, IsIdleBehind}
 use Rattle.ov_session.specs.declared.errors.EndErr.{EndErr}
 use Rattle.ov_session.specs.declared.errors.EndErr.TheVariants as ending
 

@@ -1,25 +1,24 @@
 -- A checkout as a staged table and the commit of one: a look at the registry, and what comes behind it.
-use Rattle.std.proofs.Common.{◌≡◌, ◌≤◌, ◌∙◌, ◌⊎◌, inl, inr, ℕ, Bool, true, false, List, [], ◌∷◌, ◌++◌, refl, sym, ap, subst, arith}
+use Rattle.std.proofs.Common.{◌≡◌, ◌≤◌, ◌∙◌, ◌⊎◌, inl, inr, ℕ, Bool, true, false, List, [], refl, sym, ap, subst, arith}
 use Rattle.std.specs.Prelude.{◌+◌, IfErr, IfOk, IsErrOf, OnOk, Some, None, Option, Ok, Err, Result, is_some, length, nat_lt, not, option_map}
 use Rattle.std.specs.Option.{option_and_then, option_or}
 use Rattle.std.proofs.lemmas.Option.{same_Some}
 use Rattle.ov_catalog.specs.Numbers.{Numbers}
 use Rattle.ov_core.specs.AtWorld.{IsAtWorld}
-use Rattle.ov_core.specs.Held.{Held, IsByJournal}
+use Rattle.ov_core.specs.Held.{Held}
 use Rattle.ov_fetch.proofs.Looks.{looked_again}
-use Rattle.ov_fetch.specs.Extents.{Looked, page_bytes}
+use Rattle.ov_fetch.specs.Extents.{Looked}
 use Rattle.ov_host.specs.declared.area.Extent.{Extent}
 use Rattle.ov_host.specs.Host.{Rose, State}
 use Rattle.ov_host.specs.Stage.{Staged}
 use Rattle.ov_host.specs.Tape.{Tape}
 use Rattle.law_runs.proofs.Doing.{breaks_looked, does_told}
 use Rattle.law_runs.specs.Serving.{session_of}
-use Rattle.law_steps.specs.Turns.{running}
 use Rattle.ov_model.specs.Act.{Deed, Session, if_so, refuses}
 use Rattle.ov_model.specs.Book.{Row}
 use Rattle.ov_model.specs.Deed.{file_of_table, permitted, table_named}
 use Rattle.ov_model.specs.Registry.{stage_name, stage_schema, table_in}
-use Rattle.ov_model.specs.World.{World, set_named}
+use Rattle.ov_model.specs.World.{World}
 use Rattle.ov_model.specs.declared.command.Command.{Command}
 use Rattle.ov_model.specs.declared.command.Command.TheVariants as asks
 use Rattle.ov_model.specs.declared.refusal.Refusal.{Refusal}
@@ -59,7 +58,7 @@ use Rattle.ov_session.specs.Errors.{by_staging, reply_of}
 use Rattle.ov_session.specs.Reads.{staged_parents, staged_rows}
 use Rattle.ov_session.specs.Serving.{IsServed}
 use Rattle.ov_session.specs.Staging.{IsPutDamaged}
-use Rattle.ov_session.specs.Standing.{Idle, IsAtSilently, IsIdle, IsIdleBehind, IsIdleBy}
+use Rattle.ov_session.specs.Standing.{IsAtSilently, IsIdle, IsIdleBehind, IsIdleBy}
 use Rattle.ov_session.specs.declared.errors.EndErr.{EndErr}
 use Rattle.ov_session.specs.declared.errors.EndErr.TheVariants as ending
 

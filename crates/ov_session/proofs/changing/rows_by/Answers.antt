@@ -1,4 +1,4 @@
-use Rattle.std.proofs.Common.{◌≡◌, ◌∙◌, Err, sym, ap, refl}
+use Rattle.std.proofs.Common.{◌∙◌, Err, sym, ap, refl}
 use Rattle.ov_files.specs.Files.{result_of}
 use Rattle.ov_session.proofs.Replying.{refused_missed}
 use Rattle.ov_session.proofs.changing.rows_by.Goals as goal

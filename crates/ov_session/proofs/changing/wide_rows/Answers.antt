@@ -1,4 +1,3 @@
-use Rattle.std.proofs.Common.{◌≡◌, sym, ap}
 use Rattle.std.proofs.lemmas.Result.{IfOk-weaker}
 use Rattle.ov_session.proofs.Widening.{off_found, wide_found, wide_taken}
 use Rattle.ov_session.proofs.changing.wide_rows.Goals as goal

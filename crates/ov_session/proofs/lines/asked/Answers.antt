@@ -1,7 +1,6 @@
 use Rattle.std.proofs.Common.{◌∙◌, List, ℕ, sym, ap}
 use Rattle.std.specs.Prelude.{Option}
 use Rattle.ov_cmd.specs.Said.{said}
-use Rattle.ov_model.specs.Line.{Asks, Comment}
 use Rattle.ov_model.specs.Users.{line_by, permit, unless_denied}
 use Rattle.ov_model.specs.declared.refusal.Refusal.{Refusal}
 use Rattle.ov_session.specs.declared.lines.Unasked.TheVariants as unasked

@@ -1,4 +1,4 @@
-use Rattle.std.proofs.Common.{◌≡◌, ◌∙◌, ℕ, List, None, refl, sym, ap, subst}
+use Rattle.std.proofs.Common.{◌≡◌, ◌∙◌, ℕ, List, None, sym, ap, subst}
 use Rattle.std.specs.Prelude.{◌≤◌, ◌+◌, IfErr, Option}
 use Rattle.law_runs.specs.Serving.{session_of}
 use Rattle.ov_model.specs.Act.{columns_of, commit_deed}
@@ -8,14 +8,10 @@ use Rattle.ov_value.specs.declared.column.Column.{Column}
 use Rattle.ov_host.specs.Host.{State}
 use Rattle.ov_model.specs.declared.command.Command.{Command}
 use Rattle.ov_model.specs.declared.command.Command.TheVariants as asks
-use Rattle.ov_store.proofs.Finishing.{may_call_later}
-use Rattle.ov_store.specs.Scanning.{scan_off, set_in}
+use Rattle.ov_store.specs.Scanning.{set_in}
 use Rattle.ov_session.proofs.Answered.{spared_damage}
 use Rattle.ov_session.proofs.Bounds.{fetched_allowed, fetched_still, off_there}
-use Rattle.ov_session.proofs.Numbering.{journal_looked}
-use Rattle.ov_session.proofs.Replying.{seen_missed}
-use Rattle.ov_session.proofs.Rows.{checkout_damaged, checkout_idle, checkout_met, damages_wider, fetched_refused, map_ok, refused_there}
-use Rattle.ov_session.proofs.Standing.{at_looked, on_any}
+use Rattle.ov_session.proofs.Standing.{on_any}
 use Rattle.ov_session.specs.Bounds.{bytes_in}
 use Rattle.ov_session.specs.Commands.{Acts, IsCommitDamaged, IsDamageOf}
 use Rattle.ov_session.specs.Reads.{commit_row_off}

@@ -1,8 +1,6 @@
-use Rattle.std.proofs.Common.{◌≡◌, ℕ, List, refl, sym, ap, subst}
-use Rattle.std.specs.Prelude.{Ok, Result}
+use Rattle.std.proofs.Common.{refl, sym, ap, subst}
 use Rattle.std.proofs.lemmas.Result.{IfOk-weaker}
 use Rattle.ov_host.specs.Host.{State}
-use Rattle.ov_host.specs.Stage.{Staged}
 use Rattle.law_runs.specs.Serving.{session_of}
 use Rattle.ov_model.specs.Act.{tells}
 use Rattle.ov_model.specs.declared.command.Command.{Command}

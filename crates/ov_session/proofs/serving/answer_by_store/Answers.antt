@@ -1,8 +1,6 @@
-use Rattle.std.proofs.Common.{◌≡◌, ℕ, List, Some, None, refl, sym, ap, subst}
-use Rattle.std.specs.Prelude.{Ok, Result}
+use Rattle.std.proofs.Common.{◌≡◌, None, refl, sym, ap, subst}
 use Rattle.std.proofs.lemmas.Bool.{not-false}
 use Rattle.ov_host.specs.Host.{State}
-use Rattle.ov_host.specs.Stage.{Staged}
 use Rattle.law_runs.specs.Serving.{session_of}
 use Rattle.law_steps.specs.Turns.{running}
 use Rattle.ov_model.specs.Formed.{IsAsked}

@@ -1,5 +1,5 @@
 use Rattle.std.proofs.Common.{◌≡◌, ◌∙◌, false, sym, ap, arith, refl, subst, rules, inl}
-use Rattle.std.specs.Prelude.{Err, IsErrOf, Ok, Option, Result, is_ok}
+use Rattle.std.specs.Prelude.{Err, IsErrOf, Ok, Result, is_ok}
 use Rattle.ov_cmd.specs.Asked.{AsksAny}
 use Rattle.ov_cmd.specs.Said.{said}
 use Rattle.ov_session.specs.declared.errors.EndErr.{EndErr}

@@ -1,4 +1,4 @@
-use Rattle.std.proofs.Common.{◌≡◌, ℕ, List, None, Option, Some, refl, sym, ap, subst}
+use Rattle.std.proofs.Common.{ℕ, List, None, Option, refl, sym, ap, subst}
 use Rattle.ov_host.specs.Host.{State}
 use Rattle.ov_model.specs.declared.command.Command.TheVariants as asks
 use Rattle.ov_store.proofs.Finishing.{may_call_later}

@@ -1,4 +1,4 @@
-use Rattle.std.proofs.Common.{◌≡◌, ◌∙◌, ◌≤◌, ◌+◌, ℕ, List, [], None, Some, true, refl, sym, ap, subst, arith}
+use Rattle.std.proofs.Common.{◌≡◌, ◌∙◌, ◌≤◌, ◌+◌, ℕ, List, [], None, Some, sym, subst, arith}
 use Rattle.std.specs.Prelude.{IfErr, IsErrOf, Result}
 use Rattle.law_runs.specs.Serving.{session_of}
 use Rattle.ov_model.specs.Act.{Deed, commit_deed}

@@ -14,7 +14,7 @@ use Rattle.ov_session.proofs.Idling.{refused_none}
 use Rattle.ov_session.proofs.Keeping.{changed_behind, changed_none, done_at, given_acts, given_behind, off_acts, off_alone, off_damaged, off_idle, off_usable, said}
 use Rattle.ov_session.proofs.Numbering.{journal_off}
 use Rattle.ov_session.proofs.Replying.{result_seen}
-use Rattle.ov_session.proofs.Standing.{at_refused, at_still, on_any}
+use Rattle.ov_session.proofs.Standing.{at_refused, on_any}
 use Rattle.ov_session.specs.Errors.{reply_of}
 use Rattle.ov_session.specs.Staging.{keeps, with_merge}
 use Rattle.ov_session.proofs.staging.keep_table.Goals as goal

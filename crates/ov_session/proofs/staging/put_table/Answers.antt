@@ -1,14 +1,12 @@
-use Rattle.std.proofs.Common.{◌≡◌, ◌∙◌, ◌≤◌, ◌+◌, ℕ, List, inl, rules, refl, sym, ap, subst, arith}
-use Rattle.std.specs.Prelude.{IfErr, None, Some}
+use Rattle.std.proofs.Common.{◌≡◌, ◌∙◌, ◌≤◌, ◌+◌, ℕ, List, inl, ap, subst, arith}
+use Rattle.std.specs.Prelude.{Some}
 use Rattle.law_runs.specs.Serving.{session_of}
-use Rattle.ov_core.specs.AtWorld.{IsAtWorld}
 use Rattle.ov_model.specs.Registry.{stage_name}
-use Rattle.ov_model.specs.World.{Dataset, set_named}
+use Rattle.ov_model.specs.World.{set_named}
 use Rattle.ov_store.proofs.Finishing.{may_call_later}
 use Rattle.ov_store.proofs.Looking.{looked_at}
 use Rattle.ov_store.specs.Scanning.{IsDamagedIn, IsUnscanned, scan_off, set_in}
-use Rattle.ov_session.proofs.Dealing.{damage_wider, result_spared, scan_damaged, scan_spared}
-use Rattle.ov_session.proofs.Idling.{refused_none}
+use Rattle.ov_session.proofs.Dealing.{result_spared, scan_damaged, scan_spared}
 use Rattle.ov_session.proofs.Keeping.{acts_later, off_alone}
 use Rattle.ov_session.proofs.Lookups.{named_is}
 use Rattle.ov_session.proofs.Numbering.{journal_looked}
@@ -17,7 +15,6 @@ use Rattle.ov_session.proofs.Replying.{result_seen}
 use Rattle.ov_session.proofs.Rows.{damages_wider}
 use Rattle.ov_session.proofs.Standing.{at_looked, on_any}
 use Rattle.ov_session.specs.Bounds.{bytes_in}
-use Rattle.ov_session.specs.Commands.{IsMergeOf}
 use Rattle.ov_session.specs.Staging.{keeps}
 use Rattle.ov_session.proofs.staging.put_table.Goals as goal
 

@@ -1,4 +1,4 @@
-use Rattle.std.proofs.Common.{◌≡◌, ◌∙◌, ◌+◌, ℕ, List, [], None, Some, true, false, refl, sym, ap, subst, arith}
+use Rattle.std.proofs.Common.{◌≡◌, ◌∙◌, ◌+◌, ℕ, List, [], None, Some, true, false, refl, sym, subst, arith}
 use Rattle.std.specs.Prelude.{IfErr, Result}
 use Rattle.law_runs.specs.Serving.{session_of}
 use Rattle.ov_model.specs.Act.{Deed, repeated_key}
