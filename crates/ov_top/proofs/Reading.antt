@@ -27,7 +27,6 @@ use Rattle.ov_model.specs.declared.refusal.Refusal.TheVariants.{LongLine}
 use Rattle.ov_model.specs.declared.reply.Reply.{Reply}
 use Rattle.ov_store.specs.Committing.{IfSet, Set, schema_for}
 use Rattle.ov_store.specs.Kept.{Kept}
-use Rattle.ov_store.specs.Scanning.{set_in}
 use Rattle.ov_session.specs.Acting.{user_after}
 use Rattle.ov_session.specs.Asking.{line_asked}
 use Rattle.ov_session.specs.Bounds.{IsFetchedBy, IsReading, IsReadingCommand, may_fetch}
@@ -287,7 +286,7 @@ module _ (user x : List ℕ) (before now : Kept) (script : Script) (stage staged
   command_damage page by is =
       let met = is.damaged
       in let since = now_damaged before now stage staged old new told Pages page user met.0
-          (subst (λ (l : Line). IsIdleOn l (ending.Damaged Pages page) before now stage staged old new) met.1 is.idle) met.2
+      (subst (λ (l : Line). IsIdleOn l (ending.Damaged Pages page) before now stage staged old new) met.1 is.idle) met.2
       in record {
         before = gone;
         line = x;
