@@ -1,0 +1,51 @@
+-- Pairs of a version and a position in the order of their ranks, and those below a bound.
+--     sorted_by order xs      the stable sort by an order, as insertion makes it
+--     pair_order a b      by rank, then by version, then by key; rank_order a b, by rank alone
+--     is_low bound pair      whether the rank is below the bound
+--     pairs_in version ranks keys spans      the pairs of a version at its ranges; pairs_of ranks keys versions, of versions, which are numbered from 0 on
+use Rattle.std.specs.Prelude.{ℕ, zero, suc, ◌-◌, slice_index_or, Bool, true, false, nat_lt, if◌then◌else◌, List, [], ◌∷◌, ◌++◌, map}
+use Rattle.std.specs.Ordering.{nat_cmp, ordering_then}
+use Rattle.std.specs.declared.cmp.Ordering.{Ordering}
+use Rattle.std.specs.declared.cmp.Ordering.TheVariants.{Greater}
+use Rattle.ov_tally.specs.declared.first.Pair.{Pair}
+use Rattle.ov_tally.specs.declared.span.Span.{Span}
+use Rattle.ov_tally.specs.Spans.{Spans, places_in}
+
+abbrev pub is_above : Ordering → Bool
+is_above Greater = true
+is_above _ = false
+
+abbrev pub placed_by : {X : Type 0} → (X → X → Ordering) → X → List X → List X
+placed_by order x [] = x ∷ []
+placed_by order x (y ∷ ys) = if is_above (order x y) then y ∷ placed_by order x ys else x ∷ y ∷ ys
+
+abbrev pub sorted_by : {X : Type 0} → (X → X → Ordering) → List X → List X
+sorted_by order [] = []
+sorted_by order (x ∷ xs) = placed_by order x (sorted_by order xs)
+
+abbrev pub rank_order : Pair → Pair → Ordering
+rank_order a b = nat_cmp a.rank b.rank
+
+-- the order that a version's rows stand in, version by version
+abbrev pub row_order : Pair → Pair → Ordering
+row_order a b = ordering_then (nat_cmp a.version b.version) (nat_cmp a.key b.key)
+
+abbrev pub pair_order : Pair → Pair → Ordering
+pair_order a b = ordering_then (rank_order a b) (row_order a b)
+
+abbrev pub is_low : ℕ → Pair → Bool
+is_low bound p = nat_lt p.rank bound
+
+abbrev pub pair_at : ℕ → List ℕ → List ℕ → ℕ → Pair
+pair_at version ranks keys place = record { rank = slice_index_or ranks place 0; version = version; key = slice_index_or keys place 0; place = place }
+
+abbrev pub pairs_in : ℕ → List ℕ → List ℕ → List Span → List Pair
+pairs_in version ranks keys spans = map (pair_at version ranks keys) (places_in spans)
+
+-- of versions that are numbered from a number on
+abbrev pub pairs_from : ℕ → List ℕ → List ℕ → List Spans → List Pair
+pairs_from version ranks keys [] = []
+pairs_from version ranks keys (spans ∷ versions) = pairs_in version ranks keys spans.items ++ pairs_from (suc version) ranks keys versions
+
+abbrev pub pairs_of : List ℕ → List ℕ → List Spans → List Pair
+pairs_of ranks keys versions = pairs_from 0 ranks keys versions

@@ -1,0 +1,15 @@
+//! Sums, counts and the first rows over ranges of positions, a step for each range and for each position.
+//! Many versions share the rows of one table, and each has those at some ranges of its positions, its [`Span`]s. [`totals`] and
+//! [`sum_over`] add up what stands there, [`times_of`] counts the versions that have each position, and [`low_in`] and
+//! [`first_of`] give the first rows of an order. What is added up and what ranks stand for is the caller's.
+#![tactic(auto)]
+
+mod first;
+mod span;
+mod sums;
+mod times;
+
+pub use first::{Pair, first_of, low_in};
+pub use span::Span;
+pub use sums::{sum_over, totals};
+pub use times::times_of;
