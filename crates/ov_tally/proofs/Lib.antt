@@ -2,3 +2,4 @@ pub mod Cutting
 pub mod Marks
 pub mod Ranges
 pub mod Sorting
+pub mod Tallies

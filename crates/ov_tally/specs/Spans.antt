@@ -4,9 +4,9 @@
 --     IsBelow count span      a range of the positions before the last of so many; AreBelow count spans, all ranges of a version
 --     AreApart spans      ranges that ascend, each from the end of the one before it on or behind it
 --     covers spans p      how many of these ranges have a position; times versions p, of the ranges of all versions
---     how_often places p      how often a position is among some
-use Rattle.std.specs.Prelude.{ℕ, zero, suc, ◌-◌, ◌≤◌, ◌<◌, ◌^◌, ◌==◌, nat_lt, cond, List, [], ◌∷◌, length}
-use Rattle.std.specs.List.{All, count_by, flat_map, sum_by}
+--     has places p      whether a position is among some; how_often places p, how often it is
+use Rattle.std.specs.Prelude.{ℕ, zero, suc, ◌-◌, ◌≤◌, ◌<◌, ◌^◌, ◌==◌, Bool, nat_lt, cond, List, [], ◌∷◌, length}
+use Rattle.std.specs.List.{All, count_by, flat_map, list_any, sum_by}
 use Rattle.std.specs.declared.alloc.Global.{Global}
 use Rattle.std.specs.declared.vec.Vec.{Vec}
 use Rattle.ov_tally.specs.declared.span.Span.{Span}
@@ -51,6 +51,9 @@ covers spans p = sum_by (in_span p) spans
 
 abbrev pub times : List Spans → ℕ → ℕ
 times versions p = sum_by (λ spans. covers spans.items p) versions
+
+abbrev pub has : List ℕ → ℕ → Bool
+has places p = list_any (λ q. q == p) places
 
 abbrev pub how_often : List ℕ → ℕ → ℕ
 how_often places p = count_by (λ q. q == p) places

@@ -1,0 +1,25 @@
+//! Laws about ranges and what is counted of them. Each is the contract of a function that does nothing.
+
+ghost use Rattle.std.specs.Prelude.{◌≡◌, ◌+◌, ◌*◌, ℕ, ℤ, pos, ◌*ℤ◌, List, cond};
+ghost use Rattle.std.specs.List.{All, count_by, sum_by};
+ghost use Rattle.ov_tally.specs.Running.{sum_of};
+ghost use Rattle.ov_tally.specs.Spans.{AreApart, AreBelow, Spans, covers, has, how_often, places_in, places_of, run, times};
+ghost use Rattle.ov_tally.specs.declared.span.Span.{Span};
+
+/// A position is in as many ranges as it is among their positions, whatever the ranges are.
+pub fn times_are_places()
+    ensures ranges { (spans : List Span) (p : ℕ) → covers spans p ≡ how_often (places_in spans) p }
+    ensures versions { (versions : List Spans) (p : ℕ) → times versions p ≡ how_often (places_of versions) p }
+{}
+
+/// Of ranges that are apart one at most has a position, so that the ranges of all versions count versions.
+pub fn each_once()
+    ensures ranges { (spans : List Span) (p : ℕ) → AreApart spans → covers spans p ≡ cond (has (places_in spans) p) 1 0 }
+    ensures versions { (versions : List Spans) (p : ℕ) → All (λ spans. AreApart spans.items) versions → times versions p ≡ count_by (λ spans. has (places_in spans.items) p) versions }
+{}
+
+/// What is added up over the positions of all versions is added up over the positions once, each as often as versions have it.
+pub fn counted_sum()
+    ensures counts { (f : ℕ → ℕ) (count : ℕ) (versions : List Spans) → All (AreBelow (count + 1)) versions → sum_by f (places_of versions) ≡ sum_by (λ p. times versions p * f p) (run 0 count) }
+    ensures sums { (f : ℕ → ℤ) (count : ℕ) (versions : List Spans) → All (AreBelow (count + 1)) versions → sum_of f (places_of versions) ≡ sum_of (λ p. pos (times versions p) *ℤ f p) (run 0 count) }
+{}
