@@ -3,3 +3,4 @@ pub mod Marks
 pub mod Ranges
 pub mod Sorting
 pub mod Tallies
+pub mod Ties

@@ -132,7 +132,7 @@ pub sorted-kept : {X : Type 0} (R : X → X → Ordering) (q : X → Bool) → (
 sorted-kept R q unlike [] = refl
 sorted-kept R q unlike (x ∷ xs) = placed-kept R q unlike x (sorted_by R xs) ∙ ap (λ l. cond (q x) (x ∷ l) l) (sorted-kept R q unlike xs)
 
-abbrev below : {X : Type 0} → (X → X → Ordering) → X → X → Bool
+abbrev pub below : {X : Type 0} → (X → X → Ordering) → X → X → Bool
 below R x y = is_lt (R x y)
 
 tied : (o : Ordering) → (not (is_lt o) && not (is_lt (ordering_reverse o))) ≡ true → o ≡ Equal
@@ -140,13 +140,13 @@ tied Less e = absurd (true≢false (sym e))
 tied Equal e = refl
 tied Greater e = absurd (true≢false (sym e))
 
-tie : {X : Type 0} (R : X → X → Ordering) (t : IsTotalOrder R) (z x : X) → ties (below R) z x ≡ true → R z x ≡ Equal
+pub tie : {X : Type 0} (R : X → X → Ordering) (t : IsTotalOrder R) (z x : X) → ties (below R) z x ≡ true → R z x ≡ Equal
 tie R t z x e = tied (R z x) (ap (λ o. not (is_lt (R z x)) && not (is_lt o)) (sym (t.antisymm x z)) ∙ e)
 
-apart : (o : Ordering) → o ≡ Equal → is_above o ≡ true → ⊥
+pub apart : (o : Ordering) → o ≡ Equal → is_above o ≡ true → ⊥
 apart o e above = true≢false (sym above ∙ ap is_above e)
 
-ties-together : {X : Type 0} (R : X → X → Ordering) (t : IsTotalOrder R) (z x y : X) → ties (below R) z x ≡ true → ties (below R) z y ≡ true
+pub ties-together : {X : Type 0} (R : X → X → Ordering) (t : IsTotalOrder R) (z x y : X) → ties (below R) z x ≡ true → ties (below R) z y ≡ true
     → is_above (R x y) ≡ true → ⊥
 ties-together R t z x y ex ey above = apart (R x y) (sym (t.congr z x y (tie R t z x ex)) ∙ tie R t z y ey) above
 

@@ -3,7 +3,11 @@
 --     pair_order a b      by rank, then by version, then by key; rank_order a b, by rank alone
 --     is_low bound pair      whether the rank is below the bound
 --     pairs_in version ranks keys spans      the pairs of a version at its ranges; pairs_of ranks keys versions, of versions, which are numbered from 0 on
-use Rattle.std.specs.Prelude.{ℕ, zero, suc, ◌-◌, slice_index_or, Bool, true, false, nat_lt, if◌then◌else◌, List, [], ◌∷◌, ◌++◌, map}
+--     rows_of ranks keys picks      the rows of versions, each version's at its positions in the order of these
+--     InKeyOrder keys spans pick      the positions of a version's ranges in the order of their keys, no two of which are the same
+use Rattle.std.specs.Prelude.{ℕ, zero, suc, ◌-◌, ◌<◌, slice_index_or, Bool, true, false, nat_lt, if◌then◌else◌, List, [], ◌∷◌, ◌++◌, map}
+use Rattle.std.specs.List.{AllByRecursion}
+use Rattle.std.specs.List.Sorted.{IsPermutation}
 use Rattle.std.specs.Ordering.{nat_cmp, ordering_then}
 use Rattle.std.specs.declared.cmp.Ordering.{Ordering}
 use Rattle.std.specs.declared.cmp.Ordering.TheVariants.{Greater}
@@ -49,3 +53,19 @@ pairs_from version ranks keys (spans ∷ versions) = pairs_in version ranks keys
 
 abbrev pub pairs_of : List ℕ → List ℕ → List Spans → List Pair
 pairs_of ranks keys versions = pairs_from 0 ranks keys versions
+
+abbrev pub rows_from : ℕ → List ℕ → List ℕ → List (List ℕ) → List Pair
+rows_from version ranks keys [] = []
+rows_from version ranks keys (pick ∷ picks) = map (pair_at version ranks keys) pick ++ rows_from (suc version) ranks keys picks
+
+abbrev pub rows_of : List ℕ → List ℕ → List (List ℕ) → List Pair
+rows_of ranks keys picks = rows_from 0 ranks keys picks
+
+-- the key at each of these positions is below those at all later ones
+abbrev pub KeysRise : List ℕ → List ℕ → Type 0
+KeysRise keys [] = Unit {0}
+KeysRise keys (p ∷ pick) = AllByRecursion (λ q. slice_index_or keys p 0 < slice_index_or keys q 0) pick × KeysRise keys pick
+
+pub record InKeyOrder (keys : List ℕ) (spans : Spans) (pick : List ℕ) : Type 0 where
+  pub same : IsPermutation (places_in spans.items) pick
+  pub rise : KeysRise keys pick

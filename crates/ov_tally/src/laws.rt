@@ -1,7 +1,8 @@
 //! Laws about ranges and what is counted of them. Each is the contract of a function that does nothing.
 
-ghost use Rattle.std.specs.Prelude.{◌≡◌, ◌+◌, ◌*◌, ℕ, ℤ, pos, ◌*ℤ◌, List, cond};
-ghost use Rattle.std.specs.List.{All, count_by, sum_by};
+ghost use Rattle.std.specs.Prelude.{◌≡◌, ◌+◌, ◌*◌, ℕ, ℤ, pos, ◌*ℤ◌, List, cond, filter, length, nat_lt, slice_index_or};
+ghost use Rattle.std.specs.List.{All, AllZip, count_by, sum_by};
+ghost use Rattle.ov_tally.specs.Ranks.{InKeyOrder, is_low, pair_order, pairs_of, rank_order, rows_of, sorted_by};
 ghost use Rattle.ov_tally.specs.Running.{sum_of};
 ghost use Rattle.ov_tally.specs.Spans.{AreApart, AreBelow, Spans, covers, has, how_often, places_in, places_of, run, times};
 ghost use Rattle.ov_tally.specs.declared.span.Span.{Span};
@@ -22,4 +23,15 @@ pub fn each_once()
 pub fn counted_sum()
     ensures counts { (f : ℕ → ℕ) (count : ℕ) (versions : List Spans) → All (AreBelow (count + 1)) versions → sum_by f (places_of versions) ≡ sum_by (λ p. times versions p * f p) (run 0 count) }
     ensures sums { (f : ℕ → ℤ) (count : ℕ) (versions : List Spans) → All (AreBelow (count + 1)) versions → sum_of f (places_of versions) ≡ sum_of (λ p. pos (times versions p) *ℤ f p) (run 0 count) }
+{}
+
+/// Pairs in order are the rows of the versions as these are listed, each version's in the order of its keys, in the stable order
+/// of the ranks alone, whatever order the pairs and the positions of the versions had.
+pub fn ranked_rows()
+    ensures { (ranks keys : List ℕ) (versions : List Spans) (picks : List (List ℕ)) → AllZip (InKeyOrder keys) versions picks → sorted_by pair_order (pairs_of ranks keys versions) ≡ sorted_by rank_order (rows_of ranks keys picks) }
+{}
+
+/// As many pairs are below a bound as the positions whose rank is below it, each as often as versions have it.
+pub fn low_count()
+    ensures { (ranks keys : List ℕ) (bound count : ℕ) (versions : List Spans) → All (AreBelow (count + 1)) versions → length (filter (is_low bound) (pairs_of ranks keys versions)) ≡ sum_by (λ p. times versions p * cond (nat_lt (slice_index_or ranks p 0) bound) 1 0) (run 0 count) }
 {}
