@@ -1,17 +1,20 @@
 -- What is low stands in front of the rest.
-use Rattle.std.proofs.Common.{map, ◌≡◌, ◌≤◌, ◌<◌, ◌+◌, ◌++◌, ◌∷◌, ◌∙◌, [], ℕ, zero, suc, List, Bool, true, false, not, cond, if◌then◌else◌, refl, sym, ap, ap₂, arith, length, take, filter, true≢false, get_or, ◌-◌, append_assoc, append-nil}
+use Rattle.std.proofs.Common.{add-one, drop, drop-cons, map, ◌≡◌, ◌≤◌, ◌<◌, ◌+◌, ◌++◌, ◌∷◌, ◌∙◌, [], ℕ, zero, suc, List, Bool, true, false, not, cond, if◌then◌else◌, refl, sym, ap, ap₂, arith, length, take, filter, true≢false, get_or, ◌-◌, append_assoc, append-nil}
 use Rattle.std.specs.List.{AllByRecursion}
 use Rattle.std.specs.declared.cmp.Ordering.{Ordering}
 use Rattle.std.specs.Prelude.{nat_lt}
 use Rattle.std.specs.Ordering.{nat_cmp, ordering_then}
+use Rattle.std.proofs.Math.ListN.{drop_of_length-le}
+use Rattle.std.proofs.lemmas.List.{map-append}
+use Rattle.std.proofs.lemmas.List.Elements.{filter-append}
 use Rattle.std.specs.Cmp.{IsTotalOrder, nat_cmp_is}
 use Rattle.std.proofs.lemmas.Cmp.{nat_cmp_total, on_total, then_total}
 use Rattle.std.specs.declared.cmp.Ordering.TheVariants.{Less, Greater}
 use Rattle.std.proofs.lemmas.Bool.{ltb-true, ltb-false}
 use Rattle.ov_tally.specs.declared.first.Pair.{Pair}
 use Rattle.ov_tally.specs.declared.span.Span.{Span}
-use Rattle.ov_tally.specs.Ranks.{is_above, is_low, pair_at, pair_order, pairs_in, placed_by, row_order, sorted_by}
-use Rattle.ov_tally.specs.Spans.{run}
+use Rattle.ov_tally.specs.Ranks.{is_above, is_low, pair_at, pair_order, pairs_from, pairs_in, placed_by, row_order, sorted_by}
+use Rattle.ov_tally.specs.Spans.{Spans, places_in, run}
 use Rattle.ov_tally.proofs.Sorting.{sorted-all}
 
 module _ {X : Type 0} (o : X → X → Ordering) (low : X → Bool) where
@@ -109,9 +112,9 @@ ranks_down bound = (λ x y lx ly. low_here x.rank y.rank bound (row_order x y) l
 pub pairs_total : IsTotalOrder pair_order
 pairs_total = then_total (on_total (λ (p : Pair). p.rank) nat_cmp_total) (then_total (on_total (λ (p : Pair). p.version) nat_cmp_total) (on_total (λ (p : Pair). p.key) nat_cmp_total))
 
-pub first_ranked : (bound k : ℕ) (pairs kept sorted : List Pair) → kept ≡ filter (is_low bound) pairs → sorted ≡ sorted_by pair_order kept → k ≤ length (filter (is_low bound) pairs)
-    → take k sorted ≡ take k (sorted_by pair_order pairs)
-first_ranked bound k pairs kept sorted is order few = ap (take k) (order ∙ ap (sorted_by pair_order) is) ∙ sym (first_low pair_order (is_low bound) (ranks_down bound) k pairs few)
+pub first_ranked : (bound k : ℕ) (pairs kept first : List Pair) → kept ≡ filter (is_low bound) pairs → first ≡ take k (sorted_by pair_order kept) → k ≤ length (filter (is_low bound) pairs)
+    → first ≡ take k (sorted_by pair_order pairs)
+first_ranked bound k pairs kept first is order few = order ∙ ap (λ l. take k (sorted_by pair_order l)) is ∙ sym (first_low pair_order (is_low bound) (ranks_down bound) k pairs few)
 
 -- the pairs of a range
 abbrev pub pairs_at : ℕ → List ℕ → List ℕ → ℕ → ℕ → List Pair
@@ -152,3 +155,45 @@ unfolding run
 none_left version ranks keys place past bound kept all over before =
     let e : past - place ≡ 0 = omega (arith, over) in
     sym (append-nil kept) ∙ ap (λ n. kept ++ filter (is_low bound) (map (pair_at version ranks keys) (run place n))) (sym e) ∙ before
+
+-- a part more
+part_more : (bound : ℕ) (kept new one rest all : List Pair) → new ≡ kept ++ filter (is_low bound) one → kept ++ filter (is_low bound) (one ++ rest) ≡ all → new ++ filter (is_low bound) rest ≡ all
+part_more bound kept new one rest all push before =
+    ap (λ l. l ++ filter (is_low bound) rest) push ∙ append_assoc kept (filter (is_low bound) one) (filter (is_low bound) rest) ∙ ap (λ l. kept ++ l) (sym (filter-append (is_low bound) one rest)) ∙ before
+
+-- a range more of a version
+pub span_more : (version : ℕ) (ranks keys : List ℕ) (spans : List Span) (i bound : ℕ) (d : Span) (kept new all : List Pair) → i < length spans
+    → new ≡ kept ++ filter (is_low bound) (pairs_in version ranks keys (get_or spans i d ∷ []))
+    → kept ++ filter (is_low bound) (pairs_in version ranks keys (drop i spans)) ≡ all → new ++ filter (is_low bound) (pairs_in version ranks keys (drop (i + 1) spans)) ≡ all
+span_more version ranks keys spans i bound d kept new all low push before =
+    part_more bound kept new (pairs_in version ranks keys (s ∷ [])) (pairs_in version ranks keys (drop (i + 1) spans)) all push (ap (λ l. kept ++ filter (is_low bound) l) (sym whole) ∙ before)
+  where
+    s : Span
+    s = get_or spans i d
+
+    front : drop i spans ≡ s ∷ drop (i + 1) spans
+    front = rw (add-one i) (drop-cons spans i d low)
+
+    whole : pairs_in version ranks keys (drop i spans) ≡ pairs_in version ranks keys (s ∷ []) ++ pairs_in version ranks keys (drop (i + 1) spans)
+    whole = ap (pairs_in version ranks keys) front ∙ map-append (pair_at version ranks keys) (run s.first (s.past - s.first)) (places_in (drop (i + 1) spans))
+        ∙ ap (λ l. l ++ pairs_in version ranks keys (drop (i + 1) spans)) (sym (one_range version ranks keys s))
+
+-- a version more
+pub version_more : (ranks keys : List ℕ) (versions : List Spans) (i bound version : ℕ) (s : Spans) (spans : List Span) (kept new all : List Pair) → i < length versions → version ≡ i → s ≡ get_or versions i s → spans ≡ s.items
+    → new ≡ kept ++ filter (is_low bound) (pairs_in version ranks keys spans)
+    → kept ++ filter (is_low bound) (pairs_from i ranks keys (drop i versions)) ≡ all → new ++ filter (is_low bound) (pairs_from (i + 1) ranks keys (drop (i + 1) versions)) ≡ all
+version_more ranks keys versions i bound version s spans kept new all low number here are push before =
+    part_more bound kept new (pairs_in i ranks keys s.items) (pairs_from (i + 1) ranks keys (drop (i + 1) versions)) all
+    (push ∙ ap₂ (λ n l. kept ++ filter (is_low bound) (pairs_in n ranks keys l)) number are) (ap (λ l. kept ++ filter (is_low bound) l) (sym whole) ∙ before)
+  where
+    front : drop i versions ≡ s ∷ drop (i + 1) versions
+    front = rw (add-one i) (drop-cons versions i s low) ∙ ap (λ v. v ∷ drop (i + 1) versions) (sym here)
+
+    whole : pairs_from i ranks keys (drop i versions) ≡ pairs_in i ranks keys s.items ++ pairs_from (i + 1) ranks keys (drop (i + 1) versions)
+    whole = ap (pairs_from i ranks keys) front ∙ ap (λ n. pairs_in i ranks keys s.items ++ pairs_from n ranks keys (drop (i + 1) versions)) (sym (add-one i))
+
+pub all_kept : (bound n : ℕ) (ranks keys : List ℕ) (versions : List Spans) (i : ℕ) (kept all : List Pair) → length versions ≤ i → kept ++ filter (is_low bound) (pairs_from n ranks keys (drop i versions)) ≡ all → kept ≡ all
+all_kept bound n ranks keys versions i kept all past before = sym (ap (λ l. kept ++ filter (is_low bound) (pairs_from n ranks keys l)) (drop_of_length-le versions past) ∙ append-nil kept) ∙ before
+
+pub spans_kept : (bound n : ℕ) (ranks keys : List ℕ) (spans : List Span) (i : ℕ) (kept all : List Pair) → length spans ≤ i → kept ++ filter (is_low bound) (pairs_in n ranks keys (drop i spans)) ≡ all → kept ≡ all
+spans_kept bound n ranks keys spans i kept all past before = sym (ap (λ l. kept ++ filter (is_low bound) (pairs_in n ranks keys l)) (drop_of_length-le spans past) ∙ append-nil kept) ∙ before

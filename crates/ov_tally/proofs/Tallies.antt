@@ -1,10 +1,12 @@
 -- What is counted of ranges, and their positions.
-use Rattle.std.proofs.Common.{◌≡◌, ◌<◌, ◌≤◌, ◌+◌, ◌-◌, ◌*◌, ◌∷◌, ◌++◌, ◌∙◌, [], ℕ, zero, suc, List, Bool, true, false, cond, refl, sym, ap, ap₂, arith, length, true≢false}
-use Rattle.std.specs.Prelude.{ℤ, pos, nat_abs, nat_lt, ◌+ℤ◌, ◌*ℤ◌, ◌==◌, ◌⊎◌, ◌||◌}
-use Rattle.std.specs.List.{All, AllByRecursion, count_by, sum_by}
-use Rattle.std.proofs.Math.IntN.{+ℤ_assoc, +ℤ_comm, +ℤ_idl, suc_ℤ-*ℤ, zero-*ℤ}
+use Rattle.std.proofs.Common.{◌≡◌, ◌<◌, ◌≤◌, ◌+◌, ◌-◌, ◌*◌, ◌∷◌, ◌++◌, ◌∙◌, [], ℕ, zero, suc, List, Bool, true, false, cond, refl, sym, ap, ap₂, arith, replicate, subst}
+use Rattle.std.specs.Prelude.{ℤ, pos, nat_abs, nat_lt, ◌+ℤ◌, ◌*ℤ◌, ◌==◌, ◌||◌}
+use Rattle.std.specs.List.{All, AllByRecursion, count_by, flat_map, sum_by}
+use Rattle.std.specs.List.Sorted.{IsPermutation}
+use Rattle.std.proofs.Math.IntN.{+ℤ_assoc, +ℤ_comm, suc_ℤ-*ℤ, zero-*ℤ}
 use Rattle.std.proofs.lemmas.Bool.{eqb-true, eq-eqb, ltb-true, ltb-false, ne_eqb, eqb-false}
 use Rattle.std.proofs.lemmas.List.Elements.{recursion_from_All}
+use Rattle.std.proofs.lemmas.List.Sorted.{IsPermutation-append_right, IsPermutation-cons, IsPermutation-middle, IsPermutation-refl, IsPermutation-trans}
 use Rattle.std.proofs.lemmas.List.Sums.{sum_by-append, sum_by-cons}
 use Rattle.ov_tally.specs.Running.{sum_of}
 use Rattle.ov_tally.specs.Spans.{AreApart, AreApartFrom, AreBelow, IsBelow, Spans, covers, has, how_often, in_span, places_in, places_of, run, times}
@@ -111,6 +113,7 @@ raised_sum g h q v first (suc n) low high same more = by (q == first) refl (λ l
   where
     rest : ℤ
     rest = sum_of g (run (suc first) n)
+
     by : (b : Bool) → (q == first) ≡ b → (suc first ≤ q → q < suc first + n → sum_of h (run (suc first) n) ≡ v +ℤ rest) → h first +ℤ sum_of h (run (suc first) n) ≡ v +ℤ (g first +ℤ rest)
     by true e next = let is : q ≡ first = eqb-true q first e in
         ap₂ (λ (a b : ℤ). a +ℤ b) (ap h (sym is) ∙ more ∙ ap (λ p. v +ℤ g p) is) (same_sum g h (suc first) n (λ p up. same p (λ f. omega (arith, is, up, f)))) ∙ +ℤ_assoc v (g first) rest
@@ -128,12 +131,62 @@ sum_often f count [] low = sym (none_sum (λ p. pos 0 *ℤ f p) 0 count (λ p. z
 sum_often f count (q ∷ places) low =
     ap (λ a. f q +ℤ a) (sum_often f count places low.1)
     ∙ sym (raised_sum (λ p. pos (how_often places p) *ℤ f p) (λ p. pos (how_often (q ∷ places) p) *ℤ f p) q (f q) 0 count (omega arith) (let a = low.0 in omega (arith, a))
-        (λ p apart. ap (λ n. pos n *ℤ f p) (often_else q p places apart)) more)
+    (λ p apart. ap (λ n. pos n *ℤ f p) (often_else q p places apart)) more)
   where
     next : (n : ℕ) → 1 + n ≡ suc n
     next n = omega arith
+
     more : pos (how_often (q ∷ places) q) *ℤ f q ≡ f q +ℤ pos (how_often places q) *ℤ f q
     more = ap (λ n. pos n *ℤ f q) (often_here q places ∙ next (how_often places q)) ∙ suc_ℤ-*ℤ (pos (how_often places q)) (f q) ∙ +ℤ_comm (pos (how_often places q) *ℤ f q) (f q)
+
+-- ---- the positions one by one, each as often
+
+same_list : (g h : ℕ → ℕ) (first n : ℕ) → ((p : ℕ) → first ≤ p → h p ≡ g p) → flat_map (λ p. replicate (h p) p) (run first n) ≡ flat_map (λ p. replicate (g p) p) (run first n)
+unfolding run
+same_list g h first zero same = refl
+same_list g h first (suc n) same = ap₂ (λ m l. replicate m first ++ l) (same first (omega arith)) (same_list g h (suc first) n (λ p low. same p (omega (arith, low))))
+
+raised_list : (g h : ℕ → ℕ) (q first n : ℕ) → first ≤ q → q < first + n → ((p : ℕ) → (q ≡ p → ⊥) → h p ≡ g p) → h q ≡ suc (g q)
+    → IsPermutation (flat_map (λ p. replicate (h p) p) (run first n)) (q ∷ flat_map (λ p. replicate (g p) p) (run first n))
+unfolding run
+raised_list g h q first zero low high same more = absurd (omega (arith, low, high))
+raised_list g h q first (suc n) low high same more = by (q == first) refl (λ low high. raised_list g h q (suc first) n low high same more)
+  where
+    rest : List ℕ
+    rest = flat_map (λ p. replicate (g p) p) (run (suc first) n)
+
+    raised : List ℕ
+    raised = flat_map (λ p. replicate (h p) p) (run (suc first) n)
+
+    by : (b : Bool) → (q == first) ≡ b → (suc first ≤ q → q < suc first + n → IsPermutation raised (q ∷ rest)) → IsPermutation (replicate (h first) first ++ raised) (q ∷ (replicate (g first) first ++ rest))
+    by true e next =
+        let is : q ≡ first = eqb-true q first e in
+        let here : h first ≡ suc (g first) = ap h (sym is) ∙ more ∙ ap (λ p. suc (g p)) is in
+        let whole : replicate (h first) first ++ raised ≡ q ∷ (replicate (g first) first ++ rest) =
+        ap₂ (λ m l. replicate m first ++ l) here (same_list g h (suc first) n (λ p up. same p (λ f. omega (arith, is, up, f)))) ∙ ap (λ p. p ∷ (replicate (g first) first ++ rest)) (sym is) in
+        subst (IsPermutation (replicate (h first) first ++ raised)) whole (IsPermutation-refl (replicate (h first) first ++ raised))
+    by false e next =
+        let apart = eqb-false q first e in
+        let here : replicate (g first) first ++ raised ≡ replicate (h first) first ++ raised = ap (λ m. replicate m first ++ raised) (sym (same first apart)) in
+        subst (λ l. IsPermutation l (q ∷ (replicate (g first) first ++ rest))) here
+        (IsPermutation-trans (replicate (g first) first ++ raised) (replicate (g first) first ++ q ∷ rest) (q ∷ (replicate (g first) first ++ rest))
+        (IsPermutation-append_right (replicate (g first) first) raised (q ∷ rest) (next (omega (arith, low, apart)) (omega (arith, high))))
+        (IsPermutation-middle (replicate (g first) first) q rest))
+
+none_list : (g : ℕ → ℕ) (first n : ℕ) → ((p : ℕ) → g p ≡ 0) → flat_map (λ p. replicate (g p) p) (run first n) ≡ []
+unfolding run
+none_list g first zero none = refl
+none_list g first (suc n) none = ap₂ (λ m l. replicate m first ++ l) (none first) (none_list g (suc first) n none)
+
+list_often : (count : ℕ) (places : List ℕ) → AllByRecursion (λ p. p < count) places → IsPermutation (flat_map (λ p. replicate (how_often places p) p) (run 0 count)) places
+list_often count [] low = subst (λ l. IsPermutation l []) (sym (none_list (λ p. 0) 0 count (λ p. refl))) (IsPermutation-refl [])
+list_often count (q ∷ places) low =
+    IsPermutation-trans (flat_map (λ p. replicate (how_often (q ∷ places) p) p) (run 0 count)) (q ∷ flat_map (λ p. replicate (how_often places p) p) (run 0 count)) (q ∷ places)
+    (raised_list (how_often places) (how_often (q ∷ places)) q 0 count (omega arith) (let a = low.0 in omega (arith, a)) (often_else_at q places) (often_here q places ∙ omega arith))
+    (IsPermutation-cons q (flat_map (λ p. replicate (how_often places p) p) (run 0 count)) places (list_often count places low.1))
+  where
+    often_else_at : (q : ℕ) (places : List ℕ) (p : ℕ) → (q ≡ p → ⊥) → how_often (q ∷ places) p ≡ how_often places p
+    often_else_at q places p apart = often_else q p places apart
 
 -- ---- all positions are below the count
 
@@ -168,3 +221,8 @@ pos_sum f (x ∷ xs) = ap pos (sum_by-cons f x xs) ∙ ap (λ a. pos (f x) +ℤ 
 pub counted_counts : (f : ℕ → ℕ) (count : ℕ) (versions : List Spans) → All (AreBelow (count + 1)) versions → sum_by f (places_of versions) ≡ sum_by (λ p. times versions p * f p) (run 0 count)
 counted_counts f count versions below =
     ap nat_abs (pos_sum f (places_of versions) ∙ counted_sums (λ p. pos (f p)) count versions below ∙ sym (pos_sum (λ p. times versions p * f p) (run 0 count)))
+
+pub counted_list : (count : ℕ) (versions : List Spans) → All (AreBelow (count + 1)) versions → IsPermutation (flat_map (λ p. replicate (times versions p) p) (run 0 count)) (places_of versions)
+counted_list count versions below =
+    subst (λ l. IsPermutation l (places_of versions)) (sym (same_list (how_often (places_of versions)) (times versions) 0 count (λ p low. times_often versions p)))
+    (list_often count (places_of versions) (versions_below count versions (recursion_from_All (AreBelow (count + 1)) versions below)))

@@ -1,5 +1,5 @@
 -- Pairs in order are rows in the stable order of their ranks.
-use Rattle.std.proofs.Common.{◌≡◌, ◌<◌, ◌≤◌, ◌+◌, ◌*◌, ◌∷◌, ◌++◌, ◌∙◌, [], ℕ, zero, suc, List, Bool, true, false, cond, if◌then◌else◌, refl, sym, ap, ap₂, arith, length, map, filter, get_or, true≢false, is_gt, is_lt, Ordering, Less, Equal, Greater}
+use Rattle.std.proofs.Common.{◌≡◌, ◌<◌, ◌+◌, ◌*◌, ◌∷◌, ◌++◌, ◌∙◌, [], ℕ, suc, List, Bool, true, false, cond, if◌then◌else◌, refl, sym, ap, ap₂, arith, length, map, filter, get_or, true≢false, is_gt, is_lt, Ordering, Less, Equal, Greater}
 use Rattle.std.specs.Prelude.{nat_lt, ⊤}
 use Rattle.std.specs.Cmp.{IsTotalOrder, nat_cmp_is}
 use Rattle.std.specs.List.{All, AllByRecursion, AllZip, count_by, sum_by}
@@ -58,6 +58,7 @@ placed_rows x (y ∷ ys) up all = by (rank_order x y) refl (placed_rows x ys up.
   where
     front : is_gt (pair_order x y) ≡ false → Rises pair_order (x ∷ y ∷ ys)
     front le = ((le, upto-all pair_order pairs_total x y ys le up.0), up)
+
     by : (o : Ordering) → rank_order x y ≡ o → Rises pair_order (placed_by rank_order x ys) → Rises pair_order (if is_above o then y ∷ placed_by rank_order x ys else x ∷ y ∷ ys)
     by Less e rest = front (ap (λ o. is_gt (ordering_then o (row_order x y))) e)
     by Equal e rest = front (ap (λ o. is_gt (ordering_then o (row_order x y))) e ∙ all.0)
@@ -102,7 +103,7 @@ alike [] up = tt
 alike (x ∷ rows) up = (
   (λ e. refl, weaken (λ y. row_order x y ≡ Less) (λ y. pair_order x y ≡ Equal → x ≡ y) (λ y less e. absurd (clash (row_order x y) less (then_next (rank_order x y) (row_order x y) e))) rows up.0),
   join (λ y. row_order x y ≡ Less) (Alike rows) (Alike (x ∷ rows))
-  (λ y less rest. (λ e. absurd (clash (row_order x y) less (rows_total.antisymm x y ∙ ap ordering_reverse (then_next (rank_order y x) (row_order y x) e))), rest)) rows up.0 (alike rows up.1),
+      (λ y less rest. (λ e. absurd (clash (row_order x y) less (rows_total.antisymm x y ∙ ap ordering_reverse (then_next (rank_order y x) (row_order y x) e))), rest)) rows up.0 (alike rows up.1),
 )
 
 all_same : (as_ bs : List Pair) → length as_ ≡ length bs → AllByRecursion (λ a. AllByRecursion (λ b. a ≡ b) bs) as_ → as_ ≡ bs
@@ -117,14 +118,17 @@ same_ties pairs rows same up z = all_same (filter q pairs) (filter q rows) long 
   where
     q : Pair → Bool
     q = ties (below pair_order) z
+
     long : length (filter q pairs) ≡ length (filter q rows)
     long = length-filter q pairs ∙ sym (sum_by-IsPermutation (λ x. cond (q x) 1 0) pairs rows same) ∙ sym (length-filter q rows)
+
     alikes : AllByRecursion (Alike rows) pairs
     alikes = recursion_from_All (Alike rows) pairs (All-permutation (Alike rows) rows pairs (IsPermutation-sym pairs rows same) (All-from_recursion (Alike rows) rows (alike rows up)))
+
     each : AllByRecursion (λ a. AllByRecursion (λ b. a ≡ b) (filter q rows)) (filter q pairs)
     each = kept (λ a. AllByRecursion (λ b. a ≡ b) (filter q rows)) q pairs
         (weaken (Alike rows) (λ a. q a ≡ true → AllByRecursion (λ b. a ≡ b) (filter q rows))
-            (λ a all ea. kept (λ b. a ≡ b) q rows (weaken (λ b. pair_order a b ≡ Equal → a ≡ b) (λ b. q b ≡ true → a ≡ b) (λ b gives eb. gives (tied z a b ea eb)) rows all)) pairs alikes)
+        (λ a all ea. kept (λ b. a ≡ b) q rows (weaken (λ b. pair_order a b ≡ Equal → a ≡ b) (λ b. q b ≡ true → a ≡ b) (λ b gives eb. gives (tied z a b ea eb)) rows all)) pairs alikes)
 
 pub ranked_pairs : (pairs rows : List Pair) → IsPermutation pairs rows → Ups rows → sorted_by pair_order pairs ≡ sorted_by rank_order rows
 ranked_pairs pairs rows same up =
@@ -163,8 +167,8 @@ module _ (ranks keys : List ℕ) where
   rows_ups n (v ∷ versions) (pick ∷ picks) each =
       ups_append (map (pair_at n ranks keys) pick) (rows_from (suc n) ranks keys picks) (pick_ups n pick each.0.rise) (rows_ups (suc n) versions picks each.1)
       (all_map (λ x. AllByRecursion (λ y. row_order x y ≡ Less) (rows_from (suc n) ranks keys picks)) (pair_at n ranks keys) pick
-          (every (λ p. AllByRecursion (λ y. row_order (pair_at n ranks keys p) y ≡ Less) (rows_from (suc n) ranks keys picks))
-              (λ p. weaken (λ y. n < y.version) (λ y. row_order (pair_at n ranks keys p) y ≡ Less) (by_version n p) (rows_from (suc n) ranks keys picks) (numbered n (suc n) picks (omega arith))) pick))
+      (every (λ p. AllByRecursion (λ y. row_order (pair_at n ranks keys p) y ≡ Less) (rows_from (suc n) ranks keys picks))
+      (λ p. weaken (λ y. n < y.version) (λ y. row_order (pair_at n ranks keys p) y ≡ Less) (by_version n p) (rows_from (suc n) ranks keys picks) (numbered n (suc n) picks (omega arith))) pick))
 
   pub rows_same : (n : ℕ) (versions : List Spans) (picks : List (List ℕ)) → AllZip (InKeyOrder keys) versions picks → IsPermutation (pairs_from n ranks keys versions) (rows_from n ranks keys picks)
   rows_same n [] [] each = IsPermutation-refl []

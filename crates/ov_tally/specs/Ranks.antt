@@ -5,7 +5,7 @@
 --     pairs_in version ranks keys spans      the pairs of a version at its ranges; pairs_of ranks keys versions, of versions, which are numbered from 0 on
 --     rows_of ranks keys picks      the rows of versions, each version's at its positions in the order of these
 --     InKeyOrder keys spans pick      the positions of a version's ranges in the order of their keys, no two of which are the same
-use Rattle.std.specs.Prelude.{ℕ, zero, suc, ◌-◌, ◌<◌, slice_index_or, Bool, true, false, nat_lt, if◌then◌else◌, List, [], ◌∷◌, ◌++◌, map}
+use Rattle.std.specs.Prelude.{ℕ, suc, ◌<◌, slice_index_or, Bool, true, false, nat_lt, if◌then◌else◌, List, [], ◌∷◌, ◌++◌, map}
 use Rattle.std.specs.List.{AllByRecursion}
 use Rattle.std.specs.List.Sorted.{IsPermutation}
 use Rattle.std.specs.Ordering.{nat_cmp, ordering_then}

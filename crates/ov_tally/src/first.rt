@@ -1,7 +1,7 @@
 //! The first rows of several versions in the order of their ranks.
 
-ghost use Rattle.std.specs.Prelude.{◌≡◌, ◌≤◌, ◌++◌, ◌∷◌, [], if◌then◌else◌, IfOk, OnOk, filter, length, nat_lt, slice_index_or, take};
-ghost use Rattle.ov_tally.specs.Ranks.{is_low, pair_at, pair_order, pairs_in, sorted_by};
+ghost use Rattle.std.specs.Prelude.{◌≡◌, ◌≤◌, ◌^◌, ◌++◌, ◌∷◌, [], if◌then◌else◌, IfOk, OnOk, filter, length, nat_lt, slice_index_or, take};
+ghost use Rattle.ov_tally.specs.Ranks.{is_low, pair_at, pair_order, pairs_in, pairs_of, sorted_by};
 
 use crate::span::Span;
 use std::alloc::{AllocError, Global};
@@ -21,7 +21,6 @@ pub struct Pair {
     pub place: u32,
 }
 
-#[tactic(auto, using(crate::proofs::Cutting::first_ranked))]
 /// The first pairs in order, where as many have a rank below a bound: no other pair is kept or ordered. Pairs that tie by rank,
 /// version and key stay as they stood. It takes 16 bytes for each pair below the bound, and what a sort of these takes.
 pub fn first_of(
@@ -34,8 +33,27 @@ pub fn first_of(
     ensures { IfOk result (λ made. made.items ≡ take count (sorted_by pair_order pairs.now)) }
 {
     let mut kept = low_pairs(alloc, pairs, bound)?;
-    sort_pairs(&mut kept)?;
-    kept.truncate(count);
+    keep_first(&mut kept, count)?;
+    Ok(kept)
+}
+
+/// The first pairs in order of versions at their ranges, as [`first_of`] gives them, where as many have a rank below a bound: a
+/// step for each position of each version. Ranks and keys are those of the positions; where a list ends before one, that
+/// number is 0. It takes 16 bytes for each pair below the bound, and what a sort of these takes.
+pub fn first_in(
+    alloc: Global,
+    ranks: &[u32],
+    keys: &[u32],
+    versions: &[Vec<Span>],
+    bound: u32,
+    count: usize,
+) -> Result<Vec<Pair>, AllocError>
+    requires few { length versions.now ≤ 2 ^ 29 }
+    requires enough { count ≤ length (filter (is_low bound) (pairs_of ranks.now keys.now versions.now)) }
+    ensures { IfOk result (λ made. made.items ≡ take count (sorted_by pair_order (pairs_of ranks.now keys.now versions.now))) }
+{
+    let mut kept = low_of(alloc, ranks, keys, versions, bound)?;
+    keep_first(&mut kept, count)?;
     Ok(kept)
 }
 
@@ -54,6 +72,43 @@ pub fn low_in(
     for place in span.first..span.past {
         let rank = number_at(ranks, place);
         push_low(rank, keys, place, version, bound, kept)?;
+    }
+    Ok(())
+}
+
+// The pairs of all versions whose rank is below a bound.
+fn low_of(
+    alloc: Global,
+    ranks: &[u32],
+    keys: &[u32],
+    versions: &[Vec<Span>],
+    bound: u32,
+) -> Result<Vec<Pair>, AllocError>
+    requires { length versions.now ≤ 2 ^ 29 }
+    ensures { IfOk result (λ kept. kept.items ≡ filter (is_low bound) (pairs_of ranks.now keys.now versions.now)) }
+{
+    let mut kept = Vec::new(alloc);
+    let mut version: u32 = 0;
+    for spans in versions {
+        low_spans(ranks, keys, spans.as_slice(), version, bound, &mut kept)?;
+        version += 1;
+    }
+    Ok(kept)
+}
+
+// Adds those of one version.
+fn low_spans(
+    ranks: &[u32],
+    keys: &[u32],
+    spans: &[Span],
+    version: u32,
+    bound: u32,
+    kept: &mut Vec<Pair>,
+) -> Result<(), AllocError>
+    ensures { OnOk result (kept.new.items ≡ kept.old.items ++ filter (is_low bound) (pairs_in version ranks.now keys.now spans.now)) }
+{
+    for span in spans {
+        low_in(ranks, keys, *span, version, bound, kept)?;
     }
     Ok(())
 }
@@ -98,6 +153,15 @@ fn low_pairs(alloc: Global, pairs: &[Pair], bound: u32) -> Result<Vec<Pair>, All
         push_if(pair.rank < bound, *pair, &mut kept)?;
     }
     Ok(kept)
+}
+
+// Puts pairs in order, and drops all but the first ones.
+fn keep_first(pairs: &mut Vec<Pair>, count: usize) -> Result<(), AllocError>
+    ensures { OnOk result (pairs.new.items ≡ take count (sorted_by pair_order pairs.old.items)) }
+{
+    sort_pairs(pairs)?;
+    pairs.truncate(count);
+    Ok(())
 }
 
 fn sort_pairs(pairs: &mut Vec<Pair>) -> Result<(), AllocError>

@@ -1,7 +1,8 @@
 //! Laws about ranges and what is counted of them. Each is the contract of a function that does nothing.
 
-ghost use Rattle.std.specs.Prelude.{◌≡◌, ◌+◌, ◌*◌, ℕ, ℤ, pos, ◌*ℤ◌, List, cond, filter, length, nat_lt, slice_index_or};
-ghost use Rattle.std.specs.List.{All, AllZip, count_by, sum_by};
+ghost use Rattle.std.specs.Prelude.{◌≡◌, ◌+◌, ◌*◌, ℕ, ℤ, pos, ◌*ℤ◌, List, cond, filter, length, nat_lt, replicate, slice_index_or};
+ghost use Rattle.std.specs.List.{All, AllZip, count_by, flat_map, sum_by};
+ghost use Rattle.std.specs.List.Sorted.{IsPermutation};
 ghost use Rattle.ov_tally.specs.Ranks.{InKeyOrder, is_low, pair_order, pairs_of, rank_order, rows_of, sorted_by};
 ghost use Rattle.ov_tally.specs.Running.{sum_of};
 ghost use Rattle.ov_tally.specs.Spans.{AreApart, AreBelow, Spans, covers, has, how_often, places_in, places_of, run, times};
@@ -23,6 +24,11 @@ pub fn each_once()
 pub fn counted_sum()
     ensures counts { (f : ℕ → ℕ) (count : ℕ) (versions : List Spans) → All (AreBelow (count + 1)) versions → sum_by f (places_of versions) ≡ sum_by (λ p. times versions p * f p) (run 0 count) }
     ensures sums { (f : ℕ → ℤ) (count : ℕ) (versions : List Spans) → All (AreBelow (count + 1)) versions → sum_of f (places_of versions) ≡ sum_of (λ p. pos (times versions p) *ℤ f p) (run 0 count) }
+{}
+
+/// The positions of all versions are the positions once, each repeated as often as versions have it, in another order.
+pub fn counted_places()
+    ensures { (count : ℕ) (versions : List Spans) → All (AreBelow (count + 1)) versions → IsPermutation (flat_map (λ p. replicate (times versions p) p) (run 0 count)) (places_of versions) }
 {}
 
 /// Pairs in order are the rows of the versions as these are listed, each version's in the order of its keys, in the stable order

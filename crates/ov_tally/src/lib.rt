@@ -10,8 +10,8 @@ mod span;
 mod sums;
 mod times;
 
-pub use first::{Pair, first_of, low_in};
-pub use laws::{counted_sum, each_once, low_count, ranked_rows, times_are_places};
+pub use first::{Pair, first_in, first_of, low_in};
+pub use laws::{counted_places, counted_sum, each_once, low_count, ranked_rows, times_are_places};
 pub use span::Span;
 pub use sums::{sum_over, totals};
 pub use times::times_of;

@@ -1,4 +1,4 @@
-use Rattle.std.proofs.Common.{◌≡◌, ◌≤◌, ◌*◌, ◌^◌, List, drop}
+use Rattle.std.proofs.Common.{◌≡◌, ◌*◌, ◌^◌, List, drop}
 use Rattle.std.specs.Prelude.{ℤ, pos, ◌+ℤ◌, ◌≤ℤ◌}
 use Rattle.ov_tally.specs.Running.{running, sum_at}
 use Rattle.ov_tally.specs.Spans.{places_in}

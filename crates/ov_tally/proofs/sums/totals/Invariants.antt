@@ -1,4 +1,4 @@
-use Rattle.std.proofs.Common.{◌≡◌, ◌≤◌, ◌++◌, ◌*◌, ◌^◌, drop, length}
+use Rattle.std.proofs.Common.{◌≡◌, ◌++◌, ◌*◌, ◌^◌, drop}
 use Rattle.std.specs.Prelude.{pos, ◌+ℤ◌, ◌≤ℤ◌}
 use Rattle.std.specs.List.{All}
 use Rattle.ov_tally.specs.Running.{IsSmall, later, running}

@@ -1,5 +1,4 @@
-use Rattle.std.proofs.Common.{rules, ◌+◌, ◌*◌, ◌^◌, length, arith}
-use Rattle.ov_tally.specs.Spans.{Spans}
+use Rattle.std.proofs.Common.{rules, ◌+◌, ◌*◌, ◌^◌, length}
 use Rattle.ov_tally.proofs.Marks.{none_total, none_within, version_more, within_up}
 use Rattle.ov_tally.proofs.times.marks_of.Goals as goal
 

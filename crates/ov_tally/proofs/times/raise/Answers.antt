@@ -1,4 +1,4 @@
-use Rattle.std.proofs.Common.{rules, get_or}
+use Rattle.std.proofs.Common.{rules}
 use Rattle.std.specs.Prelude.{pos}
 use Rattle.ov_tally.proofs.Marks.{set_high, set_within}
 use Rattle.ov_tally.proofs.times.raise.Goals as goal
