@@ -4,3 +4,4 @@ pub mod Ranges
 pub mod Sorting
 pub mod Tallies
 pub mod Ties
+pub mod Bounds

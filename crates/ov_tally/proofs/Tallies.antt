@@ -199,7 +199,7 @@ unfolding run
 run_below count first zero low = tt
 run_below count first (suc n) low = (omega (arith, low), run_below count (suc first) n (omega (arith, low)))
 
-spans_below : (count : ℕ) (spans : List Span) → AllByRecursion (IsBelow (count + 1)) spans → AllByRecursion (λ p. p < count) (places_in spans)
+pub spans_below : (count : ℕ) (spans : List Span) → AllByRecursion (IsBelow (count + 1)) spans → AllByRecursion (λ p. p < count) (places_in spans)
 spans_below count [] all = tt
 spans_below count (s ∷ spans) all =
     all_append (λ p. p < count) (run s.first (s.past - s.first)) (places_in spans) (run_below count s.first (s.past - s.first) (let a = all.0.0 in let b = all.0.1 in omega (arith, a, b))) (spans_below count spans all.1)
@@ -214,7 +214,7 @@ counted_sums f count versions below =
     sum_often f count (places_of versions) (versions_below count versions (recursion_from_All (AreBelow (count + 1)) versions below))
     ∙ same_sum (λ p. pos (times versions p) *ℤ f p) (λ p. pos (how_often (places_of versions) p) *ℤ f p) 0 count (λ p low. ap (λ n. pos n *ℤ f p) (sym (times_often versions p)))
 
-pos_sum : {X : Type 0} (f : X → ℕ) (xs : List X) → pos (sum_by f xs) ≡ sum_of (λ x. pos (f x)) xs
+pub pos_sum : {X : Type 0} (f : X → ℕ) (xs : List X) → pos (sum_by f xs) ≡ sum_of (λ x. pos (f x)) xs
 pos_sum f [] = refl
 pos_sum f (x ∷ xs) = ap pos (sum_by-cons f x xs) ∙ ap (λ a. pos (f x) +ℤ a) (pos_sum f xs)
 

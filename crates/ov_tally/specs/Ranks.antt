@@ -3,9 +3,10 @@
 --     pair_order a b      by rank, then by version, then by key; rank_order a b, by rank alone
 --     is_low bound pair      whether the rank is below the bound
 --     pairs_in version ranks keys spans      the pairs of a version at its ranges; pairs_of ranks keys versions, of versions, which are numbered from 0 on
+--     low_times times ranks bound count      of the first positions with a rank below the bound, how many versions have them, added up
 --     rows_of ranks keys picks      the rows of versions, each version's at its positions in the order of these
 --     InKeyOrder keys spans pick      the positions of a version's ranges in the order of their keys, no two of which are the same
-use Rattle.std.specs.Prelude.{ℕ, suc, ◌<◌, slice_index_or, Bool, true, false, nat_lt, if◌then◌else◌, List, [], ◌∷◌, ◌++◌, map}
+use Rattle.std.specs.Prelude.{ℕ, ℤ, pos, cond, suc, ◌<◌, slice_index_or, Bool, true, false, nat_lt, if◌then◌else◌, List, [], ◌∷◌, ◌++◌, map}
 use Rattle.std.specs.List.{AllByRecursion}
 use Rattle.std.specs.List.Sorted.{IsPermutation}
 use Rattle.std.specs.Ordering.{nat_cmp, ordering_then}
@@ -13,7 +14,8 @@ use Rattle.std.specs.declared.cmp.Ordering.{Ordering}
 use Rattle.std.specs.declared.cmp.Ordering.TheVariants.{Greater}
 use Rattle.ov_tally.specs.declared.first.Pair.{Pair}
 use Rattle.ov_tally.specs.declared.span.Span.{Span}
-use Rattle.ov_tally.specs.Spans.{Spans, places_in}
+use Rattle.ov_tally.specs.Running.{sum_of}
+use Rattle.ov_tally.specs.Spans.{Spans, places_in, run}
 
 abbrev pub is_above : Ordering → Bool
 is_above Greater = true
@@ -69,3 +71,6 @@ KeysRise keys (p ∷ pick) = AllByRecursion (λ q. slice_index_or keys p 0 < sli
 pub record InKeyOrder (keys : List ℕ) (spans : Spans) (pick : List ℕ) : Type 0 where
   pub same : IsPermutation (places_in spans.items) pick
   pub rise : KeysRise keys pick
+
+abbrev pub low_times : List ℤ → List ℕ → ℕ → ℕ → ℤ
+low_times times ranks bound count = sum_of (λ p. cond (nat_lt (slice_index_or ranks p 0) bound) (slice_index_or times p (pos 0)) (pos 0)) (run 0 count)

@@ -4,12 +4,14 @@
 //! [`first_of`] give the first rows of an order. What is added up and what ranks stand for is the caller's.
 #![tactic(auto)]
 
+mod bound;
 mod first;
 mod laws;
 mod span;
 mod sums;
 mod times;
 
+pub use bound::bound_for;
 pub use first::{Pair, first_in, first_of, low_in};
 pub use laws::{counted_places, counted_sum, each_once, low_count, ranked_rows, times_are_places};
 pub use span::Span;

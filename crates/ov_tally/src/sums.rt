@@ -42,7 +42,7 @@ pub fn sum_over(totals: &[i128], spans: &[Span]) -> i128
     sum
 }
 
-fn plus(sum: i128, value: i64) -> i128
+pub(crate) fn plus(sum: i128, value: i64) -> i128
     requires low { pos 0 ≤ℤ (sum +ℤ pos (2 ^ 95)) }
     requires high { sum ≤ℤ pos (2 ^ 95) }
     ensures is { result ≡ sum +ℤ value }
@@ -82,7 +82,7 @@ fn with_difference(sum: i128, past: i128, first: i128) -> i128
     sum + (past - first)
 }
 
-fn total_at(totals: &[i128], at: u32) -> i128
+pub(crate) fn total_at(totals: &[i128], at: u32) -> i128
     requires small { All IsSmall totals.now }
     requires there { at < length totals.now }
     ensures is { result ≡ slice_index_or totals.now at (pos 0) }
