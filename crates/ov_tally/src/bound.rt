@@ -6,12 +6,14 @@ ghost use Rattle.ov_tally.specs.Counting.{AreNone, AreTimes, AreWithin, total, t
 ghost use Rattle.ov_tally.specs.Ranks.{is_low, low_times, pairs_of};
 ghost use Rattle.ov_tally.specs.Spans.{AreBelow, Spans};
 
+use crate::repeated::repeated;
 use crate::sums::{plus, total_at};
 use std::alloc::{AllocError, Global};
 
-/// A bound for [`crate::first_in`]: one past the least rank up to which at least `count` pairs stand, or the number of ranks
-/// where fewer stand below it. `times` says how many versions have each position, and `ranks` its rank, which is below `kinds`. It takes
-/// a step for each position and each rank, and 16 bytes for each rank while it runs.
+/// A bound of ranks for [`crate::first_in`] and [`crate::first_of`]: at least `count` pairs have a rank below it, where there
+/// are as many. It is one past the least rank that will do, and `kinds` where none does. `times` says how many versions have
+/// each position, and `ranks` its rank, which is below `kinds`. It takes a step for each position and each rank, and 16 bytes
+/// for each rank while it runs.
 pub fn bound_for(
     alloc: Global,
     times: &[i64],
@@ -37,7 +39,7 @@ fn by_rank(alloc: Global, times: &[i64], ranks: &[u32], kinds: u32) -> Result<Ve
     ensures small { IfOk result (λ sums. AreWithin (2 ^ 94) sums.items) }
     ensures totals { IfOk result (λ sums. (p : ℕ) → total_to sums.items p ≡ low_times times.now ranks.now (p + 1) (length ranks.now)) }
 {
-    let mut sums = noughts(alloc, kinds)?;
+    let mut sums = repeated(alloc, kinds as usize, 0)?;
     for place in 0..ranks.len() {
         add_at(&mut sums, ranks[place], times[place]);
     }
@@ -54,17 +56,6 @@ fn add_at(sums: &mut Vec<i128>, at: u32, by: i64)
 {
     let now = total_at(sums.as_slice(), at);
     sums[at as usize] = plus(now, by);
-}
-
-fn noughts(alloc: Global, count: u32) -> Result<Vec<i128>, AllocError>
-    ensures count { IfOk result (λ made. length made.items ≡ count) }
-    ensures none { IfOk result (λ made. AreNone made.items) }
-{
-    let mut made = Vec::with_capacity(alloc, count as usize)?;
-    while made.len() < count as usize {
-        made.push(0)?;
-    }
-    Ok(made)
 }
 
 // One past the first rank at which the sums reach a count.

@@ -5,6 +5,7 @@ ghost use Rattle.std.specs.List.{All, sum_by};
 ghost use Rattle.ov_tally.specs.Counting.{AreNone, AreSums, AreTimes, AreWithin, IsFew, total_to};
 ghost use Rattle.ov_tally.specs.Spans.{AreBelow, IsBelow, IsShort, covers, times};
 
+use crate::repeated::repeated;
 use crate::span::Span;
 use std::alloc::{AllocError, Global};
 
@@ -86,18 +87,6 @@ fn mark_spans(sums: &mut Vec<i64>, spans: &[Span])
     }
 }
 
-// So many numbers that are 0.
-fn zeros(alloc: Global, count: usize) -> Result<Vec<i64>, AllocError>
-    ensures count { IfOk result (λ made. length made.items ≡ count) }
-    ensures none { IfOk result (λ made. AreNone made.items) }
-{
-    let mut made = Vec::with_capacity(alloc, count)?;
-    while made.len() < count {
-        made.push(0)?;
-    }
-    Ok(made)
-}
-
 fn next_sum(sum: i64, by: i64) -> i64
     requires { IsFew (sum +ℤ by) }
     ensures { result ≡ sum +ℤ by }
@@ -127,7 +116,7 @@ fn marks_of(alloc: Global, count: usize, versions: &[Vec<Span>]) -> Result<Vec<i
     ensures count { IfOk result (λ marks. length marks.items ≡ count) }
     ensures totals { IfOk result (λ marks. (p : ℕ) → total_to marks.items p ≡ pos (times versions.now p)) }
 {
-    let mut marks = zeros(alloc, count)?;
+    let mut marks = repeated(alloc, count, 0)?;
     for spans in versions {
         mark_spans(&mut marks, spans.as_slice());
     }

@@ -7,8 +7,8 @@ use Rattle.ov_tally.proofs.bound.by_rank.Goals as goal
 pub loop-place-init : goal.loop-place-init
 loop-place-init c = record {
   count = search rules;
-  totals = λ p. none_low c.args.times.now c.args.ranks.now c.in_ok-sums.sums.items p c.in_ok-sums.ensures.none;
-  within = none_within c.in_ok-sums.sums.items c.in_ok-sums.ensures.none;
+  totals = λ p. none_low c.args.times.now c.args.ranks.now c.in_ok-sums.sums.items p c.in_ok-sums.ensures.all;
+  within = none_within c.in_ok-sums.sums.items c.in_ok-sums.ensures.all;
 }
 
 pub loop-place-preserved : goal.loop-place-preserved

@@ -5,8 +5,8 @@ use Rattle.ov_tally.proofs.times.marks_of.Goals as goal
 pub loop-spans-init : goal.loop-spans-init
 loop-spans-init c = record {
   count = search rules;
-  totals = λ p. none_total c.in_ok-marks.marks.items p c.in_ok-marks.ensures.none;
-  within = none_within c.in_ok-marks.marks.items c.in_ok-marks.ensures.none;
+  totals = λ p. none_total c.in_ok-marks.marks.items p c.in_ok-marks.ensures.all;
+  within = none_within c.in_ok-marks.marks.items c.in_ok-marks.ensures.all;
 }
 
 pub loop-spans-preserved : goal.loop-spans-preserved
