@@ -11,9 +11,8 @@ use crate::sums::{plus, total_at};
 use std::alloc::{AllocError, Global};
 
 /// A bound of ranks for [`crate::first_in`] and [`crate::first_of`]: at least `count` pairs have a rank below it, where there
-/// are as many. It is one past the least rank that will do, and `kinds` where none does. `times` says how many versions have
-/// each position, and `ranks` its rank, which is below `kinds`. It takes a step for each position and each rank, and 16 bytes
-/// for each rank while it runs.
+/// are as many. `times` says how many versions have each position, and `ranks` its rank, which is below `kinds`. It takes a
+/// step for each position and each rank, and 16 bytes for each rank while it runs.
 pub fn bound_for(
     alloc: Global,
     times: &[i64],
@@ -64,6 +63,7 @@ fn bound_in(sums: &[i128], kinds: u32, count: usize) -> u32
     requires small { AreWithin (2 ^ 94) sums.now }
     ensures { (result ≡ kinds) ⊎ (pos count ≤ℤ total (take result sums.now)) }
 {
+    // the first rank that will do ends the walk, so that few pairs are kept
     let mut sum: i128 = 0;
     for rank in 0..kinds {
         sum = with_total(sum, total_at(sums, rank));
