@@ -1,0 +1,7 @@
+use Rattle.ov_tally.specs.Ranks.{pairs_of}
+use Rattle.ov_tally.proofs.Cutting.{first_ranked}
+use Rattle.ov_tally.proofs.first.first_in.Goals as goal
+
+pub returns : goal.returns
+returns c =
+    first_ranked c.args.bound c.args.count (pairs_of c.args.ranks.now c.args.keys.now c.args.versions.now) c.in_ok-kept.kept.items _ c.in_ok-kept.ensures c.in_ok-keep_first.ensures c.requires.enough

@@ -1,0 +1,4 @@
+pub mod Counting
+pub mod Ranks
+pub mod Running
+pub mod Spans
